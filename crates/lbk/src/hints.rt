@@ -4,6 +4,11 @@
 pub const SAMPLES: &str =
     "these are sample data, for a first look; for real text: lbk mark --ucd FOLDER FILE";
 
+/// What is said of a property file that was cut, after its name.
+pub const CUT: &str =
+    "warning: the file was cut: its first line claims a published name, and its last is not # EOF; \
+    what was cut off has other breaks";
+
 /// What is said where text is waited for on a terminal.
 pub const WAITING: &str =
     "text is read from the terminal, to the end of input (Ctrl-D at the start of a line)";

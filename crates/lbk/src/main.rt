@@ -6,6 +6,7 @@ mod output_file;
 mod system_files;
 mod telling;
 mod waiting;
+mod watching;
 mod words;
 
 use lbk_cmd::{Caller, CmdFault, Ending, RunFault, run_over_texts};
@@ -20,6 +21,7 @@ use std::process::ExitCode;
 use system_files::{SystemFiles, SystemTexts};
 use telling::tell_refused;
 use waiting::Waiting;
+use watching::{Named, Watching};
 use words::{without_help_of_help, words_given};
 
 fn main(rt: HostRuntime) -> ExitCode {
@@ -40,11 +42,17 @@ fn run_and_tell(rt: &HostRuntime) -> Ending {
     if words.is_empty() {
         let _ = eprintln!(rt; "lbk: {}", hints::SAMPLES);
     }
-    run_on_devices(rt, without_help_of_help(words.as_slice()), &notes)
+    let named = Named::new([false; 4]);
+    run_on_devices(rt, without_help_of_help(words.as_slice()), &named, &notes)
 }
 
 /// A run over the files of the system, from its texts or standard input to standard output, which a person was shown.
-fn run_on_devices<'x>(rt: &'x HostRuntime, words: &'x [&'x str], notes: &'x Notes) -> Ending {
+fn run_on_devices<'x>(
+    rt: &'x HostRuntime,
+    words: &'x [&'x str],
+    named: &'x Named,
+    notes: &'x Notes,
+) -> Ending {
     let input = rt.stdin();
     let is_terminal = input.is_terminal();
     let output = OutputFile::of_run(rt);
@@ -55,8 +63,8 @@ fn run_on_devices<'x>(rt: &'x HostRuntime, words: &'x [&'x str], notes: &'x Note
     let mut reader = Input::new(input, notes);
     let mut writer = Device::new(Noting::new(rt.stdout(), notes));
     let files = SystemFiles::new(rt, notes);
-    let mut store = FileStore::new(&files);
-    let mut texts = SystemTexts::new(rt, output, notes);
+    let mut store = Watching::new(rt, FileStore::new(&files), named);
+    let mut texts = SystemTexts::new(rt, output, named, notes);
     let ending = run_over_texts(
         rt.alloc(),
         words,

@@ -4,6 +4,7 @@ ghost use Rattle.std.specs.Prelude.{None};
 
 use super::output_file::OutputFile;
 use super::telling;
+use super::watching::{Named, named};
 use lbk_args::{Engine, Order};
 use lbk_cmd::{Caller, RunFault, Texts};
 use lbk_feed::Device;
@@ -47,15 +48,23 @@ pub struct SystemTexts<'a> {
     output: OutputFile,
     /// What the words ask for, once this is known.
     caller: Caller<'a>,
+    /// Which property files they name.
+    named: &'a Named,
     notes: &'a Notes,
 }
 
 impl<'a> SystemTexts<'a> {
-    pub fn new(rt: &'a HostRuntime, output: OutputFile, notes: &'a Notes) -> SystemTexts<'a> {
+    pub fn new(
+        rt: &'a HostRuntime,
+        output: OutputFile,
+        named: &'a Named,
+        notes: &'a Notes,
+    ) -> SystemTexts<'a> {
         SystemTexts {
             rt,
             output,
             caller: Caller::NoWords,
+            named,
             notes,
         }
     }
@@ -93,6 +102,7 @@ impl<'a> Texts<'a> for SystemTexts<'a> {
     ghost refused = { λ texts. None };
 
     fn begin(&mut self, order: &Order<'a>) {
+        self.named.set(named(&order.files));
         self.caller = Caller::Words {
             engine: order.engine,
             files: order.files,

@@ -1,6 +1,7 @@
 -- Plain words are accepted, and ask for what they say.
 use Rattle.std.proofs.Common.{◌≡◌, ◌∙◌, ℕ, Bool, true, false, List, [], ◌∷◌, ◌++◌, Option, Some, None, inl, inr, refl, sym, ap, ap₂, subst, codes, arith}
-use Rattle.std.specs.Prelude.{◌==◌, ◌⊎◌, if◌then◌else◌, option_and_then, option_map}
+use Rattle.std.proofs.lemmas.Bool.{le-leb}
+use Rattle.std.specs.Prelude.{◌==◌, ◌/◌, ◌⊎◌, if◌then◌else◌, option_and_then, option_map}
 use Rattle.std.specs.Fmt.{decimal}
 use Rattle.std.specs.Str.{chars}
 use Rattle.clap.specs.Faults.{fault_of}
@@ -8,17 +9,19 @@ use Rattle.clap.specs.Kinds.{Kinds, or_else, value_kinds}
 use Rattle.clap.specs.Simple.{Shape, built, built_leaf, filled, inherited, marked_built, with_index, with_leaf_noted}
 use Rattle.clap.specs.Walk.{Held, Row, Rule, Text, Walk, finished, idle, nothing_held, reading_by}
 use Rattle.clap.specs.declared.builder.value_parser.ValueParser.TheVariants.{Unsigned}
+use Rattle.clap.specs.declared.error.kind.ErrorKind.TheVariants.{ValueValidation}
 use Rattle.clap.specs.declared.parser.matches.ValueSource.TheVariants.{CommandLine}
 use Rattle.clap.proofs.OnLiterals.{clap_on_literals}
 use Rattle.lbk_values.specs.declared.profile.Profile.{Profile}
 use Rattle.lbk_values.specs.declared.profile.Profile.TheVariants.{First, Second}
 use Rattle.lbk_args.specs.declared.order.Engine.{Engine}
-use Rattle.lbk_args.specs.declared.order.Engine.TheVariants.{Mark, Show, Segment, Replay}
+use Rattle.lbk_args.specs.declared.order.Engine.TheVariants.{Mark, Show, Segment, Chunk, Replay}
 use Rattle.lbk_args.specs.declared.order.Part.{Part}
-use Rattle.lbk_args.specs.Accepted.{faults_of, task_fault}
+use Rattle.lbk_args.specs.declared.order.Sizes.{Sizes}
+use Rattle.lbk_args.specs.Accepted.{are_sizes, faults_of, task_fault}
 use Rattle.lbk_feed.specs.Text.{greatest_limit}
-use Rattle.lbk_args.specs.Command.{default_limit, default_limit_text, flag_rule, lbk_app, limited_app, mark_app, number_rule, profile_rule, replay_app, value_rule}
-use Rattle.lbk_args.specs.PlainWords.{AreEngineWords, AreFolderWords, AreFourWords, AreKindsWords, AreLimitWords, AreProfileWords, IsPlainFor, IsPlainName, folder_files, given_files, name_of_engine, profile_word}
+use Rattle.lbk_args.specs.Command.{chunk_app, default_limit, default_limit_text, flag_rule, lbk_app, limited_app, mark_app, number_rule, profile_rule, replay_app, size_rule, value_rule}
+use Rattle.lbk_args.specs.PlainWords.{AreEngineWords, AreFolderWords, AreFourWords, AreKindsWords, AreLimitWords, AreMostWords, AreProfileWords, IsPlainFor, IsPlainName, folder_files, given_files, name_of_engine, profile_word, sizes_of}
 use Rattle.lbk_args.specs.Task.{NamedFiles, Task, files_in, limit_in, number_or, names_in, part_in, profile_in, sign_in, task_by, task_in, texts_in}
 use Rattle.lbk_args.specs.Sign.{default_sign}
 use Rattle.lbk_args.proofs.Numerals.{limit_plain, limit_read, limit_taken}
@@ -136,6 +139,10 @@ enters_segment : Enters (built lbk_app) (codes "segment")
 unfolding clap_on_literals
 enters_segment = record { walks = refl; clean = refl; defaults = refl }
 
+enters_chunk : Enters (built lbk_app) (codes "chunk")
+unfolding clap_on_literals
+enters_chunk = record { walks = refl; clean = refl; defaults = refl }
+
 enters_replay : Enters (built lbk_app) (codes "replay")
 unfolding clap_on_literals
 enters_replay = record { walks = refl; clean = refl; defaults = refl }
@@ -148,6 +155,9 @@ data Sub : Type 0 where
 abbrev limited_shape : Sub → Shape
 limited_shape marks = sub mark_app.top
 limited_shape (limits name) = sub (limited_app name).top
+
+abbrev chunk_shape : Shape
+chunk_shape = sub chunk_app.top
 
 abbrev replay_shape : Shape
 replay_shape = sub replay_app.top
@@ -173,6 +183,13 @@ segment_performs words rows task takes same fits =
     (ap (option_and_then task_in)
     (entered_rows (built lbk_app) (codes "segment") words enters_segment ∙ ap (λ (r : List Row). Some (codes "segment", r)) takes.rows_are) ∙ same) fits
 
+chunk_performs : (words : List Text) (rows : List Row) (task : Task) → Takes chunk_shape words rows
+    → task_in (codes "chunk", rows) ≡ Some task → task_fault (Some task) ≡ [] → Performs (codes "chunk" ∷ words) task
+chunk_performs words rows task takes same fits =
+    performs (codes "chunk" ∷ words) task (entered_clean (built lbk_app) (codes "chunk") words enters_chunk takes.clean refl)
+    (ap (option_and_then task_in)
+    (entered_rows (built lbk_app) (codes "chunk") words enters_chunk ∙ ap (λ (r : List Row). Some (codes "chunk", r)) takes.rows_are) ∙ same) fits
+
 replay_performs : (words : List Text) (rows : List Row) (task : Task) → Takes replay_shape words rows
     → task_in (codes "replay", rows) ≡ Some task → task_fault (Some task) ≡ [] → Performs (codes "replay" ∷ words) task
 replay_performs words rows task takes same fits =
@@ -184,6 +201,9 @@ replay_performs words rows task takes same fits =
 
 abbrev limit_rule : Rule
 limit_rule = built_rule (number_rule (codes "limit") greatest_limit default_limit_text)
+
+abbrev most_rule : Rule
+most_rule = built_rule (record (size_rule (codes "most") 1) { required = true })
 
 abbrev built_profile_rule : Rule
 built_profile_rule = built_rule profile_rule
@@ -216,9 +236,15 @@ profile_read Second = refl
 abbrev settled_held : List Row → Held
 settled_held rows = record { rows = rows; pending = None; skip = 0 }
 
--- what is held behind `--limit`, `--profile` and `--kinds`
+-- what is held behind `--limit`, `--most`, `--profile` and `--kinds`
 abbrev behind_limit : Files → Text → Held
 behind_limit fs d = pending (file_rows fs) (codes "limit") (d ∷ [])
+
+abbrev behind_most : Files → Text → Held
+behind_most fs d = pending (file_rows fs) (codes "most") (d ∷ [])
+
+abbrev most_rows : Files → Text → List Row
+most_rows fs d = file_rows fs ++ found most_rule d ∷ []
 
 abbrev behind_profile : List Row → Text → Held
 behind_profile rows p = pending rows (codes "profile") (p ∷ [])
@@ -339,6 +365,45 @@ limited_both (limits name) (four l e c m) d p plain pd good pp fits =
     (pair s (behind_limit (four l e c m) d) (pending (limit_rows (four l e c m) d) (codes "profile") []) (behind_profile (limit_rows (four l e c m) d) p) (codes "profile") (codes "--profile")
     p [] _ refl (ap (λ (ks : Kinds). or_else (or_else ks []) []) good) pp refl (done s _)))) (ap (λ (ks : Kinds). or_else ks []) fits) refl refl
 
+-- ---- `chunk`
+
+chunk_most : (fs : Files) (d : Text) → ArePlain fs → IsPlainName d → IsLimitText d
+    → Takes chunk_shape (words_before fs (codes "--most" ∷ d ∷ [])) (finished chunk_shape.rules (behind_most fs d))
+unfolding clap_on_literals
+chunk_most (folder u) d plain pd good =
+    let s = chunk_shape in
+    taken s (words_before (folder u) (codes "--most" ∷ d ∷ [])) (between (behind_most (folder u) d) idle)
+    (walked_files s _ (folder u) _ _ plain
+    (pair s (behind (folder u)) (pending (file_rows (folder u)) (codes "most") []) (behind_most (folder u) d) (codes "most") (codes "--most")
+    d [] _ refl refl pd refl (done s _))) (ap (λ (ks : Kinds). or_else ks []) good) refl refl
+chunk_most (four l e c m) d plain pd good =
+    let s = chunk_shape in
+    taken s (words_before (four l e c m) (codes "--most" ∷ d ∷ [])) (between (behind_most (four l e c m) d) idle)
+    (walked_files s _ (four l e c m) _ _ plain
+    (pair s (behind (four l e c m)) (pending (file_rows (four l e c m)) (codes "most") []) (behind_most (four l e c m) d) (codes "most") (codes "--most")
+    d [] _ refl refl pd refl (done s _))) (ap (λ (ks : Kinds). or_else ks []) good) refl refl
+
+chunk_both : (fs : Files) (d p : Text) → ArePlain fs → IsPlainName d → IsLimitText d → IsPlainName p → IsProfileText p
+    → Takes chunk_shape (words_before fs (codes "--most" ∷ d ∷ codes "--profile" ∷ p ∷ []))
+    (finished chunk_shape.rules (behind_profile (most_rows fs d) p))
+unfolding clap_on_literals
+chunk_both (folder u) d p plain pd good pp fits =
+    let s = chunk_shape in
+    taken s (words_before (folder u) (codes "--most" ∷ d ∷ codes "--profile" ∷ p ∷ [])) (between (behind_profile (most_rows (folder u) d) p) idle)
+    (walked_files s _ (folder u) _ _ plain
+    (pair s (behind (folder u)) (pending (file_rows (folder u)) (codes "most") []) (behind_most (folder u) d) (codes "most") (codes "--most")
+    d _ _ refl refl pd refl
+    (pair s (behind_most (folder u) d) (pending (most_rows (folder u) d) (codes "profile") []) (behind_profile (most_rows (folder u) d) p) (codes "profile") (codes "--profile")
+    p [] _ refl (ap (λ (ks : Kinds). or_else (or_else ks []) []) good) pp refl (done s _)))) (ap (λ (ks : Kinds). or_else ks []) fits) refl refl
+chunk_both (four l e c m) d p plain pd good pp fits =
+    let s = chunk_shape in
+    taken s (words_before (four l e c m) (codes "--most" ∷ d ∷ codes "--profile" ∷ p ∷ [])) (between (behind_profile (most_rows (four l e c m) d) p) idle)
+    (walked_files s _ (four l e c m) _ _ plain
+    (pair s (behind (four l e c m)) (pending (file_rows (four l e c m)) (codes "most") []) (behind_most (four l e c m) d) (codes "most") (codes "--most")
+    d _ _ refl refl pd refl
+    (pair s (behind_most (four l e c m) d) (pending (most_rows (four l e c m) d) (codes "profile") []) (behind_profile (most_rows (four l e c m) d) p) (codes "profile") (codes "--profile")
+    p [] _ refl (ap (λ (ks : Kinds). or_else (or_else ks []) []) good) pp refl (done s _)))) (ap (λ (ks : Kinds). or_else ks []) fits) refl refl
+
 -- ---- `replay`
 
 replay_alone : (fs : Files) → ArePlain fs → Takes replay_shape (words_before fs []) (finished replay_shape.rules (behind fs))
@@ -404,9 +469,9 @@ task_with engine fs profile =
     record { engine = engine; files = files_of fs; profile = profile; part = None; sign = default_sign; names = false; texts = [] }
 
 -- nothing is wrong in it
-nothing_wrong : (engine : Engine) (fs : Files) (profile : Profile) → task_fault (Some (task_with engine fs profile)) ≡ []
+nothing_wrong : (engine : Engine) (fs : Files) (profile : Profile) → are_sizes engine ≡ true → task_fault (Some (task_with engine fs profile)) ≡ []
 unfolding chars
-nothing_wrong engine fs profile = refl
+nothing_wrong engine fs profile fits = ap (λ (b : Bool). if b then [] else ValueValidation ∷ []) fits
 
 -- what `mark`, `show` or `segment` finds behind its name
 abbrev task_found : (ℕ → Engine) → List Row → Option Task
@@ -508,37 +573,69 @@ replay_plain : (fs : Files) (kinds : Bool) (profile : Profile) (own last : List 
 unfolding clap_on_literals
 replay_plain (folder []) kinds profile own last plain given more = absurd plain
 replay_plain (folder (u ∷ us)) kinds profile own last plain (inl none) (inl first) =
-    rw (none.0, first.0, none.1, first.1) (replay_performs _ _ _ (replay_alone (folder (u ∷ us)) plain) refl (nothing_wrong (Replay false) (folder (u ∷ us)) First))
+    rw (none.0, first.0, none.1, first.1) (replay_performs _ _ _ (replay_alone (folder (u ∷ us)) plain) refl (nothing_wrong (Replay false) (folder (u ∷ us)) First refl))
 replay_plain (folder (u ∷ us)) kinds profile own last plain (inl none) (inr given) =
     rw (none.0, given, none.1) (replay_performs _ _ _ (replay_profile (folder (u ∷ us)) (profile_word profile) plain (profile_plain profile) (profile_taken profile))
-    (ap (λ (p : Profile). Some (task_with (Replay false) (folder (u ∷ us)) p)) (profile_read profile)) (nothing_wrong (Replay false) (folder (u ∷ us)) profile))
+    (ap (λ (p : Profile). Some (task_with (Replay false) (folder (u ∷ us)) p)) (profile_read profile)) (nothing_wrong (Replay false) (folder (u ∷ us)) profile refl))
 replay_plain (folder (u ∷ us)) kinds profile own last plain (inr flag) (inl first) =
-    rw (flag.0, first.0, flag.1, first.1) (replay_performs _ _ _ (replay_kinds (folder (u ∷ us)) plain) refl (nothing_wrong (Replay true) (folder (u ∷ us)) First))
+    rw (flag.0, first.0, flag.1, first.1) (replay_performs _ _ _ (replay_kinds (folder (u ∷ us)) plain) refl (nothing_wrong (Replay true) (folder (u ∷ us)) First refl))
 replay_plain (folder (u ∷ us)) kinds profile own last plain (inr flag) (inr given) =
     rw (flag.0, given, flag.1) (replay_performs _ _ _ (replay_both (folder (u ∷ us)) (profile_word profile) plain (profile_plain profile) (profile_taken profile))
-    (ap (λ (p : Profile). Some (task_with (Replay true) (folder (u ∷ us)) p)) (profile_read profile)) (nothing_wrong (Replay true) (folder (u ∷ us)) profile))
+    (ap (λ (p : Profile). Some (task_with (Replay true) (folder (u ∷ us)) p)) (profile_read profile)) (nothing_wrong (Replay true) (folder (u ∷ us)) profile refl))
 replay_plain (four l e c m) kinds profile own last plain (inl none) (inl first) =
-    rw (none.0, first.0, none.1, first.1) (replay_performs _ _ _ (replay_alone (four l e c m) plain) refl (nothing_wrong (Replay false) (four l e c m) First))
+    rw (none.0, first.0, none.1, first.1) (replay_performs _ _ _ (replay_alone (four l e c m) plain) refl (nothing_wrong (Replay false) (four l e c m) First refl))
 replay_plain (four l e c m) kinds profile own last plain (inl none) (inr given) =
     rw (none.0, given, none.1) (replay_performs _ _ _ (replay_profile (four l e c m) (profile_word profile) plain (profile_plain profile) (profile_taken profile))
-    (ap (λ (p : Profile). Some (task_with (Replay false) (four l e c m) p)) (profile_read profile)) (nothing_wrong (Replay false) (four l e c m) profile))
+    (ap (λ (p : Profile). Some (task_with (Replay false) (four l e c m) p)) (profile_read profile)) (nothing_wrong (Replay false) (four l e c m) profile refl))
 replay_plain (four l e c m) kinds profile own last plain (inr flag) (inl first) =
-    rw (flag.0, first.0, flag.1, first.1) (replay_performs _ _ _ (replay_kinds (four l e c m) plain) refl (nothing_wrong (Replay true) (four l e c m) First))
+    rw (flag.0, first.0, flag.1, first.1) (replay_performs _ _ _ (replay_kinds (four l e c m) plain) refl (nothing_wrong (Replay true) (four l e c m) First refl))
 replay_plain (four l e c m) kinds profile own last plain (inr flag) (inr given) =
     rw (flag.0, given, flag.1) (replay_performs _ _ _ (replay_both (four l e c m) (profile_word profile) plain (profile_plain profile) (profile_taken profile))
-    (ap (λ (p : Profile). Some (task_with (Replay true) (four l e c m) p)) (profile_read profile)) (nothing_wrong (Replay true) (four l e c m) profile))
+    (ap (λ (p : Profile). Some (task_with (Replay true) (four l e c m) p)) (profile_read profile)) (nothing_wrong (Replay true) (four l e c m) profile refl))
+
+-- chunks with room for half of their bytes
+sizes_fit : (limit most : ℕ) → are_sizes (Chunk limit (sizes_of most)) ≡ true
+sizes_fit limit most = rw (le-leb (most / 2) most (omega arith), le-leb 0 (most / 2) (omega arith)) refl
+
+chunk_plain : (fs : Files) (limit : ℕ) (sizes : Sizes) (profile : Profile) (own last : List Text) → ArePlain fs → AreMostWords limit sizes own
+    → AreProfileWords profile last → Performs (codes "chunk" ∷ words_before fs (own ++ last)) (task_with (Chunk limit sizes) fs profile)
+unfolding clap_on_literals
+chunk_plain (folder []) limit sizes profile own last plain given more = absurd plain
+chunk_plain (folder (u ∷ us)) limit sizes profile own last plain given (inl first) =
+    rw (given.are, first.0, given.limit_is, given.sizes_are, first.1)
+    (chunk_performs _ _ _ (chunk_most (folder (u ∷ us)) (decimal given.most) plain (limit_plain given.most given.few) (limit_taken given.most given.some given.few))
+    (ap (λ (n : ℕ). Some (task_with (Chunk default_limit (sizes_of n)) (folder (u ∷ us)) First)) (sym (limit_read 1 given.most given.few)))
+    (nothing_wrong (Chunk default_limit (sizes_of given.most)) (folder (u ∷ us)) First (sizes_fit default_limit given.most)))
+chunk_plain (folder (u ∷ us)) limit sizes profile own last plain given (inr second) =
+    rw (given.are, second, given.limit_is, given.sizes_are)
+    (chunk_performs _ _ _ (chunk_both (folder (u ∷ us)) (decimal given.most) (profile_word profile) plain (limit_plain given.most given.few)
+    (limit_taken given.most given.some given.few) (profile_plain profile) (profile_taken profile))
+    (ap₂ (λ (n : ℕ) (p : Profile). Some (task_with (Chunk default_limit (sizes_of n)) (folder (u ∷ us)) p)) (sym (limit_read 1 given.most given.few)) (profile_read profile))
+    (nothing_wrong (Chunk default_limit (sizes_of given.most)) (folder (u ∷ us)) profile (sizes_fit default_limit given.most)))
+chunk_plain (four l e c m) limit sizes profile own last plain given (inl first) =
+    rw (given.are, first.0, given.limit_is, given.sizes_are, first.1)
+    (chunk_performs _ _ _ (chunk_most (four l e c m) (decimal given.most) plain (limit_plain given.most given.few) (limit_taken given.most given.some given.few))
+    (ap (λ (n : ℕ). Some (task_with (Chunk default_limit (sizes_of n)) (four l e c m) First)) (sym (limit_read 1 given.most given.few)))
+    (nothing_wrong (Chunk default_limit (sizes_of given.most)) (four l e c m) First (sizes_fit default_limit given.most)))
+chunk_plain (four l e c m) limit sizes profile own last plain given (inr second) =
+    rw (given.are, second, given.limit_is, given.sizes_are)
+    (chunk_performs _ _ _ (chunk_both (four l e c m) (decimal given.most) (profile_word profile) plain (limit_plain given.most given.few)
+    (limit_taken given.most given.some given.few) (profile_plain profile) (profile_taken profile))
+    (ap₂ (λ (n : ℕ) (p : Profile). Some (task_with (Chunk default_limit (sizes_of n)) (four l e c m) p)) (sym (limit_read 1 given.most given.few)) (profile_read profile))
+    (nothing_wrong (Chunk default_limit (sizes_of given.most)) (four l e c m) profile (sizes_fit default_limit given.most)))
 
 engine_plain : (fs : Files) (engine : Engine) (profile : Profile) (own last : List Text) → ArePlain fs → AreEngineWords engine own
     → AreProfileWords profile last → Performs (name_of_engine engine ∷ words_before fs (own ++ last)) (task_with engine fs profile)
 engine_plain fs (Mark limit) profile own last plain given more =
     let f = limited_plain marks fs limit profile own last plain given more in
-    mark_performs (words_before fs (own ++ last)) f.rows (task_with (Mark limit) fs profile) f.takes (f.asks Mark) (nothing_wrong (Mark limit) fs profile)
+    mark_performs (words_before fs (own ++ last)) f.rows (task_with (Mark limit) fs profile) f.takes (f.asks Mark) (nothing_wrong (Mark limit) fs profile refl)
 engine_plain fs (Show limit) profile own last plain given more =
     let f = limited_plain (limits (codes "show")) fs limit profile own last plain given more in
-    show_performs (words_before fs (own ++ last)) f.rows (task_with (Show limit) fs profile) f.takes (f.asks Show) (nothing_wrong (Show limit) fs profile)
+    show_performs (words_before fs (own ++ last)) f.rows (task_with (Show limit) fs profile) f.takes (f.asks Show) (nothing_wrong (Show limit) fs profile refl)
 engine_plain fs (Segment limit) profile own last plain given more =
     let f = limited_plain (limits (codes "segment")) fs limit profile own last plain given more in
-    segment_performs (words_before fs (own ++ last)) f.rows (task_with (Segment limit) fs profile) f.takes (f.asks Segment) (nothing_wrong (Segment limit) fs profile)
+    segment_performs (words_before fs (own ++ last)) f.rows (task_with (Segment limit) fs profile) f.takes (f.asks Segment) (nothing_wrong (Segment limit) fs profile refl)
+engine_plain fs (Chunk limit sizes) profile own last plain given more = chunk_plain fs limit sizes profile own last plain given more
 engine_plain fs (Replay kinds) profile own last plain given more = replay_plain fs kinds profile own last plain given more
 
 -- the words of the files are those of a folder or of four names

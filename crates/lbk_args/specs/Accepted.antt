@@ -1,11 +1,13 @@
 -- Which words are a command line of the program, and what is wrong with others.
-use Rattle.std.specs.Prelude.{◌≡◌, ◌&&◌, Bool, true, not, List, [], ◌∷◌, Option, None, Some, if◌then◌else◌, nat_lt}
+use Rattle.std.specs.Prelude.{◌≡◌, ◌&&◌, ◌/◌, Bool, true, not, List, [], ◌∷◌, Option, None, Some, if◌then◌else◌, nat_le, nat_lt}
 use Rattle.clap.specs.Kinds.{or_else}
 use Rattle.clap.specs.Words.{Kinds, Text, fault_of}
 use Rattle.clap.specs.declared.error.kind.ErrorKind.TheVariants.{MissingRequiredArgument, ValueValidation}
 use Rattle.lbk_args.specs.Command.{lbk_app}
 use Rattle.lbk_args.specs.Sign.{is_sign}
 use Rattle.lbk_args.specs.Task.{Task, task_by}
+use Rattle.lbk_args.specs.declared.order.Engine.{Engine}
+use Rattle.lbk_args.specs.declared.order.Engine.TheVariants.{Chunk}
 use Rattle.lbk_args.specs.declared.order.Part.{Part}
 
 -- a range of bytes does not end before it begins
@@ -13,11 +15,16 @@ abbrev pub is_range : Option Part → Bool
 is_range None = true
 is_range (Some part) = not (nat_lt part.to part.from)
 
+-- a chunk has room for its least new bytes, and half of it for what it repeats
+abbrev pub are_sizes : Engine → Bool
+are_sizes (Chunk limit sizes) = nat_le sizes.least sizes.most && nat_le sizes.overlap (sizes.most / 2)
+are_sizes _ = true
+
 -- words that `clap` takes ask for no task where a property file is not named, and for one that is refused where a
--- range ends before it begins, or where a sign is none
+-- range ends before it begins, where a sign is none, or where chunks have no room for what they shall hold
 abbrev pub task_fault : Option Task → Kinds
 task_fault None = MissingRequiredArgument ∷ []
-task_fault (Some task) = if is_range task.part && is_sign task.sign then [] else ValueValidation ∷ []
+task_fault (Some task) = if is_range task.part && (is_sign task.sign && are_sizes task.engine) then [] else ValueValidation ∷ []
 
 -- what is wrong with the words, or what they ask for in place of work, as `clap` sorts it; else what is with their task
 abbrev pub faults_of : List Text → Kinds

@@ -35,6 +35,10 @@ greatest_byte = 4294967295
 abbrev pub byte_rule : Text → Rule
 byte_rule name = record (value_rule name) { parser = Some (Unsigned 0 greatest_byte) }
 
+-- an option with a number of bytes or words, of which there are no more than bytes in a paragraph
+abbrev pub size_rule : Text → ℕ → Rule
+size_rule name least = record (value_rule name) { parser = Some (Unsigned least greatest_limit) }
+
 -- a flag
 abbrev pub flag_rule : Text → Rule
 flag_rule name = record (long_rule name) { action = Some SetTrue }
@@ -63,14 +67,29 @@ profile_rule = number_rule (codes "profile") 2 (codes "1")
 abbrev pub shared_app : App → App
 shared_app app = with_rule (with_rule (with_rule app profile_rule) (flag_rule (codes "names"))) texts_rule
 
+-- a subcommand over texts, with the limit and the range behind its other options
+abbrev pub ranged_app : App → App
+ranged_app app = shared_app (with_rule (with_rule (with_rule app
+    (number_rule (codes "limit") greatest_limit default_limit_text)) (byte_rule (codes "from"))) (byte_rule (codes "to")))
+
 -- `show` and `segment`, and `mark`, which has one more
 abbrev pub limited_app : Text → App
-limited_app name = shared_app (with_rule (with_rule (with_rule (files_app name)
-    (number_rule (codes "limit") greatest_limit default_limit_text)) (byte_rule (codes "from"))) (byte_rule (codes "to")))
+limited_app name = ranged_app (files_app name)
 
 -- `mark`
 abbrev pub mark_app : App
 mark_app = with_rule (limited_app (codes "mark")) (value_rule (codes "sign"))
+
+-- `chunk`, whose sizes stand before the limit; the greatest one has to be given
+abbrev pub most_app : App
+most_app = with_rule (files_app (codes "chunk")) (record (size_rule (codes "most") 1) { required = true })
+
+abbrev pub sized_app : App
+sized_app = with_rule (with_rule (with_rule most_app
+    (size_rule (codes "words") 1)) (size_rule (codes "least") 0)) (size_rule (codes "overlap") 0)
+
+abbrev pub chunk_app : App
+chunk_app = ranged_app sized_app
 
 -- `replay`
 abbrev pub replay_app : App
@@ -93,5 +112,8 @@ app_to_show = with_subcommand app_to_mark (limited_app (codes "show")).top
 abbrev pub app_to_segment : App
 app_to_segment = with_subcommand app_to_show (limited_app (codes "segment")).top
 
+abbrev pub app_to_chunk : App
+app_to_chunk = with_subcommand app_to_segment chunk_app.top
+
 abbrev pub lbk_app : App
-lbk_app = with_subcommand app_to_segment replay_app.top
+lbk_app = with_subcommand app_to_chunk replay_app.top

@@ -1,5 +1,5 @@
 -- Words that nobody can read in two ways: they are always accepted, and mean what they say.
-use Rattle.std.specs.Prelude.{◌≡◌, ◌≢◌, ℕ, ◌≤◌, ◌⊎◌, Bool, true, false, List, [], ◌∷◌, ◌++◌, None, codes}
+use Rattle.std.specs.Prelude.{◌≡◌, ◌≢◌, ℕ, ◌/◌, ◌≤◌, ◌⊎◌, Bool, true, false, List, [], ◌∷◌, ◌++◌, None, codes}
 use Rattle.std.specs.Fmt.{decimal}
 use Rattle.clap.specs.Words.{Text}
 use Rattle.lbk_values.specs.declared.profile.Profile.{Profile}
@@ -9,7 +9,8 @@ use Rattle.lbk_args.specs.Command.{default_limit}
 use Rattle.lbk_args.specs.Sign.{default_sign}
 use Rattle.lbk_args.specs.Task.{NamedFiles, Task, given, in_folder}
 use Rattle.lbk_args.specs.declared.order.Engine.{Engine}
-use Rattle.lbk_args.specs.declared.order.Engine.TheVariants.{Mark, Show, Segment, Replay}
+use Rattle.lbk_args.specs.declared.order.Engine.TheVariants.{Mark, Show, Segment, Chunk, Replay}
+use Rattle.lbk_args.specs.declared.order.Sizes.{Sizes}
 
 -- a file's name that is not empty and does not begin with `-` (45)
 abbrev pub IsPlainName : Text → Type 0
@@ -21,6 +22,19 @@ abbrev pub AreLimitWords : ℕ → List Text → Type 0
 AreLimitWords limit words = ((words ≡ []) × (limit ≡ default_limit))
     ⊎ ((words ≡ codes "--limit" ∷ decimal limit ∷ []) × (1 ≤ limit) × (limit ≤ greatest_limit))
 
+-- the sizes of chunks where only the greatest is given
+abbrev pub sizes_of : ℕ → Sizes
+sizes_of most = record { most = most; words = 0; least = most / 2; overlap = 0 }
+
+-- `--most` and a number of its range without leading zeros
+pub record AreMostWords (limit : ℕ) (sizes : Sizes) (words : List Text) : Type 0 where
+  pub most : ℕ
+  pub some : 1 ≤ most
+  pub few : most ≤ greatest_limit
+  pub are : words ≡ codes "--most" ∷ decimal most ∷ []
+  pub limit_is : limit ≡ default_limit
+  pub sizes_are : sizes ≡ sizes_of most
+
 -- nothing, or `--kinds`
 abbrev pub AreKindsWords : Bool → List Text → Type 0
 AreKindsWords kinds words = ((words ≡ []) × (kinds ≡ false)) ⊎ ((words ≡ codes "--kinds" ∷ []) × (kinds ≡ true))
@@ -30,6 +44,7 @@ abbrev pub AreEngineWords : Engine → List Text → Type 0
 AreEngineWords (Mark limit) words = AreLimitWords limit words
 AreEngineWords (Show limit) words = AreLimitWords limit words
 AreEngineWords (Segment limit) words = AreLimitWords limit words
+AreEngineWords (Chunk limit sizes) words = AreMostWords limit sizes words
 AreEngineWords (Replay kinds) words = AreKindsWords kinds words
 
 abbrev pub profile_word : Profile → Text
@@ -45,6 +60,7 @@ abbrev pub name_of_engine : Engine → Text
 name_of_engine (Mark limit) = codes "mark"
 name_of_engine (Show limit) = codes "show"
 name_of_engine (Segment limit) = codes "segment"
+name_of_engine (Chunk limit sizes) = codes "chunk"
 name_of_engine (Replay kinds) = codes "replay"
 
 -- all four files in a folder

@@ -1,5 +1,5 @@
 -- What accepted words ask for, by the values that `clap` finds in them.
-use Rattle.std.specs.Prelude.{ℕ, ◌^◌, ◌==◌, ◌&&◌, Bool, false, List, [], ◌∷◌, Option, Some, None, if◌then◌else◌}
+use Rattle.std.specs.Prelude.{ℕ, ◌^◌, ◌==◌, ◌&&◌, ◌/◌, Bool, false, List, [], ◌∷◌, Option, Some, None, if◌then◌else◌}
 use Rattle.std.specs.Prelude.{nat_lt, codes, map, option_and_then, option_map, unwrap_or}
 use Rattle.std.specs.Str.{bytes_eq}
 use Rattle.std.specs.Str.Parse.{digits_value, without_leading_plus}
@@ -10,12 +10,13 @@ use Rattle.lbk_values.specs.declared.profile.Profile.TheVariants.{First, Second}
 use Rattle.lbk_args.specs.Command.{lbk_app, default_limit, greatest_byte}
 use Rattle.lbk_args.specs.Sign.{default_sign}
 use Rattle.lbk_args.specs.declared.order.Engine.{Engine}
-use Rattle.lbk_args.specs.declared.order.Engine.TheVariants.{Mark, Show, Segment, Replay}
+use Rattle.lbk_args.specs.declared.order.Engine.TheVariants.{Mark, Show, Segment, Chunk, Replay}
 use Rattle.lbk_args.specs.declared.order.FileName.{FileName}
 use Rattle.lbk_args.specs.declared.order.FileName.TheVariants.{Given, InFolder}
 use Rattle.lbk_args.specs.declared.order.FileNames.{FileNames}
 use Rattle.lbk_args.specs.declared.order.Order.{Order}
 use Rattle.lbk_args.specs.declared.order.Part.{Part}
+use Rattle.lbk_args.specs.declared.order.Sizes.{Sizes}
 
 -- how a property file is named: by an option of its own, or by the folder that it is in
 pub data Named : Type 0 where
@@ -137,11 +138,24 @@ kinds_in rows = flag_in (codes "kinds") rows
 abbrev pub names_in : List Row → Bool
 names_in rows = flag_in (codes "names") rows
 
+-- the sizes of chunks, of which the least is half of the greatest where it is not given; 0 words stand for any number
+abbrev pub sizes_by : ℕ → List Row → Sizes
+sizes_by most rows = record {
+  most = most;
+  words = number_or 0 (one_of (codes "words") rows);
+  least = number_or (most / 2) (one_of (codes "least") rows);
+  overlap = number_or 0 (one_of (codes "overlap") rows);
+}
+
+abbrev pub sizes_in : List Row → Sizes
+sizes_in rows = sizes_by (number_or 1 (one_of (codes "most") rows)) rows
+
 abbrev pub engine_in : Text → List Row → Engine
 engine_in name rows =
     if bytes_eq name (codes "mark") then Mark (limit_in rows)
     else if bytes_eq name (codes "show") then Show (limit_in rows)
     else if bytes_eq name (codes "segment") then Segment (limit_in rows)
+    else if bytes_eq name (codes "chunk") then Chunk (limit_in rows) (sizes_in rows)
     else Replay (kinds_in rows)
 
 -- the task of a subcommand, by the rows of its options, where its files are named

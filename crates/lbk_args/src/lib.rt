@@ -10,6 +10,6 @@ mod sign;
 mod usage;
 
 pub use one_line::OneLine;
-pub use order::{Engine, FileName, FileNames, Order, Part, WordsFault};
+pub use order::{Engine, FileName, FileNames, Order, Part, Sizes, WordsFault};
 pub use parsing::{DEFAULT_LIMIT, parse};
 pub use sign::DEFAULT_SIGN;

@@ -5,8 +5,9 @@ ghost use Rattle.clap.specs.Words.{App, Rule, app_of, rule_of, with_rule, with_s
 ghost use Rattle.lbk_feed.specs.Text.{greatest_limit};
 ghost use Rattle.lbk_args.specs.Local.{IsLocal, IsMade};
 ghost use Rattle.lbk_args.specs.Command.{byte_rule, long_rule, value_rule, number_rule, default_limit_text};
-ghost use Rattle.lbk_args.specs.Command.{flag_rule, profile_rule, texts_rule, files_app, shared_app, limited_app};
-ghost use Rattle.lbk_args.specs.Command.{mark_app, replay_app, bare_app, lbk_app};
+ghost use Rattle.lbk_args.specs.Command.{flag_rule, profile_rule, size_rule, texts_rule, files_app, shared_app};
+ghost use Rattle.lbk_args.specs.Command.{ranged_app, limited_app, mark_app, sized_app, chunk_app};
+ghost use Rattle.lbk_args.specs.Command.{replay_app, bare_app, lbk_app};
 
 use clap::builder::ValueParser;
 use clap::{Arg, ArgAction, Command};
@@ -30,6 +31,7 @@ Examples:
   lbk mark --ucd FOLDER text.txt                     the text with its breaks
   lbk show --ucd FOLDER < text.txt                   a line for each paragraph
   lbk segment --ucd FOLDER --limit 1000000 text.txt  the breaks as byte offsets
+  lbk chunk --ucd FOLDER --most 500 text.txt         pieces of it for search
   lbk replay --ucd FOLDER LineBreakTest.txt          the lines that do not agree
 
 Exit status: 0 done, 1 a refused file or text, 2 invalid arguments, 3 a replay
@@ -41,6 +43,8 @@ const SHOW_USAGE: &str = "lbk show --ucd <FOLDER> [OPTIONS] [FILE]...";
 
 const SEGMENT_USAGE: &str = "lbk segment --ucd <FOLDER> [OPTIONS] [FILE]...";
 
+const CHUNK_USAGE: &str = "lbk chunk --ucd <FOLDER> --most <NUMBER> [OPTIONS] [FILE]...";
+
 const REPLAY_USAGE: &str = "lbk replay --ucd <FOLDER> [OPTIONS] [FILE]...";
 
 const MARK_ABOUT: &str = "Writes the text with ÷ at each position where a line may end";
@@ -48,6 +52,8 @@ const MARK_ABOUT: &str = "Writes the text with ÷ at each position where a line 
 const SHOW_ABOUT: &str = "Writes a line for each paragraph, with the rule of each position";
 
 const SEGMENT_ABOUT: &str = "Writes the place of each paragraph, segment and word in bytes";
+
+const CHUNK_ABOUT: &str = "Cuts texts for search, where a line may end and no word does not";
 
 const REPLAY_ABOUT: &str = "Compares break tests with the rules, and counts what differs";
 
@@ -75,6 +81,16 @@ and `--from 1000`, write together what is written of the whole text. Example:
   W 0 2
   W 3 5";
 
+const CHUNK_AFTER: &str = "\
+`C start end words kind rule` is a chunk, with the kind and the rule of the
+break at its end. It is as long as --most and --words allow, or ends early where
+a line must end, once it has --least new bytes. A stretch of text without a
+break within the sizes is a chunk of its own. Places count bytes of the whole
+text, all of which is read with --from and --to, too. Example:
+  $ printf 'ab cd' | lbk chunk --ucd FOLDER --most 4
+  C 0 3 1 May 18
+  C 3 5 1 Must 3";
+
 const REPLAY_AFTER: &str = "\
 `D line position file rules rule` is the first position of a line that differs,
 with the mark of the file and that of the rules; `R line place` is a line that
@@ -83,6 +99,17 @@ cannot be read from its byte `place` on, and `R line long` one that is too long;
   $ printf '× 0061 ÷ 0062 ÷\\n' | lbk replay --ucd FOLDER
   D 1 1 ÷ × 28
   T 1 0 1 0";
+
+/// How a subcommand is called.
+pub(crate) fn usage_of(name: &str) -> &'static str {
+    match name {
+        "mark" => MARK_USAGE,
+        "show" => SHOW_USAGE,
+        "segment" => SEGMENT_USAGE,
+        "chunk" => CHUNK_USAGE,
+        _ => REPLAY_USAGE,
+    }
+}
 
 /// An option of this name, which is also what follows `--`.
 fn long_option<'a>(alloc: Global, name: &'a str) -> Arg<'a>
@@ -144,6 +171,16 @@ fn byte_option<'a>(alloc: Global, name: &'a str, help: &'a str) -> Arg<'a>
 {
     value_option(alloc, name, "BYTE")
         .value_parser(ValueParser::unsigned(0, u64::from(u32::MAX)))
+        .help(help)
+}
+
+/// An option that takes a number of bytes or words.
+fn size_option<'a>(alloc: Global, name: &'a str, least: u64, help: &'a str) -> Arg<'a>
+    ensures rule { rule_of result ≡ size_rule name.entry.now least }
+    ensures local { result.global ≡ false }
+{
+    value_option(alloc, name, "NUMBER")
+        .value_parser(ValueParser::unsigned(least, u64::from(LIMIT_MAX)))
         .help(help)
 }
 
@@ -249,15 +286,22 @@ fn with_shared<'a>(alloc: Global, command: Made<'a>) -> Made<'a>
     with_option(command, texts_operand(alloc))
 }
 
+/// A subcommand over texts, with the limit and the range behind its other options.
+fn ranged<'a>(alloc: Global, command: Made<'a>, from: &'a str, to: &'a str) -> Made<'a>
+    ensures { (app : App) → IsMade app command.entry → IsMade (ranged_app app) result }
+{
+    let command = with_option(command, limit_option(alloc));
+    let command = with_option(command, byte_option(alloc, "from", from));
+    with_shared(alloc, with_option(command, byte_option(alloc, "to", to)))
+}
+
 /// `mark`, `show` or `segment`.
 fn limited<'a>(alloc: Global, name: &'a str) -> Made<'a>
     ensures { IsMade (limited_app name.entry.now) result }
 {
-    let command = with_option(with_files(alloc, name), limit_option(alloc));
     let from = "Only paragraphs that begin at this byte or after it";
-    let command = with_option(command, byte_option(alloc, "from", from));
     let to = "Only paragraphs that begin before this byte";
-    with_shared(alloc, with_option(command, byte_option(alloc, "to", to)))
+    ranged(alloc, with_files(alloc, name), from, to)
 }
 
 fn mark<'a>(alloc: Global) -> Made<'a>
@@ -282,6 +326,29 @@ fn segment<'a>(alloc: Global) -> Made<'a>
         SEGMENT_ABOUT,
         SEGMENT_AFTER,
     )
+}
+
+/// `chunk` with its sizes, before its other options.
+fn sized<'a>(alloc: Global) -> Made<'a>
+    ensures { IsMade sized_app result }
+{
+    let most = size_option(alloc, "most", 1, "Bytes of a chunk, 1 to 16777216").required(true);
+    let command = with_option(with_files(alloc, "chunk"), most);
+    let words = "Words of a chunk, 1 to 16777216 [default: any number]";
+    let command = with_option(command, size_option(alloc, "words", 1, words));
+    let least = "New bytes before an early end [default: half]";
+    let command = with_option(command, size_option(alloc, "least", 0, least));
+    let overlap = "Bytes that the next one repeats [default: 0]";
+    with_option(command, size_option(alloc, "overlap", 0, overlap))
+}
+
+fn chunk<'a>(alloc: Global) -> Made<'a>
+    ensures { IsMade chunk_app result }
+{
+    let from = "Only chunks that begin at this byte or after it";
+    let to = "Only chunks that begin before this byte";
+    let command = ranged(alloc, sized(alloc), from, to);
+    described(command, CHUNK_USAGE, CHUNK_ABOUT, CHUNK_AFTER)
 }
 
 fn replay<'a>(alloc: Global) -> Made<'a>
@@ -313,5 +380,6 @@ pub fn command<'a>(alloc: Global) -> Result<Command<'a>, AllocError>
     let command = with_command(bare(alloc), mark(alloc));
     let command = with_command(command, show(alloc));
     let command = with_command(command, segment(alloc));
+    let command = with_command(command, chunk(alloc));
     with_command(command, replay(alloc))
 }

@@ -29,8 +29,23 @@ pub enum Engine {
     Show { limit: u32 },
     /// `segment`, for paragraphs of at most `limit` bytes.
     Segment { limit: u32 },
+    /// `chunk`, with chunks of these sizes, for paragraphs of at most `limit` bytes.
+    Chunk { limit: u32, sizes: Sizes },
     /// `replay`; `kinds` says whether a break that must be has a mark of its own.
     Replay { kinds: bool },
+}
+
+/// How large the chunks of a text are.
+#[derive(Clone, Copy, Debug, PartialEq, Eq)]
+pub struct Sizes {
+    /// At most so many bytes.
+    pub most: u32,
+    /// At most so many words, or any number where this is 0.
+    pub words: u32,
+    /// Where a line must end, a chunk may end early once so many of its bytes are in no chunk before.
+    pub least: u32,
+    /// At most so many bytes at a chunk's end are said again by the next.
+    pub overlap: u32,
 }
 
 /// The passages of a text that begin in a range of its bytes.

@@ -1,19 +1,19 @@
 //! Words into an order.
 
-ghost use Rattle.std.specs.Prelude.{◌≡◌, [], ◌∷◌, None, Some, IfOk, IfErr, MatchOption, MatchResult, OnOk, codes};
-ghost use Rattle.std.specs.Prelude.{map, option_map};
+ghost use Rattle.std.specs.Prelude.{◌≡◌, [], ◌∷◌, ◌/◌, None, Some, IfOk, IfErr, MatchOption, MatchResult, OnOk, codes};
+ghost use Rattle.std.specs.Prelude.{is_some, map, not, option_map};
 ghost use Rattle.clap.specs.Words.{first_of, found_of, kind_of, one_of, rows_of};
 ghost use Rattle.clap.specs.declared.error.kind.ErrorKind.{ErrorKind};
-ghost use Rattle.lbk_args.specs.Accepted.{AreAccepted, faults_of, is_range, task_fault};
-ghost use Rattle.lbk_args.specs.Task.{Task, engine_in, files_in, files_of_names, flag_in, limit_in, named_folder};
+ghost use Rattle.lbk_args.specs.Accepted.{AreAccepted, faults_of, are_sizes, is_range, task_fault};
+ghost use Rattle.lbk_args.specs.Task.{Task, engine_in, files_in, files_of_names, flag_in, limit_in, named_folder, sizes_by, sizes_in};
 ghost use Rattle.lbk_args.specs.Task.{named_in, named_of, number_or, own_or_folder, part_in, profile_in, sign_in};
 ghost use Rattle.lbk_args.specs.Task.{task_by, task_in, task_of, texts_in};
 ghost use Rattle.lbk_args.specs.PlainWords.{IsPlainFor};
 ghost use Rattle.lbk_args.specs.Sign.{is_sign};
 ghost use Rattle.lbk_args.specs.Refusal.{IsMistake, IsRefusalBy};
 
-use super::options::command;
-use super::order::{Engine, FileName, FileNames, Order, Part, WordsFault};
+use super::options::{command, usage_of};
+use super::order::{Engine, FileName, FileNames, Order, Part, Sizes, WordsFault};
 use super::sign::{DEFAULT_SIGN, is_sign};
 use super::usage::usage_text;
 use clap::error::ErrorKind;
@@ -35,6 +35,11 @@ Debian's package unicode-data has them: --ucd /usr/share/unicode";
 
 /// What is said of a range that ends before it begins.
 const TURNED_ROUND: &str = "--from <BYTE> is greater than --to <BYTE>";
+
+/// What is said of chunks that have no room for what they shall hold.
+const LEAST_PAST_MOST: &str = "--least <NUMBER> is greater than --most <NUMBER>";
+
+const OVERLAP_PAST_HALF: &str = "--overlap <NUMBER> is more than half of --most <NUMBER>";
 
 /// What is said of a sign that is none.
 const NO_SIGN: &str = "--sign <TEXT> is 1 to 8 bytes of UTF-8 without a line end";
@@ -65,7 +70,8 @@ pub fn parse<'a>(alloc: Global, words: &'a [&'a str]) -> Result<Order<'a>, Words
     }
 }
 
-/// An order, if the property files are named, its range does not end before it begins, and its sign is one.
+/// An order, if the property files are named, its range does not end before it begins, its sign is one, and its chunks
+/// have room.
 fn accepted<'a>(
     alloc: Global,
     name: &str,
@@ -84,7 +90,26 @@ fn accepted<'a>(
     if !is_sign(order.sign) {
         return Err(mistake(alloc, name, NO_SIGN));
     }
+    if let Some(cause) = wrong_size(&order.engine) {
+        return Err(mistake(alloc, name, cause));
+    }
     Ok(order)
+}
+
+/// What is wrong with the sizes of chunks, if anything is.
+fn wrong_size(engine: &Engine) -> Option<&'static str>
+    ensures { is_some result ≡ not (are_sizes engine.now) }
+{
+    let Engine::Chunk { sizes, .. } = engine else {
+        return None;
+    };
+    if sizes.least > sizes.most {
+        return Some(LEAST_PAST_MOST);
+    }
+    if sizes.overlap > sizes.most / 2 {
+        return Some(OVERLAP_PAST_HALF);
+    }
+    None
 }
 
 /// Whether a range does not end before it begins.
@@ -160,9 +185,26 @@ fn engine(name: &str, given: &ArgMatches<'_>) -> Engine
         "segment" => Engine::Segment {
             limit: limit(given),
         },
+        "chunk" => Engine::Chunk {
+            limit: limit(given),
+            sizes: sizes(given),
+        },
         _ => Engine::Replay {
             kinds: flag(given, "kinds"),
         },
+    }
+}
+
+/// The sizes of chunks: half of the greatest is the least where none is given.
+fn sizes(given: &ArgMatches<'_>) -> Sizes
+    ensures { result ≡ sizes_in (rows_of (found_of given.now)) }
+{
+    let most = number(given, "most", 1);
+    Sizes {
+        most,
+        words: number(given, "words", 0),
+        least: number(given, "least", most / 2),
+        overlap: number(given, "overlap", 0),
     }
 }
 
@@ -256,8 +298,9 @@ fn refusal(alloc: Global, words: &[&str], error: &Error) -> WordsFault
 fn mistake(alloc: Global, name: &str, cause: &str) -> WordsFault
     ensures { (kind : ErrorKind) → IsMistake kind → IsRefusalBy (kind ∷ []) result }
 {
+    let usage = usage_of(name);
     let told = format!(in alloc;
-        "lbk: {cause}\n\nUsage: lbk {name} --ucd <FOLDER> [OPTIONS] [FILE]...\n\nFor more information, try '--help'.\n"
+        "lbk: {cause}\n\nUsage: {usage}\n\nFor more information, try '--help'.\n"
     );
     match told {
         Ok(text) => WordsFault::Usage { text },

@@ -6,6 +6,17 @@ use clap::Error;
 use clap::error::ErrorKind;
 use std::alloc::{AllocError, Global};
 
+/// Which numbers the options take.
+const NUMBERS: &str = "
+Numbers are decimal digits: --limit 1 to 16777216, --from and --to 0 to
+4294967295, --profile 1 or 2.
+";
+
+const NUMBERS_OF_CHUNKS: &str = "
+Numbers are decimal digits: --most, --words and --limit 1 to 16777216, --least
+and --overlap 0 to 16777216, --from and --to 0 to 4294967295, --profile 1 or 2.
+";
+
 /// What is said of arguments that `clap` refuses: its words, and how to go on.
 pub(crate) fn usage_text(
     alloc: Global,
@@ -40,9 +51,9 @@ fn told(alloc: Global, words: &[&str], error: &Error) -> Result<String, AllocErr
 fn push_hint(text: &mut String, words: &[&str], kind: ErrorKind) -> Result<(), AllocError> {
     match kind {
         ErrorKind::InvalidSubcommand => push_hint_of_file(text, words),
-        ErrorKind::ValueValidation => push_hint_of_numbers(text),
+        ErrorKind::ValueValidation => push_hint_of_numbers(text, words),
         ErrorKind::InvalidValue | ErrorKind::UnknownArgument if has_negative(words) => {
-            push_hint_of_numbers(text)
+            push_hint_of_numbers(text, words)
         }
         _ => Ok(()),
     }
@@ -59,10 +70,11 @@ fn push_hint_of_file(text: &mut String, words: &[&str]) -> Result<(), AllocError
     }
 }
 
-fn push_hint_of_numbers(text: &mut String) -> Result<(), AllocError> {
-    text.push_str(
-        "\nNumbers are decimal digits: --limit 1 to 16777216, --from and --to 0 to\n4294967295, --profile 1 or 2.\n",
-    )
+fn push_hint_of_numbers(text: &mut String, words: &[&str]) -> Result<(), AllocError> {
+    text.push_str(match words.first() {
+        Some(&"chunk") => NUMBERS_OF_CHUNKS,
+        _ => NUMBERS,
+    })
 }
 
 /// Whether a character stands in names of files, and in no subcommand.

@@ -35,62 +35,59 @@ regular s ms p words is below counted =
           (breaks-past-from p.start (map (break_at p.start) (segments_of ms)) (p.start + length (text_of ms)) (passage-breaks p.start ms));
     }
 
-pub takes-some : (s t : State) (u v : Option (List ℕ)) (e1 e2 : Bool) (r1 r2 : Reads) (w w' : Window) (p : Passage) → AfterNext s t u v e1 e2 r1 r2 (Ok (Some p)) → w.words ≤ s.start
-    → (IsRegular p.start w.words p.segments.now p.pieces.now → IsTaken p w w') → TakesNext s t u v w w' (Ok true)
-takes-some s t u v e1 e2 r1 r2 w w' p a few taken =
+pub takes-some : (s t : State) (u v : Option (List ℕ)) (e1 e2 : Bool) (r1 r2 : Reads) (f1 f2 : ℕ) (w w' : Window) (p : Passage) → AfterNext s t u v e1 e2 r1 r2 (Ok (Some p))
+    → f2 ≡ f1 → w.words ≤ s.start → (IsRegular p.start w.words p.segments.now p.pieces.now → IsTaken p w w') → TakesNext s t u v e1 e2 r1 r2 f1 f2 w w' (Ok true)
+takes-some s t u v e1 e2 r1 r2 f1 f2 w w' p a failed few taken =
     let lent : Lends s t p = a.answer in
     let start = lent.start in
     let counted = lent.counted in
     record {
       lent = Ok (Some p);
-      ended = e1;
-      ended' = e2;
-      reads = r1;
-      reads' = r2;
       after = a;
+      failed = failed;
       takes = (refl, taken (regular s lent.marks p w.words lent.passage (omega (arith, few, start)) (omega (arith, counted, start))));
     }
 
-module _ (s t : State) (u v : Option (List ℕ)) (w w' : Window) (st : Stands w s false) where
+module _ (s t : State) (u v : Option (List ℕ)) (e1 e2 : Bool) (r1 r2 : Reads) (f1 f2 : ℕ) (w w' : Window) (st : Stands w s false) where
   -- what a call comes to that does not fail
   abbrev pub Came : Bool → Type 0
   Came came = Goes (view_with w s) (view_with w' t) false u v [] × Progresses (view_with w s) (view_with w' t) (not came) × Stands w' t (not came)
 
-  pub read-came : (came : Bool) → TakesNext s t u v w w' (Ok came) → Came came
+  pub read-came : (came : Bool) → TakesNext s t u v e1 e2 r1 r2 f1 f2 w w' (Ok came) → Came came
   read-came came k = by k.lent k.after k.takes
     where
-      none : w' ≡ w → AfterNext s t u v k.ended k.ended' k.reads k.reads' (Ok None) → Came false
+      none : w' ≡ w → AfterNext s t u v e1 e2 r1 r2 (Ok None) → Came false
       none same a =
           subst (λ x. Goes (view_with w s) (view_with x t) false u v [] × Progresses (view_with w s) (view_with x t) true × Stands x t true) (sym same) (
-            goes-ended s t u v k.ended k.ended' k.reads k.reads' w a,
-            inl (refl, ended-start s t u v k.ended k.ended' k.reads k.reads' w a),
-            stands-ended s t u v k.ended k.ended' k.reads k.reads' w a st,
+            goes-ended s t u v e1 e2 r1 r2 w a,
+            inl (refl, ended-start s t u v e1 e2 r1 r2 w a),
+            stands-ended s t u v e1 e2 r1 r2 w a st,
           )
 
-      some : (p : Passage) → AfterNext s t u v k.ended k.ended' k.reads k.reads' (Ok (Some p)) → IsTaken p w w' → Came true
+      some : (p : Passage) → AfterNext s t u v e1 e2 r1 r2 (Ok (Some p)) → IsTaken p w w' → Came true
       some p a taken =
-          let rise = rises s t u v k.ended k.ended' k.reads k.reads' w w' p a taken in (
-            goes-taken s t u v k.ended k.ended' k.reads k.reads' w w' p a taken,
+          let rise = rises s t u v e1 e2 r1 r2 w w' p a taken in (
+            goes-taken s t u v e1 e2 r1 r2 w w' p a taken,
             inr (refl, rise.0, rise.1),
-            stands-taken s t u v k.ended k.ended' k.reads k.reads' w w' p a taken st,
+            stands-taken s t u v e1 e2 r1 r2 w w' p a taken st,
           )
 
-      by : (lent : Result (Option Passage) PassageFault) → AfterNext s t u v k.ended k.ended' k.reads k.reads' lent → Takes lent w w' (Ok came) → Came came
+      by : (lent : Result (Option Passage) PassageFault) → AfterNext s t u v e1 e2 r1 r2 lent → Takes lent w w' (Ok came) → Came came
       by (Ok (Some p)) a takes = subst Came (sym takes.0) (some p a takes.1)
       by (Ok None) a takes = subst Came (let same : false ≡ came = cc in same) (none takes.1 a)
       by (Err why) a takes = absurd (let no : ⊥ = cc in no)
 
-  pub read-stopped : (why : PassageFault) → TakesNext s t u v w w' (Err why) → IsStopped (view_with w s) (view_with w' t) u v false why
+  pub read-stopped : (why : PassageFault) → TakesNext s t u v e1 e2 r1 r2 f1 f2 w w' (Err why) → IsStopped (view_with w s) (view_with w' t) u v false why
   read-stopped why k = by k.lent k.after k.takes
     where
-      by : (lent : Result (Option Passage) PassageFault) → AfterNext s t u v k.ended k.ended' k.reads k.reads' lent → Takes lent w w' (Err why)
+      by : (lent : Result (Option Passage) PassageFault) → AfterNext s t u v e1 e2 r1 r2 lent → Takes lent w w' (Err why)
           → IsStopped (view_with w s) (view_with w' t) u v false why
       by (Ok (Some p)) a takes = subst (IsStopped (view_with w s) (view_with w' t) u v false) (sym takes) tt
       by (Ok None) a takes = absurd (let no : ⊥ = cc in no)
       by (Err f) a takes =
           subst (λ x. IsStopped (view_with w s) (view_with x t) u v false why) (sym takes.1)
           (subst (IsStopped (view_with w s) (view_with w t) u v false) (let same : f ≡ why = cc in same)
-          (goes-stopped s t u v k.ended k.ended' k.reads k.reads' w f a st.unspent))
+          (goes-stopped s t u v e1 e2 r1 r2 w f a st.unspent))
 
 -- a call makes the measure of a run smaller
 pub progress : (old new : ℕ) (was is : Bool) → was ≡ false → ((is ≡ true) × (new ≡ old)) ⊎ ((is ≡ false) × (old < new) × (new ≤ longest_text))

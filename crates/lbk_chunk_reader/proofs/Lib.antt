@@ -6,3 +6,4 @@ pub mod ReaderLemmas
 pub mod WholeLemmas
 pub mod WindowLemmas
 pub mod CallLemmas
+pub mod SettledLemmas

@@ -1,16 +1,17 @@
 -- The cuts that a window holds, and the next chunk by them.
-use Rattle.std.proofs.Common.{◌≡◌, ◌⊎◌, inl, ◌==◌, append-nil, ℕ, suc, ◌+◌, ◌-◌, ◌≤◌, Bool, true, false, cond, nat_le, List, [], ◌∷◌, ◌++◌, drop, length, map, take, refl, sym, ap, subst, ◌∙◌, arith, length-append, length-drop, take-append-drop}
+use Rattle.std.proofs.Common.{◌≡◌, ◌⊎◌, eqb-true, inl, inr, ◌==◌, append-nil, ℕ, suc, ◌+◌, ◌-◌, ◌≤◌, Bool, true, false, cond, nat_le, List, [], ◌∷◌, ◌++◌, drop, length, map, take, refl, sym, ap, subst, ◌∙◌, arith, length-append, length-drop, take-append-drop}
 use Rattle.std.proofs.lemmas.List.{drop-append-le, drop-map, length-map, take-map}
 use Rattle.std.proofs.lemmas.List.{drop-drop}
 use Rattle.std.proofs.Math.Seq.{drop-length}
 use Rattle.lbk_chunks.specs.declared.chunk.Chunk.{Chunk}
 use Rattle.lbk_chunks.specs.declared.chunk.Limits.{Limits}
 use Rattle.lbk_chunks.specs.declared.cut.Cut.{Cut}
-use Rattle.lbk_chunks.specs.Chunks.{Here, chunk_to, cuts_past}
+use Rattle.lbk_chunks.specs.Chunks.{Here, chunk_to, cuts_past, end_of}
 use Rattle.lbk_chunks.specs.Cuts.{AreCutsPast}
 use Rattle.lbk_chunk_reader.specs.declared.cut.Cut as given
 use Rattle.lbk_chunk_reader.specs.declared.cut.Here as here
 use Rattle.lbk_chunk_reader.specs.Choosing.{IsEndAmong, IsNextChunk, start_among_known}
+use Rattle.lbk_chunk_reader.specs.Settled.{EndsLast, IsOpen}
 use Rattle.lbk_chunk_reader.specs.Numbered.{here_of, numbered}
 use Rattle.lbk_chunk_reader.proofs.StartingLemmas.{AreSome, next-among}
 
@@ -106,3 +107,14 @@ module _ (l : Limits) (h : Here) (items all ahead behind left : List given.Cut) 
       (split-cuts known behind end.at there) some chunk_is
       (next_is ∙ ap (λ k. start_among_known l h (numbered end) (map numbered behind) (map numbered (take (length k - length behind) k))) same)
       (ap (λ n. map numbered (drop (n - length left) items)) total_is ∙ left-cuts items left passed next.start few last)
+
+-- no cut is known behind the end of the chunk that the known ones have
+pub none-numbered : (xs : List given.Cut) (empty : Bool) → empty ≡ (length xs == 0) → empty ≡ true → map numbered xs ≡ []
+none-numbered [] empty is none = refl
+none-numbered (x ∷ xs) empty is none = absurd (let long : suc (length xs) ≡ 0 = eqb-true _ _ (sym is ∙ none) in omega arith)
+
+pub open-last : (l : Limits) (h : Here) (known ahead behind : List Cut) (end : Cut) (is_whole : Bool) → ahead ≡ cuts_past h.told known → IsEndAmong l h ahead is_whole end
+    → behind ≡ cuts_past end.at known → behind ≡ [] → IsOpen l h known
+open-last l h known ahead behind end is_whole ahead_is e behind_is none =
+    let there : end ≡ end_of l h e.first e.known = e.ends [] (λ _. refl) ∙ ap (end_of l h e.first) (append-nil e.known) in
+    inr (subst (EndsLast l h known) (sym e.are ∙ ahead_is) (ap (λ (c : Cut). cuts_past c.at known) (sym there) ∙ sym behind_is ∙ none))

@@ -3,10 +3,11 @@ pub mod Numbered
 pub mod Cuts
 pub mod Reader
 pub mod Shown
+pub mod Settled
+pub mod Window
 -- What only carries proofs.
 pub mod Between
 pub mod Choosing
 pub mod Pieces
 pub mod Standing
 pub mod Taking
-pub mod Window

@@ -1,7 +1,7 @@
 -- What a call does that takes the cuts of the next passage.
 use Rattle.std.specs.Prelude.{◌≡◌, ℕ, Bool, true, false, Option, None, Some, Result, Ok, Err, List}
 use Rattle.lbk_feed.specs.Devices.{Reads}
-use Rattle.lbk_passage.specs.Next.{AfterNext}
+use Rattle.lbk_passage.specs.Next.{AfterNext, failures_with, fault_in}
 use Rattle.lbk_passage.specs.State.{State}
 use Rattle.lbk_passage.specs.declared.faults.PassageFault.{PassageFault}
 use Rattle.lbk_passage.specs.declared.faults.PassageFault.TheVariants.{Memory}
@@ -16,12 +16,10 @@ Takes (Ok (Some p)) old new (Err fault) = fault ≡ Memory
 Takes (Ok None) old new r = (r ≡ Ok false) × (new ≡ old)
 Takes (Err fault) old new r = (r ≡ Err fault) × (new ≡ old)
 
--- a call that takes the cuts of the next passage
-pub record TakesNext (s t : State) (unread unread' : Option (List ℕ)) (old new : Window) (r : Result Bool PassageFault) : Type 0 where
+-- a call that takes the cuts of the next passage, by what a segmenter would lend
+pub record TakesNext (s t : State) (unread unread' : Option (List ℕ)) (ended ended' : Bool) (reads reads' : Reads) (failures failures' : ℕ)
+    (old new : Window) (r : Result Bool PassageFault) : Type 0 where
   pub lent : Result (Option Passage) PassageFault
-  pub ended : Bool
-  pub ended' : Bool
-  pub reads : Reads
-  pub reads' : Reads
   pub after : AfterNext s t unread unread' ended ended' reads reads' lent
+  pub failed : failures' ≡ failures_with failures (fault_in lent)
   pub takes : Takes lent old new r

@@ -1,15 +1,26 @@
 -- The cuts that a window holds.
-use Rattle.std.specs.Prelude.{◌≡◌, ◌+◌, List, [], ◌++◌, drop, length, map}
+use Rattle.std.specs.Prelude.{◌≡◌, ℕ, ◌+◌, List, [], ◌++◌, drop, length, map}
 use Rattle.lbk_chunks.specs.declared.chunk.Limits.{Limits}
 use Rattle.lbk_chunks.specs.declared.cut.Cut.{Cut}
 use Rattle.lbk_passage.specs.declared.passage.Passage.{Passage}
 use Rattle.lbk_word_laws.specs.PassageWords.{words_in_pieces}
 use Rattle.lbk_chunk_reader.specs.declared.window.Window.{Window}
 use Rattle.lbk_chunk_reader.specs.Cuts.{cuts_between}
-use Rattle.lbk_chunk_reader.specs.Numbered.{numbered}
+use Rattle.lbk_chunks.specs.Chunks.{Here}
+use Rattle.lbk_chunk_reader.specs.Numbered.{here_of, numbered}
 
 abbrev pub cuts_in : Window → List Cut
 cuts_in w = map numbered (drop w.passed w.cuts.items)
+
+-- the limits, where the next chunk starts, and how many words are in the passages whose cuts were found
+abbrev pub limits_in : Window → Limits
+limits_in w = w.limits
+
+abbrev pub here_in : Window → Here
+here_in w = here_of w.here
+
+abbrev pub words_in : Window → ℕ
+words_in w = w.words
 
 -- none, at the start of a text
 pub record IsNewWindow (l : Limits) (w : Window) : Type 0 where

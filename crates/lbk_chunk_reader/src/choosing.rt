@@ -1,6 +1,8 @@
 //! Where a chunk ends and where the next one starts, among cuts of which the first are known.
 
-ghost use Rattle.std.specs.Prelude.{◌≡◌, ◌≤◌, [], IfSome, None, Some, if◌then◌else◌, length, map, true};
+ghost use Rattle.std.specs.Prelude.{◌≡◌, ◌≤◌, [], IfSome, None, Some, if◌then◌else◌, false, length, map};
+ghost use Rattle.std.specs.Prelude.{true};
+ghost use Rattle.std.specs.List.{list_all};
 ghost use Rattle.lbk_chunks.specs.Chunks.{chunk_to, cuts_past, fits, is_early, may_start};
 ghost use Rattle.lbk_chunk_reader.specs.Numbered.{here_of, numbered, numbered_chunk};
 ghost use Rattle.lbk_chunk_reader.specs.Choosing.{IsEndAmong, start_among_known};
@@ -29,6 +31,8 @@ pub(crate) fn end_among(limits: &Limits, here: &Here, ahead: &[Cut], is_whole: b
     ensures end { IfSome result (λ end. IsEndAmong limits.now (here_of here.now) (map numbered ahead.now) is_whole
         (numbered end)) }
     ensures none { result ≡ None → is_whole ≡ true → ahead.now ≡ [] }
+    ensures fit { result ≡ None → is_whole ≡ false → list_all (fits limits.now (here_of here.now))
+        (map numbered ahead.now) ≡ true }
 {
     let Some((first, more)) = ahead.split_first() else {
         return None;

@@ -5,7 +5,6 @@ ghost use Rattle.std.proofs.Props.{props};
 ghost use Rattle.lbk_chunks.specs.Chunks.{are_limits};
 ghost use Rattle.lbk_passage.specs.Shown.{state_of};
 ghost use Rattle.lbk_chunk_reader.specs.Between.{AreCutsBetween-prop};
-ghost use Rattle.lbk_chunk_reader.specs.Taking.{TakesNext};
 ghost use Rattle.lbk_chunk_reader.specs.Standing.{Stands};
 
 use crate::cut::Chunk;
@@ -109,7 +108,7 @@ impl<'a, C: CellSource> Chunker<'a, C> {
         ensures reads { ReadsOn (view_of C.cell_of self.old) (view_of C.cell_of self.new) (R.unread reader.old)
             (R.unread reader.new) self.new.is_whole result }
     {
-        match take_next(&mut self.window, &mut self.segmenter, reader) {
+        match self.window.take_next(&mut self.segmenter, reader) {
             Ok(came) => {
                 self.is_whole = !came;
                 Ok(())
@@ -119,25 +118,6 @@ impl<'a, C: CellSource> Chunker<'a, C> {
                 Err(fault)
             }
         }
-    }
-}
-
-/// Takes the cuts of the next passage, and returns whether one came.
-fn take_next<R: Source, C: CellSource>(
-    window: &mut Window,
-    segmenter: &mut Segmenter<'_, C>,
-    reader: &mut R,
-) -> Result<bool, PassageFault>
-    requires { window.old.words ≤ (state_of C.cell_of segmenter.old).start }
-    ensures { TakesNext (state_of C.cell_of segmenter.old) (state_of C.cell_of segmenter.new) (R.unread reader.old)
-        (R.unread reader.new) window.old window.new result }
-{
-    let Some(passage) = segmenter.next(reader)? else {
-        return Ok(false);
-    };
-    match window.take(&passage) {
-        Ok(()) => Ok(true),
-        Err(_) => Err(PassageFault::Memory),
     }
 }
 

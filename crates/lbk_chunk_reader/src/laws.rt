@@ -7,12 +7,14 @@ ghost use Rattle.lbk_values.specs.declared.profile.Profile.{Profile};
 ghost use Rattle.lbk_chunks.specs.declared.chunk.Chunk.{Chunk};
 ghost use Rattle.lbk_chunks.specs.declared.chunk.Limits.{Limits};
 ghost use Rattle.lbk_chunks.specs.Chunks.{AreChunks, text_start};
-ghost use Rattle.lbk_chunks.specs.Cuts.{cuts_of};
+ghost use Rattle.lbk_chunks.specs.declared.cut.Cut.{Cut};
+ghost use Rattle.lbk_chunks.specs.Cuts.{AreCutsPast, cuts_of};
 ghost use Rattle.lbk_passage.specs.Next.{IsDone};
 ghost use Rattle.lbk_passage.specs.Passages.{passages};
 ghost use Rattle.lbk_word_laws.specs.Agreement.{AgreeOnLetters, AgreeOnLines};
 ghost use Rattle.lbk_chunk_reader.specs.Cuts.{cuts_of_passages};
 ghost use Rattle.lbk_chunk_reader.specs.Reader.{ChunksCome, HasGiven, View, new_view};
+ghost use Rattle.lbk_chunk_reader.specs.Settled.{AreSettled};
 
 /// The cuts of a text, passage by passage, are those of the whole text, where the cells of its scalars have the
 /// letters and numbers that `lbk_words` knows, and UAX #29 has a word boundary wherever the cells' classes say that a
@@ -43,4 +45,11 @@ pub fn run_ends()
         → HasGiven (new_view cell profile limits limit) last got scalars given → IsDone last.passages
         → ChunksCome last [] []
         → AreChunks limits (cuts_of_passages cell 0 0 (passages profile cell scalars)) text_start given }
+{}
+
+/// The chunks that some first cuts of a text settle are the first chunks that the text has, whatever cuts follow.
+pub fn settled_chunks_come_first()
+    ensures { (l : Limits) (cuts more : List Cut) (chunks all : List Chunk) → AreSettled l cuts chunks
+        → AreCutsPast 0 (cuts ++ more) → AreChunks l (cuts ++ more) text_start all
+        → (later : List Chunk) × (all ≡ chunks ++ later) }
 {}

@@ -12,4 +12,5 @@ mod window;
 pub use chunker::Chunker;
 pub use cut::Chunk;
 pub use faults::ChunkFault;
-pub use laws::{cuts_of_all_passages, run_ends, run_goes_on};
+pub use laws::{cuts_of_all_passages, run_ends, run_goes_on, settled_chunks_come_first};
+pub use window::Window;

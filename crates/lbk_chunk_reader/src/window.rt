@@ -6,7 +6,9 @@ use crate::choosing::{chunk_to, end_among, past, start_behind};
 use crate::cut::{Chunk, Cut, Here};
 use crate::gathering::push_cuts;
 use lbk_chunks::Limits;
-use lbk_passage::Passage;
+use lbk_feed::Source;
+use lbk_passage::{Passage, PassageFault, Segmenter};
+use lbk_rules::CellSource;
 use std::alloc::{AllocError, Global};
 
 /// The cuts that were found and are past the start of the next chunk.
@@ -23,17 +25,22 @@ pub struct Window {
 }
 
 impl Window {
-    ghost use Rattle.std.specs.Prelude.{◌≡◌, ◌≤◌, ◌<◌, ◌+◌, ◌^◌, ◌++◌, [], List, IfSome, None, OnOk, length, map, true};
+    ghost use Rattle.std.specs.Prelude.{◌≡◌, ◌≤◌, ◌<◌, ◌+◌, ◌^◌, ◌++◌, [], List, IfSome, None, OnOk, false, length, map};
+    ghost use Rattle.std.specs.Prelude.{true};
     ghost use Rattle.lbk_chunks.specs.declared.cut.Cut as spec;
     ghost use Rattle.lbk_chunks.specs.Chunks.{cuts_past};
     ghost use Rattle.lbk_chunks.specs.Cuts.{AreCutsPast};
     ghost use Rattle.lbk_chunk_reader.specs.Numbered.{here_of, numbered, numbered_chunk};
     ghost use Rattle.lbk_chunk_reader.specs.Choosing.{IsNextChunk};
-    ghost use Rattle.lbk_chunk_reader.specs.Window.{IsNewWindow, IsSameWindow, IsTaken, cuts_in};
+    ghost use Rattle.lbk_chunk_reader.specs.Settled.{IsOpen};
+    ghost use Rattle.lbk_chunk_reader.specs.Window.{IsNewWindow, IsSameWindow, IsTaken, cuts_in, here_in};
+    ghost use Rattle.lbk_chunk_reader.specs.Window.{limits_in, words_in};
     ghost use Rattle.lbk_chunk_reader.specs.Pieces.{IsRegular};
+    ghost use Rattle.lbk_chunk_reader.specs.Taking.{TakesNext};
+    ghost use Rattle.lbk_passage.specs.Shown.{state_of};
 
     /// No cuts, at the start of a text.
-    pub(crate) fn new(alloc: Global, limits: Limits) -> Window
+    pub fn new(alloc: Global, limits: Limits) -> Window
         ensures { IsNewWindow limits result }
     {
         Window {
@@ -50,9 +57,9 @@ impl Window {
     }
 
     /// Takes the cuts of the next passage. After an error some of them may be held.
-    pub(crate) fn take(&mut self, passage: &Passage<'_>) -> Result<(), AllocError>
+    pub fn take(&mut self, passage: &Passage<'_>) -> Result<(), AllocError>
         requires { passage.now.start ≤ 2 ^ 62 }
-        ensures { OnOk result (IsRegular passage.now.start self.old.words passage.now.segments.now
+        ensures { OnOk result (IsRegular passage.now.start (words_in self.old) passage.now.segments.now
             passage.now.pieces.now
             → IsTaken passage.now self.old self.new) }
     {
@@ -67,6 +74,30 @@ impl Window {
         Ok(())
     }
 
+    /// Takes the cuts of the next passage of a segmenter, and returns whether one came. A window and a segmenter begin
+    /// together, and the window takes each of its passages.
+    ///
+    /// The faults are those of `Segmenter::next`, and `Memory` where memory cannot grow for the cuts.
+    pub fn take_next<R: Source, C: CellSource>(
+        &mut self,
+        segmenter: &mut Segmenter<'_, C>,
+        reader: &mut R,
+    ) -> Result<bool, PassageFault>
+        ensures { words_in self.old ≤ (state_of C.cell_of segmenter.old).start
+            → TakesNext (state_of C.cell_of segmenter.old) (state_of C.cell_of segmenter.new) (R.unread reader.old)
+            (R.unread reader.new) (R.has_ended reader.old) (R.has_ended reader.new) (R.reads_made reader.old)
+            (R.reads_made reader.new) (R.failure_count reader.old) (R.failure_count reader.new) self.old self.new
+            result }
+    {
+        let Some(passage) = segmenter.next(reader)? else {
+            return Ok(false);
+        };
+        match self.take(&passage) {
+            Ok(()) => Ok(true),
+            Err(_) => Err(PassageFault::Memory),
+        }
+    }
+
     /// Lets the cuts go that were passed, once they are most of all.
     fn drop_passed(&mut self)
         ensures { IsSameWindow self.old self.new }
@@ -78,14 +109,20 @@ impl Window {
     }
 
     /// The next chunk, where the cuts settle it or are all that there are.
-    pub(crate) fn next(&mut self, is_whole: bool) -> Option<Chunk>
+    ///
+    /// They settle it where not all that are ahead of it fit, and one is known behind its end.
+    pub fn next(&mut self, is_whole: bool) -> Option<Chunk>
         ensures chunk { IfSome result (λ chunk. (more : List spec.Cut) → (is_whole ≡ true → more ≡ [])
-            → AreCutsPast self.old.here.start (cuts_in self.old ++ more)
-            → IsNextChunk self.old.limits (here_of self.old.here) (cuts_in self.old ++ more) (numbered_chunk chunk)
-            (here_of self.new.here) (cuts_in self.new ++ more)) }
+            → AreCutsPast (here_in self.old).start (cuts_in self.old ++ more)
+            → IsNextChunk (limits_in self.old) (here_in self.old) (cuts_in self.old ++ more) (numbered_chunk chunk)
+            (here_in self.new) (cuts_in self.new ++ more)) }
+        ensures behind { IfSome result (λ chunk. is_whole ≡ false
+            → 0 < length (cuts_past (here_in self.new).told (cuts_in self.old))) }
         ensures none { result ≡ None → self.new ≡ self.old }
-        ensures last { result ≡ None → is_whole ≡ true → cuts_past self.old.here.told (cuts_in self.old) ≡ [] }
-        ensures limits { (self.new.limits ≡ self.old.limits) × (self.new.words ≡ self.old.words) }
+        ensures last { result ≡ None → is_whole ≡ true → cuts_past (here_in self.old).told (cuts_in self.old) ≡ [] }
+        ensures open { result ≡ None → is_whole ≡ false
+            → IsOpen (limits_in self.old) (here_in self.old) (cuts_in self.old) }
+        ensures limits { (limits_in self.new ≡ limits_in self.old) × (words_in self.new ≡ words_in self.old) }
     {
         let known = &self.cuts[self.passed..];
         let Some(end) = end_among(

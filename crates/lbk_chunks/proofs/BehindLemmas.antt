@@ -1,10 +1,10 @@
 -- Behind a word of a text come the others.
-use Rattle.std.proofs.Common.{◌≡◌, ℕ, zero, suc, ◌+◌, ◌<◌, ◌≤◌, Bool, true, false, cond, min, nat_le, slice_index_or, List, [], ◌∷◌, ◌++◌, drop, length, map, take, refl, sym, ap, ap₂, subst, ◌∙◌, arith, length-drop}
+use Rattle.std.proofs.Common.{◌≡◌, ℕ, zero, suc, ◌+◌, ◌<◌, ◌≤◌, Bool, true, false, cond, min, nat_le, slice_index_or, List, [], ◌∷◌, ◌++◌, drop, length, take, refl, sym, ap, ap₂, subst, ◌∙◌, arith}
 use Rattle.std.proofs.lemmas.Bool.Decides.{nat_tests}
 use Rattle.std.proofs.lemmas.List.{drop-drop, drop-map, get_or-take, length-take-le, take-append-drop}
 use Rattle.std.proofs.Math.Seq.{drop-cons}
 use Rattle.bstr.specs.Utf8.{Decoded, decoded, or_replacement, pieces}
-use Rattle.bstr.proofs.lemmas.PieceLemmas.{piece-bounds, pieces-nil, pieces-step}
+use Rattle.bstr.proofs.lemmas.PieceLemmas.{pieces-nil, pieces-step}
 use Rattle.unicode_segmentation.specs.Segments.{cut, prepend}
 use Rattle.unicode_segmentation.specs.Word.{is_word_break}
 use Rattle.lbk_words.specs.declared.word.Word.{Word}

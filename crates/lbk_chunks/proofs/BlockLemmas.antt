@@ -2,8 +2,8 @@
 use Rattle.std.proofs.Common.{◌≡◌, ℕ, zero, suc, ◌+◌, ◌-◌, ◌++◌, ◌==◌, ◌&&◌, nat_le, nat_lt, ◌<◌, ◌≤◌, ◌⊎◌, ⊎_elim, inl, inr, append_assoc, Bool, true, false, cond, List, [], ◌∷◌, drop, length, take, slice_index_or, refl, sym, ap, ap₂, subst, ◌∙◌, arith}
 use Rattle.std.proofs.lemmas.Bool.{cases_lt}
 use Rattle.std.proofs.lemmas.Bool.Decides.{nat_tests}
-use Rattle.std.proofs.lemmas.List.{get_or-take, length-take-le, take-append-drop, drop-take}
-use Rattle.std.proofs.Math.Seq.{drop-cons, take-suc}
+use Rattle.std.proofs.lemmas.List.{get_or-take, length-take-le, take-append-drop}
+use Rattle.std.proofs.Math.Seq.{drop-cons}
 use Rattle.lbk_rules.specs.declared.Cell.{Cell}
 use Rattle.lbk_rules.specs.declared.FlatTable.{FlatTable}
 use Rattle.lbk_chunks.specs.declared.cut.Cut.{Cut}
@@ -13,7 +13,7 @@ use Rattle.lbk_chunks.specs.declared.cut_block.CutBlock.{CutBlock}
 use Rattle.lbk_chunks.specs.declared.cut_block.Mark.{Mark}
 use Rattle.lbk_chunks.specs.declared.window.Window.{Window}
 use Rattle.lbk_chunks.specs.Chunks.{cuts_past}
-use Rattle.lbk_chunks.specs.Coming.{AreCutsPast, AreFirst, AreKept, IsAhead, IsBlock, IsCutOf, IsMark, IsSafe, no_cut}
+use Rattle.lbk_chunks.specs.Coming.{AreCutsPast, AreFirst, AreKept, IsAhead, IsBlock, IsMark, IsSafe, no_cut}
 use Rattle.lbk_chunks.proofs.CutLemmas.{IsSplit, cut-one, first-later, none-past, split}
 
 -- some elements up to one of them

@@ -81,7 +81,7 @@ past-fewer : (at : ℕ) (cs : List Cut) → length (cuts_past at cs) ≤ length 
 past-fewer at [] = omega arith
 past-fewer at (c ∷ cs) = fewer-by (nat_le c.at at) c cs (cuts_past at cs) (past-fewer at cs)
 
-fewer : (told to : ℕ) (first : Cut) (more cuts : List Cut) → cuts_past told cuts ≡ first ∷ more → told ≤ to → first.at ≤ to → length (cuts_past to cuts) ≤ length more
+pub fewer : (told to : ℕ) (first : Cut) (more cuts : List Cut) → cuts_past told cuts ≡ first ∷ more → told ≤ to → first.at ≤ to → length (cuts_past to cuts) ≤ length more
 fewer told to first more cuts joined below behind =
     let same : cuts_past to cuts ≡ cuts_past to more = sym (past-past told to cuts below) ∙ ap (cuts_past to) joined ∙ past-before to first more behind in
     omega (arith, ap length same, past-fewer to more)

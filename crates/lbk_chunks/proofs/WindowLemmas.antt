@@ -7,8 +7,8 @@ use Rattle.lbk_chunks.specs.declared.cut.Cut.{Cut}
 use Rattle.lbk_chunks.specs.declared.cursor.Filled.{Filled}
 use Rattle.lbk_chunks.specs.declared.cut_block.Mark.{Mark}
 use Rattle.lbk_chunks.specs.Chunks.{cuts_past}
-use Rattle.lbk_chunks.specs.Coming.{AreCutsPast, AreFirst, IsAhead, IsCutOf, IsMark, IsStanding, no_cut}
-use Rattle.lbk_chunks.proofs.BlockLemmas.{mark-behind, split-last}
+use Rattle.lbk_chunks.specs.Coming.{AreCutsPast, AreFirst, IsAhead, IsMark, IsStanding, no_cut}
+use Rattle.lbk_chunks.proofs.BlockLemmas.{mark-behind}
 use Rattle.lbk_chunks.proofs.CutLemmas.{first-later, none-past}
 
 -- a cut stands at a byte, so some cut is past an earlier byte

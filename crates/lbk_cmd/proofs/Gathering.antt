@@ -1,5 +1,5 @@
 -- A run by the answers of the calls that gather its lines.
-use Rattle.std.proofs.Common.{◌≡◌, ℕ, ◌+◌, ◌<◌, ◌≤◌, ◌⊎◌, ◌↔◌, Bool, true, false, List, [], take, Option, None, Some, Result, Ok, Err, IsErrOf, IsTrue, OnOk, refl, sym, ap, subst, ◌∙◌, inl, inr, ⊎_elim}
+use Rattle.std.proofs.Common.{◌≡◌, ℕ, ◌+◌, ◌<◌, ◌≤◌, ◌⊎◌, ◌↔◌, Bool, true, false, List, [], ◌++◌, take, Option, None, Some, Result, Ok, Err, IsErrOf, IsTrue, OnOk, refl, sym, ap, subst, ◌∙◌, inl, inr, ⊎_elim}
 use Rattle.std.specs.Io.KnownBytes.{Appends, IsAtEnd}
 use Rattle.lbk_feed.specs.Devices.{Reads}
 use Rattle.lbk_feed.specs.Runs.{Ran}
@@ -11,9 +11,10 @@ use Rattle.lbk_passage.specs.declared.faults.PassageFault.TheVariants as fault
 use Rattle.lbk_passage.specs.declared.passage.Passage.{Passage}
 use Rattle.lbk_cmd.specs.Gathering.{Puts, PutsNext, end_of}
 use Rattle.lbk_cmd.specs.Ranges.{ReadsBefore}
-use Rattle.lbk_cmd.specs.Run.{Engine, failed_reads_with, failed_writes_with, is_failed_read}
+use Rattle.lbk_cmd.specs.Run.{Engine, by_passage, failed_reads_with, failed_writes_with, is_failed_read}
 use Rattle.lbk_cmd.specs.declared.faults.CmdFault.{CmdFault}
 use Rattle.lbk_cmd.specs.declared.faults.CmdFault.TheVariants as cmd
+use Rattle.lbk_cmd.proofs.Running.{given_now, lined, lines_finish, passage_now, start_now}
 use Rattle.lbk_cmd.proofs.Looping.{Ends, Going, MayEnd, MayStop, Wait, at_the_end, goes_to, most_reads, ran_fault, ran_held_back, ran_memory, ran_whole}
 
 -- a run that goes on has no answer
@@ -24,7 +25,7 @@ some_same : {X : Type 0} (o : Option X) (x y : X) → o ≡ Some x → o ≡ Som
 some_same o x y one other = let both : Some x ≡ Some y = sym one ∙ other in cc
 
 -- the count of failed reads, by the fault that the segmenter answered
-failed_alike : (n : ℕ) (why : PassageFault) → failures_with n (Some why) ≡ failed_reads_with {X = Unit {0}} n (Err (cmd.Passage why))
+pub failed_alike : (n : ℕ) (why : PassageFault) → failures_with n (Some why) ≡ failed_reads_with {X = Unit {0}} n (Err (cmd.Passage why))
 failed_alike n fault.Limit = refl
 failed_alike n fault.Memory = refl
 failed_alike n fault.Read = refl
@@ -34,10 +35,10 @@ failed_alike n (fault.ParagraphTooLong start) = refl
 failed_alike n fault.Spent = refl
 
 module _ (e : Engine) (u0 w0 : Option (List ℕ)) (reads0 : Reads) (s t : State) (u v w : Option (List ℕ)) (e1 e2 : Bool) (r1 r2 : Reads) (f1 f2 : ℕ)
-    (lines lines' : List ℕ) (at : ℕ) (put : Result Bool CmdFault) (g : Going e u0 w0 reads0 s u w e1 r1 lines) (wait : Wait e u0 w0 reads0 s lines)
+    (lines lines' : List ℕ) (at : ℕ) (put : Result Bool CmdFault) (g : Going (by_passage e) u0 w0 reads0 s u w e1 r1 lines) (wait : Wait (by_passage e) u0 w0 reads0 s lines)
     (n : PutsNext e s t u v e1 e2 r1 r2 f1 f2 lines lines' at put) where
   pub most : r2.count ≤ reads0.count + (longest_text + 1)
-  most = most_reads e u0 w0 reads0 s t u v w e1 e2 r1 r2 lines g wait n.lent n.next
+  most = most_reads (by_passage e) u0 w0 reads0 s t u v w e1 e2 r1 r2 lines g wait n.lent n.next
 
   -- memory could not grow for the passage or its lines
   abbrev pub IsFull : Type 0
@@ -48,11 +49,11 @@ module _ (e : Engine) (u0 w0 : Option (List ℕ)) (reads0 : Reads) (s t : State)
 
   -- a run over a range may end after the call
   abbrev pub May : ℕ → Type 0
-  May to = MayEnd e u0 w0 reads0 s t u v w e1 e2 r1 r2 lines g wait to
+  May to = MayEnd (by_passage e) u0 w0 reads0 s t u v w e1 e2 r1 r2 lines g wait to
 
   -- where the run goes on
   pub record On : Type 0 where
-    pub going : Going e u0 w0 reads0 t v w e2 r2 lines'
+    pub going : Going (by_passage e) u0 w0 reads0 t v w e2 r2 lines'
     pub before : (to : ℕ) → May to → ReadsBefore to going.keeps_up
     pub is : at ≡ t.start
     pub onward : s.start < t.start
@@ -65,7 +66,13 @@ module _ (e : Engine) (u0 w0 : Option (List ℕ)) (reads0 : Reads) (s t : State)
       by : (lent : Result (Option Passage) PassageFault) → AfterNext s t u v e1 e2 r1 r2 lent → Puts e s lent lines lines' at put → f2 ≡ failures_with f1 (fault_in lent) → On
       by (Ok None) a puts failed = absurd (none_some (end_of put) (Ok (tt {0})) goes (ap end_of puts.0))
       by (Ok (Some p)) a (inl puts) failed =
-          let to = goes_to e u0 w0 reads0 s t u v w e1 e2 r1 r2 lines g wait p a lines' at puts.1 puts.2 in
+          let b = by_passage e in
+          let st = g.standing in
+          let ms = given_now b s g.bytes (g.out ++ lines) st t u v e1 e2 r1 r2 p a in
+          let same : lines' ≡ lines ++ e.lines s.start ms =
+          puts.2 ms st.cell st.profile (passage_now b s g.bytes (g.out ++ lines) st t u v e1 e2 r1 r2 p a)
+          ∙ ap (λ n. lines ++ e.lines n ms) (start_now b s g.bytes (g.out ++ lines) st t u v e1 e2 r1 r2 p a) in
+          let to = goes_to b u0 w0 reads0 s t u v w e1 e2 r1 r2 lines g wait p a lines' (e.lines s.start ms) at puts.1 same (lined e s g.bytes (g.out ++ lines) st ms) in
           record { going = to.going; before = to.before; is = to.is; onward = to.onward; few = to.few; none_failed = failed }
       by (Ok (Some p)) a (inr puts) failed = absurd (none_some (end_of put) (Err cmd.Memory) goes (ap end_of puts.0))
       by (Err why) a puts failed = absurd (none_some (end_of put) (Err (cmd.Passage why)) goes (ap end_of puts.0))
@@ -128,7 +135,7 @@ module _ (e : Engine) (u0 w0 : Option (List ℕ)) (reads0 : Reads) (s t : State)
     -- where it ends, once the lines that waited were written
     abbrev pub EndsBy : Option (List ℕ) → Result (Unit {0}) CmdFault → Type 0
     EndsBy w' known =
-        Ran (is_failed_read known) u0 v w0 w' (Ends e reads0 r2 e2 v (MayStop e u0 w0 reads0 s t u v w e1 e2 r1 r2 lines g wait IsLate) known)
+        Ran (is_failed_read known) u0 v w0 w' (Ends (by_passage e) reads0 r2 e2 v (MayStop (by_passage e) u0 w0 reads0 s t u v w e1 e2 r1 r2 lines g wait IsLate) known)
 
     pub ends : (w' : Option (List ℕ)) → Appends w w' lines' → EndsBy w' answer
     ends w' wrote = by n.lent n.next n.puts
@@ -136,21 +143,21 @@ module _ (e : Engine) (u0 w0 : Option (List ℕ)) (reads0 : Reads) (s t : State)
         by : (lent : Result (Option Passage) PassageFault) → AfterNext s t u v e1 e2 r1 r2 lent → Puts e s lent lines lines' at put → EndsBy w' answer
         by (Ok None) a puts =
             subst (EndsBy w') (sym (some_same (end_of put) (Ok (tt {0})) answer (ap end_of puts.0) is))
-            (ran_whole e u0 w0 reads0 s t u v w e1 e2 r1 r2 lines g wait IsLate (tt {0}) w' (subst (Appends w w') puts.1 wrote) a)
+            (ran_whole (by_passage e) u0 w0 reads0 s t u v w e1 e2 r1 r2 lines g wait IsLate (tt {0}) w' lines (subst (Appends w w') puts.1 wrote) g.standing.is a)
         by (Ok (Some p)) a (inl puts) = absurd (none_some (end_of put) answer (ap end_of puts.0) is)
         by (Ok (Some p)) a (inr puts) =
             subst (EndsBy w') (sym (some_same (end_of put) (Err cmd.Memory) answer (ap end_of puts.0) is))
-            (ran_memory e u0 w0 reads0 s t u v w e1 e2 r1 r2 lines g wait p a (Unit {0}) IsLate (λ from late. late (inl puts.0)) w' (subst (Appends w w') puts.1 wrote))
+            (ran_memory (by_passage e) u0 w0 reads0 s t u v w e1 e2 r1 r2 lines g wait p a (Unit {0}) IsLate (λ from late. late (inl puts.0)) w' (subst (Appends w w') puts.1 wrote))
         by (Err why) a puts =
             subst (EndsBy w') (sym (some_same (end_of put) (Err (cmd.Passage why)) answer (ap end_of puts.0) is))
-            (ran_fault e u0 w0 reads0 s t u v w e1 e2 r1 r2 lines g wait (Unit {0}) IsLate why
+            (ran_fault (by_passage e) u0 w0 reads0 s t u v w e1 e2 r1 r2 lines g wait (Unit {0}) IsLate why
             (λ from late same. late (inr (puts.0 ∙ ap (λ f. Err (cmd.Passage f)) same))) w' (subst (Appends w w') puts.1 wrote) a)
 
     -- and where they were not, or not all
     pub held_back : s.is_settled ≡ true → (w' : Option (List ℕ)) (k : ℕ) → Appends w w' (take k lines')
-        → Ran false u0 v w0 w' (Ends {X = Unit {0}} e reads0 r2 e2 v (λ from to. May to) (Err cmd.Write))
+        → Ran false u0 v w0 w' (Ends {X = Unit {0}} (by_passage e) reads0 r2 e2 v (λ from to. May to) (Err cmd.Write))
     held_back settled w' k wrote =
-        ran_held_back e u0 w0 reads0 s t u v w e1 e2 r1 r2 lines g wait (Unit {0}) n.lent n.next (n.next.still settled).1 w' k
+        ran_held_back (by_passage e) u0 w0 reads0 s t u v w e1 e2 r1 r2 lines g wait (lines_finish e) (Unit {0}) n.lent n.next (n.next.still settled).1 w' k
         (subst (λ l. Appends w w' (take k l)) kept wrote)
 
     -- the text was read to its end
@@ -159,7 +166,7 @@ module _ (e : Engine) (u0 w0 : Option (List ℕ)) (reads0 : Reads) (s t : State)
       where
         by : (lent : Result (Option Passage) PassageFault) → AfterNext s t u v e1 e2 r1 r2 lent → Puts e s lent lines lines' at put → OnOk answer (IsTrue e2 × IsAtEnd v)
         by (Ok None) a puts =
-            let end = at_the_end e u0 w0 reads0 s t u v w e1 e2 r1 r2 lines g wait a in
+            let end = at_the_end (by_passage e) u0 w0 reads0 s t u v w e1 e2 r1 r2 lines g wait a in
             subst (λ r. OnOk r (IsTrue e2 × IsAtEnd v)) (sym (some_same (end_of put) (Ok (tt {0})) answer (ap end_of puts.0) is)) end
         by (Ok (Some p)) a (inl puts) = absurd (none_some (end_of put) answer (ap end_of puts.0) is)
         by (Ok (Some p)) a (inr puts) = subst (λ r. OnOk r (IsTrue e2 × IsAtEnd v)) (sym (some_same (end_of put) (Err cmd.Memory) answer (ap end_of puts.0) is)) tt

@@ -1,9 +1,9 @@
 -- What `show` does over a writer in memory.
-use Rattle.std.proofs.Common.{List, ℕ, Result, Err, refl, subst}
+use Rattle.std.proofs.Common.{List, ℕ, Option, Result, Err, refl, subst}
 use Rattle.lbk_cmd.specs.Acts.{TextRuns}
 use Rattle.lbk_cmd.specs.Broken.{with_failed_write}
 use Rattle.lbk_cmd.specs.Devices.{Devices}
-use Rattle.lbk_cmd.specs.Run.{Engine}
+use Rattle.lbk_cmd.specs.Run.{Writing}
 use Rattle.lbk_cmd.specs.declared.faults.CmdFault.{CmdFault}
 use Rattle.lbk_cmd.specs.declared.faults.CmdFault.TheVariants as cmd
 use Rattle.std.specs.Prelude.{◌≡◌, None}
@@ -13,7 +13,7 @@ abbrev pub untold : Devices → Devices
 untold d = record d { written = None; failed_writes = 0 }
 
 -- a write failed of the lines in memory
-unwritten : (text : List ℕ → List ℕ) (e : Engine) (before after : Devices)
+unwritten : (text : List ℕ → Option (List ℕ) → Option (List ℕ) → Type 0) (e : Writing) (before after : Devices)
     → TextRuns text e before after (Err cmd.Write) → TextRuns text e (untold before) (with_failed_write (untold after)) (Err cmd.Write)
 unwritten text e before after t = record {
   shown = tt;
@@ -25,6 +25,6 @@ unwritten text e before after t = record {
   failed_writes = refl;
 }
 
-pub untold_unwritten : (text : List ℕ → List ℕ) (e : Engine) (before after : Devices) (answer : Result (Unit {0}) CmdFault) → answer ≡ Err cmd.Write
+pub untold_unwritten : (text : List ℕ → Option (List ℕ) → Option (List ℕ) → Type 0) (e : Writing) (before after : Devices) (answer : Result (Unit {0}) CmdFault) → answer ≡ Err cmd.Write
     → TextRuns text e before after answer → TextRuns text e (untold before) (with_failed_write (untold after)) (Err cmd.Write)
 untold_unwritten text e before after answer is t = unwritten text e before after (subst (TextRuns text e before after) is t)

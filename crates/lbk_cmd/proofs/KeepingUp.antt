@@ -13,14 +13,14 @@ use Rattle.lbk_passage.specs.Next.{AfterNext, BeginsWithAll, WereDue, lent_text}
 use Rattle.lbk_passage.specs.declared.faults.PassageFault.{PassageFault}
 use Rattle.lbk_passage.specs.declared.passage.Passage.{Passage}
 use Rattle.lbk_cmd.specs.Ranges.{ReadsBefore, next_start}
-use Rattle.lbk_cmd.specs.Run.{Engine, KeepsUp, passages_by}
+use Rattle.lbk_cmd.specs.Run.{KeepsUp, Writing, passages_by}
 use Rattle.lbk_cmd.proofs.Running.{some_bytes, Stands, fresh, goes_on, ended, Standing, Standing-same}
 use Rattle.lbk_cmd.proofs.Stopping.{settled_by, settled_none}
 
 -- nothing was read
-pub keeps_none : (e : Engine) (reads : Reads) → KeepsUp e reads reads [] []
+pub keeps_none : (e : Writing) (reads : Reads) → e.Settled [] [] → KeepsUp e reads reads [] []
 unfolding settled_none
-keeps_none e reads = record {
+keeps_none e reads none = record {
   before = [];
   last = [];
   read = refl;
@@ -29,15 +29,15 @@ keeps_none e reads = record {
   written = [];
   later = [];
   is = refl;
-  settled = settled_none e;
+  settled = settled_none e none;
   goes_on = record { within = omega arith; cut = inl refl };
 }
 
-pub before_none : (e : Engine) (reads : Reads) (end : ℕ) → ReadsBefore end (keeps_none e reads)
-before_none e reads end = inl (refl, refl)
+pub before_none : (e : Writing) (reads : Reads) (none : e.Settled [] []) (end : ℕ) → ReadsBefore end (keeps_none e reads none)
+before_none e reads none end = inl (refl, refl)
 
 -- more was written
-pub keeps_written : (e : Engine) (from to : Reads) (bytes out line : List ℕ) → KeepsUp e from to bytes out → KeepsUp e from to bytes (out ++ line)
+pub keeps_written : (e : Writing) (from to : Reads) (bytes out line : List ℕ) → KeepsUp e from to bytes out → KeepsUp e from to bytes (out ++ line)
 keeps_written e from to bytes out line k = record {
   before = k.before;
   last = k.last;
@@ -51,7 +51,7 @@ keeps_written e from to bytes out line k = record {
   goes_on = k.goes_on;
 }
 
-pub before_written : (e : Engine) (from to : Reads) (bytes out line : List ℕ) (k : KeepsUp e from to bytes out) (end : ℕ) → ReadsBefore end k
+pub before_written : (e : Writing) (from to : Reads) (bytes out line : List ℕ) (k : KeepsUp e from to bytes out) (end : ℕ) → ReadsBefore end k
     → ReadsBefore end (keeps_written e from to bytes out line k)
 unfolding keeps_written
 before_written e from to bytes out line k end before = before
@@ -62,7 +62,7 @@ none_got held [] same = refl
 none_got held (x ∷ got) same = absurd (let long = ap length same in omega (arith, long, length-append held (x ∷ got)))
 
 -- a call that made no read
-module _ (e : Engine) (from to to' : Reads) (bytes held all got out : List ℕ) (grown : all ≡ held ++ got) (still : IsStill held all to to') (k : KeepsUp e from to bytes out) where
+module _ (e : Writing) (from to to' : Reads) (bytes held all got out : List ℕ) (grown : all ≡ held ++ got) (still : IsStill held all to to') (k : KeepsUp e from to bytes out) where
   same_bytes : bytes ++ got ≡ bytes
   same_bytes = ap (λ l. bytes ++ l) (none_got held got (sym grown ∙ still.0)) ∙ append-nil bytes
 
@@ -100,7 +100,7 @@ not_whole next rest last behind same long cut =
     let lacks = cut.lacks in
     omega (arith, lacks, ap length cut.spells, length-append rest cut.more, ap (λ c. length (encode_utf8 c)) one.0, long)
 
-module _ (e : Engine) (from : Reads) (s : State) (bytes out : List ℕ) (st : Standing e s bytes out) (t : State) (u v : Option (List ℕ)) (e1 e2 : Bool) (r1 r2 : Reads)
+module _ (e : Writing) (from : Reads) (s : State) (bytes out : List ℕ) (st : Standing e s bytes out) (t : State) (u v : Option (List ℕ)) (e1 e2 : Bool) (r1 r2 : Reads)
     (r : Result (Option Passage) PassageFault) (a : AfterNext s t u v e1 e2 r1 r2 r) (paid : s.is_ended ≡ false → r1.count ≤ from.count + (s.start + length s.held)) where
   -- reads were made, and the end was not met before them
   module _ (open_end : s.is_ended ≡ false) (due : WereDue s (lent_text r ++ t.held) r1 r2) where
@@ -193,7 +193,7 @@ module _ (e : Engine) (from : Reads) (s : State) (bytes out : List ℕ) (st : St
     keeps_next = next
 
 -- where lines wait, the call is one that makes no read
-module _ (e : Engine) (from : Reads) (s : State) (bytes out lines : List ℕ) (st : Standing e s bytes (out ++ lines)) (t : State) (u v : Option (List ℕ)) (e1 e2 : Bool)
+module _ (e : Writing) (from : Reads) (s : State) (bytes out lines : List ℕ) (st : Standing e s bytes (out ++ lines)) (t : State) (u v : Option (List ℕ)) (e1 e2 : Bool)
     (r1 r2 : Reads) (r : Result (Option Passage) PassageFault) (a : AfterNext s t u v e1 e2 r1 r2 r) (paid : s.is_ended ≡ false → r1.count ≤ from.count + (s.start + length s.held))
     (waits : (lines ≡ []) ⊎ (s.is_settled ≡ true)) (k : KeepsUp e from r1 bytes out) where
   Waiting : Type 0

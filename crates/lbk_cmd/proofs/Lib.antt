@@ -16,6 +16,10 @@ pub mod Putting
 pub mod Gathering
 pub mod Owning
 pub mod Known
+pub mod Chunking
+pub mod ChunkGiving
+pub mod ChunkRuns
+pub mod ChunkLines
 pub mod Ranging
 mod Rows
 pub mod Headlines

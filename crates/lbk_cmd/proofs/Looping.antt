@@ -4,21 +4,20 @@ use Rattle.std.proofs.Math.Seq.{take-append-add}
 use Rattle.std.proofs.lemmas.Bool.{cases_lt, false≢true}
 use Rattle.std.specs.Io.KnownBytes.{Appends, Consumes, IsAtEnd, Keeps}
 use Rattle.lbk_feed.specs.Devices.{Reads}
-use Rattle.lbk_feed.specs.Runs.{IsStopped, Took, Ran}
+use Rattle.lbk_feed.specs.Runs.{IsStopped, Took, Ran, at_end as front_of_all}
 use Rattle.lbk_feed.specs.Text.{longest_text}
 use Rattle.lbk_feed.proofs.Taking.{Consumes-nil, Consumes-trans, Took-then, kept_took, begun_took, told_took}
-use Rattle.lbk_passage.specs.Marks.{Marked}
 use Rattle.lbk_passage.specs.State.{State, new_state}
-use Rattle.lbk_passage.specs.Next.{AfterNext, Agrees, IsDone, IsPassage, KeepsAhead, Lends, ends_run, fault_in, lent_text}
+use Rattle.lbk_passage.specs.Next.{AfterNext, Agrees, IsDone, KeepsAhead, Lends, ends_run, fault_in, lent_text}
 use Rattle.lbk_passage.specs.declared.faults.PassageFault.{PassageFault}
 use Rattle.lbk_passage.specs.declared.faults.PassageFault.TheVariants as fault
 use Rattle.lbk_passage.specs.declared.passage.Passage.{Passage}
 use Rattle.lbk_cmd.specs.Gathering.{HasWritten}
 use Rattle.lbk_cmd.specs.Ranges.{IsRangeRun, RangeComesTo, ReadsBefore}
-use Rattle.lbk_cmd.specs.Run.{ComesTo, Engine, IsRun, IsSettled, IsWhole, KeepsUp, is_failed_read}
+use Rattle.lbk_cmd.specs.Run.{ComesTo, Writing, IsRun, IsSettled, IsWhole, KeepsUp, is_failed_read}
 use Rattle.lbk_cmd.specs.declared.faults.CmdFault.{CmdFault}
 use Rattle.lbk_cmd.specs.declared.faults.CmdFault.TheVariants as cmd
-use Rattle.lbk_cmd.proofs.Running.{Standing, Standing-new, Standing-new-given, Standing-next, Standing-next-given, Standing-same, Standing-settled, given_now, passage_now, some_bytes_of, start_now}
+use Rattle.lbk_cmd.proofs.Running.{Finishes, Standing, Standing-new, Standing-new-given, Standing-next, Standing-next-given, Standing-same, Standing-settled, given_now, some_bytes_of, start_now}
 use Rattle.lbk_cmd.proofs.KeepingUp.{before_none, before_waiting, before_written, keeps_none, keeps_waiting, keeps_written, none_got}
 use Rattle.lbk_cmd.proofs.Stopping.{range_fault, stopped, run_memory, run_whole, run_fault}
 
@@ -45,7 +44,7 @@ took_fault X s t u v e1 e2 r1 r2 fault.Spent a = kept_took _ _ _ a.grown u v a.a
 
 -- what a run comes to that ends with an answer, where `unread` is left: over the whole text, or over a range from one byte up to
 -- another where it may end so
-pub record Ends {X : Type 0} (e : Engine) (from to : Reads) (has_ended : Bool) (unread : Option (List ℕ)) (May : ℕ → ℕ → Type 0) (answer : Result X CmdFault)
+pub record Ends {X : Type 0} (e : Writing) (from to : Reads) (has_ended : Bool) (unread : Option (List ℕ)) (May : ℕ → ℕ → Type 0) (answer : Result X CmdFault)
     (bytes out : List ℕ) : Type 0 where
   pub comes : ComesTo e has_ended answer bytes out
   pub in_range : (begin end : ℕ) → May begin end → RangeComesTo e begin end has_ended (IsTrue has_ended × IsAtEnd unread) answer bytes out
@@ -63,7 +62,7 @@ kept_but_read (Some fault.TextTooLong) a b calm k = k
 kept_but_read (Some (fault.ParagraphTooLong start)) a b calm k = k
 kept_but_read (Some fault.Spent) a b calm k = k
 
-module _ (e : Engine) (u0 w0 : Option (List ℕ)) (reads0 : Reads) where
+module _ (e : Writing) (u0 w0 : Option (List ℕ)) (reads0 : Reads) where
   -- what the calls so far took from the reader, what was written, and the lines behind it that wait
   pub record Going (s : State) (u w : Option (List ℕ)) (has_ended : Bool) (reads : Reads) (lines : List ℕ) : Type 0 where
     pub bytes : List ℕ
@@ -76,26 +75,33 @@ module _ (e : Engine) (u0 w0 : Option (List ℕ)) (reads0 : Reads) where
     pub most : reads.count ≤ reads0.count + (longest_text + 1)
     pub keeps_up : KeepsUp e reads0 reads bytes out
 
-  pub Going-new : (s : State) (has_ended : Bool) → s ≡ new_state e.cell e.profile e.limit → Going s u0 w0 has_ended reads0 []
-  Going-new s has_ended is = record {
+  pub Going-new : (s : State) (has_ended : Bool) → s ≡ new_state e.cell e.profile e.limit → e.Settled [] [] → Going s u0 w0 has_ended reads0 []
+  Going-new s has_ended is none_settled = record {
     bytes = [];
     out = [];
     took = Consumes-nil u0;
     put = Appends-nil w0;
-    standing = Standing-new e s is;
+    standing = Standing-new e s is none_settled;
     agrees = λ at_end. absurd (false≢true (sym (ap (λ t. t.is_ended) is) ∙ at_end));
     paid = λ _. omega arith;
     most = omega arith;
-    keeps_up = keeps_none e reads0;
+    keeps_up = keeps_none e reads0 none_settled;
   }
 
-  pub before-new : (s : State) (has_ended : Bool) (is : s ≡ new_state e.cell e.profile e.limit) (end : ℕ) → ReadsBefore end (Going-new s has_ended is).keeps_up
+  pub before-new : (s : State) (has_ended : Bool) (is : s ≡ new_state e.cell e.profile e.limit) (none_settled : e.Settled [] []) (end : ℕ)
+      → ReadsBefore end (Going-new s has_ended is none_settled).keeps_up
   unfolding Going-new
-  before-new s has_ended is end = before_none e reads0 end
+  before-new s has_ended is none_settled end = before_none e reads0 none_settled end
 
-  pub Going-new-given : (s : State) (has_ended : Bool) (is : s ≡ new_state e.cell e.profile e.limit) → (Going-new s has_ended is).standing.given ≡ []
+  pub Going-new-given : (s : State) (has_ended : Bool) (is : s ≡ new_state e.cell e.profile e.limit) (none_settled : e.Settled [] [])
+      → (Going-new s has_ended is none_settled).standing.given ≡ []
   unfolding Going-new
-  Going-new-given s has_ended is = Standing-new-given e s is
+  Going-new-given s has_ended is none_settled = Standing-new-given e s is none_settled
+
+  pub Going-new-out : (s : State) (has_ended : Bool) (is : s ≡ new_state e.cell e.profile e.limit) (none_settled : e.Settled [] [])
+      → (Going-new s has_ended is none_settled).out ≡ []
+  unfolding Going-new
+  Going-new-out s has_ended is none_settled = refl
 
   module _ (s : State) (u w : Option (List ℕ)) (e1 : Bool) (r1 : Reads) (lines : List ℕ) (g : Going s u w e1 r1 lines) where
     -- the lines that waited were written
@@ -116,6 +122,25 @@ module _ (e : Engine) (u0 w0 : Option (List ℕ)) (reads0 : Reads) where
     unfolding Going-written
     before-written w' wrote to before = before_written e reads0 r1 g.bytes g.out lines g.keeps_up to before
 
+    -- some of them were written, and the others wait
+    pub Going-put : (w' : Option (List ℕ)) (put rest : List ℕ) → put ++ rest ≡ lines → Appends w w' put → Going s u w' e1 r1 rest
+    Going-put w' put rest same wrote = record {
+      bytes = g.bytes;
+      out = g.out ++ put;
+      took = g.took;
+      put = Appends-trans w0 w w' g.out put g.put wrote;
+      standing = Standing-same e s g.bytes (g.out ++ lines) ((g.out ++ put) ++ rest) (append_assoc g.out put rest ∙ ap (λ l. g.out ++ l) same) g.standing;
+      agrees = g.agrees;
+      paid = g.paid;
+      most = g.most;
+      keeps_up = keeps_written e reads0 r1 g.bytes g.out put g.keeps_up;
+    }
+
+    pub Going-put-is : (w' : Option (List ℕ)) (put rest : List ℕ) (same : put ++ rest ≡ lines) (wrote : Appends w w' put)
+        → ((Going-put w' put rest same wrote).standing.given ≡ g.standing.given) × ((Going-put w' put rest same wrote).out ≡ g.out ++ put)
+    unfolding Going-put Standing-same
+    Going-put-is w' put rest same wrote = (refl, refl)
+
     pub Going-written-given : (w' : Option (List ℕ)) (wrote : Appends w w' lines) → (Going-written w' wrote).standing.given ≡ g.standing.given
     unfolding Going-written Standing-same
     Going-written-given w' wrote = refl
@@ -135,12 +160,12 @@ module _ (e : Engine) (u0 w0 : Option (List ℕ)) (reads0 : Reads) where
     }
 
     -- the lines were not written, or not all of them
-    pub ran_unwritten : (X : Type 0) (w' : Option (List ℕ)) (n : ℕ) → Appends w w' (take n lines)
+    pub ran_unwritten : Finishes e → (X : Type 0) (w' : Option (List ℕ)) (n : ℕ) → Appends w w' (take n lines)
         → Ran false u0 u w0 w' (Ends {X = X} e reads0 r1 e1 u (λ begin end. ReadsBefore end g.keeps_up) (Err cmd.Write))
-    ran_unwritten X w' n wrote =
+    ran_unwritten finishes X w' n wrote =
         let put = take n lines in
         let comes = subst (λ l. IsStopped (IsSettled e) (IsWhole e) (e1 ≡ true) l (g.out ++ put)) (append-nil g.bytes)
-        (stopped e s g.bytes (g.out ++ lines) g.standing e1 [] (λ at_end. ((g.agrees at_end).0, refl)) (g.out ++ put) (length g.out + n)
+        (stopped e s g.bytes (g.out ++ lines) g.standing finishes e1 [] (λ at_end. ((g.agrees at_end).0, refl)) (g.out ++ put) (length g.out + n)
         (sym (take-append-add g.out lines n))) in
         record {
           read = g.bytes;
@@ -165,11 +190,13 @@ module _ (e : Engine) (u0 w0 : Option (List ℕ)) (reads0 : Reads) where
     pub wait : Wait t lines'
     pub start : t.start ≡ s.start
     pub before : (end : ℕ) → ReadsBefore end g.keeps_up → ReadsBefore end going.keeps_up
+    pub given : going.standing.given ≡ g.standing.given
+    pub text : going.out ++ lines' ≡ g.out ++ lines
 
   pub due : (s t : State) (u w w' : Option (List ℕ)) (e1 : Bool) (r1 : Reads) (lines lines' : List ℕ) (g : Going s u w e1 r1 lines)
       → t ≡ record s { is_settled = t.is_settled } → HasWritten w w' lines lines' ⊎ ((lines' ≡ lines) × (w' ≡ w) × (t.is_settled ≡ true))
       → Due s t u w w' e1 r1 lines lines' g
-  unfolding Going-looked
+  unfolding Going-looked Going-written Standing-same Standing-settled
   due s t u w w' e1 r1 lines lines' g is by =
       subst (λ x. Due s x u w w' e1 r1 lines lines' g) (sym is)
       (⊎_elim
@@ -179,6 +206,8 @@ module _ (e : Engine) (u0 w0 : Option (List ℕ)) (reads0 : Reads) where
         wait = inl refl;
         start = refl;
         before = λ end before. before-written s u w e1 r1 lines g w' written.1 end before;
+        given = refl;
+        text = append-nil (g.out ++ lines);
       }))
       (λ (kept : (lines' ≡ lines) × (w' ≡ w) × (t.is_settled ≡ true)).
       subst (λ l. Due s (record s { is_settled = t.is_settled }) u w w' e1 r1 lines l g) (sym kept.0)
@@ -187,6 +216,8 @@ module _ (e : Engine) (u0 w0 : Option (List ℕ)) (reads0 : Reads) where
         wait = inr kept.2;
         start = refl;
         before = λ end before. before;
+        given = refl;
+        text = refl;
       })))
       by)
 
@@ -245,19 +276,16 @@ module _ (e : Engine) (u0 w0 : Option (List ℕ)) (reads0 : Reads) where
     MayStop Late from to = MayEnd to × Late from
 
     module _ (p : Passage) (a : AfterNext s t u v e1 e2 r1 r2 (Ok (Some p))) where
-      ms : List Marked
-      ms = given_now e s g.bytes (g.out ++ lines) g.standing t u v e1 e2 r1 r2 p a
-
       -- a passage was given, and its lines wait behind the others
-      Going-lined : Going t v w e2 r2 (lines ++ e.lines s.start ms)
-      unfolding ms
-      Going-lined = record {
+      pub Going-lined : (line : List ℕ) → e.Settled (g.standing.given ++ given_now e s g.bytes (g.out ++ lines) g.standing t u v e1 e2 r1 r2 p a ∷ []) ((g.out ++ lines) ++ line)
+          → Going t v w e2 r2 (lines ++ line)
+      Going-lined line next = record {
         bytes = g.bytes ++ a.got;
         out = g.out;
         took = Consumes-trans u0 u v g.bytes a.got g.took (kept_took _ _ _ a.grown u v a.ahead_kept);
         put = g.put;
-        standing = Standing-same e t (g.bytes ++ a.got) ((g.out ++ lines) ++ e.lines s.start ms) (g.out ++ (lines ++ e.lines s.start ms))
-            (sym (append_assoc g.out lines (e.lines s.start ms))) (Standing-next e s g.bytes (g.out ++ lines) g.standing t u v e1 e2 r1 r2 p a);
+        standing = Standing-same e t (g.bytes ++ a.got) ((g.out ++ lines) ++ line) (g.out ++ (lines ++ line))
+            (sym (append_assoc g.out lines line)) (Standing-next e s g.bytes (g.out ++ lines) g.standing t u v e1 e2 r1 r2 p a line next);
         agrees = a.agrees g.agrees;
         paid = λ open_end.
             (let few = paid_reads (p.text.now ++ t.held) false a.costs.each_gave a.costs.within
@@ -267,25 +295,30 @@ module _ (e : Engine) (u0 w0 : Option (List ℕ)) (reads0 : Reads) where
         keeps_up = keeps_now (Ok (Some p)) a;
       }
 
-      before-lined : (to : ℕ) → MayEnd to → ReadsBefore to Going-lined.keeps_up
+      before-lined : (line : List ℕ) (next : e.Settled (g.standing.given ++ given_now e s g.bytes (g.out ++ lines) g.standing t u v e1 e2 r1 r2 p a ∷ []) ((g.out ++ lines) ++ line)) (to : ℕ) → MayEnd to → ReadsBefore to (Going-lined line next).keeps_up
       unfolding Going-lined
-      before-lined to may = before_now (Ok (Some p)) a to may.0 may.1
+      before-lined line next to may = before_now (Ok (Some p)) a to may.0 may.1
 
-      lined-given : Going-lined.standing.given ≡ g.standing.given ++ ms ∷ []
-      unfolding Going-lined Standing-same ms
-      lined-given = Standing-next-given e s g.bytes (g.out ++ lines) g.standing t u v e1 e2 r1 r2 p a
+      pub lined-given : (line : List ℕ) (next : e.Settled (g.standing.given ++ given_now e s g.bytes (g.out ++ lines) g.standing t u v e1 e2 r1 r2 p a ∷ []) ((g.out ++ lines) ++ line))
+          → (Going-lined line next).standing.given ≡ g.standing.given ++ given_now e s g.bytes (g.out ++ lines) g.standing t u v e1 e2 r1 r2 p a ∷ []
+      unfolding Going-lined Standing-same
+      lined-given line next = Standing-next-given e s g.bytes (g.out ++ lines) g.standing t u v e1 e2 r1 r2 p a line next
+
+      pub lined-out : (line : List ℕ) (next : e.Settled (g.standing.given ++ given_now e s g.bytes (g.out ++ lines) g.standing t u v e1 e2 r1 r2 p a ∷ []) ((g.out ++ lines) ++ line))
+          → (Going-lined line next).out ≡ g.out
+      unfolding Going-lined
+      lined-out line next = refl
 
       -- and were written
-      pub Going-given : (w' : Option (List ℕ)) → Appends w w' (lines ++ e.lines s.start (given_now e s g.bytes (g.out ++ lines) g.standing t u v e1 e2 r1 r2 p a))
-          → Going t v w' e2 r2 []
-      unfolding ms
-      Going-given w' wrote = Going-written t v w e2 r2 (lines ++ e.lines s.start ms) Going-lined w' wrote
+      pub Going-given : (line : List ℕ) → e.Settled (g.standing.given ++ given_now e s g.bytes (g.out ++ lines) g.standing t u v e1 e2 r1 r2 p a ∷ []) ((g.out ++ lines) ++ line)
+          → (w' : Option (List ℕ)) → Appends w w' (lines ++ line) → Going t v w' e2 r2 []
+      Going-given line next w' wrote = Going-written t v w e2 r2 (lines ++ line) (Going-lined line next) w' wrote
 
-      pub Going-given-is : (w' : Option (List ℕ))
-          (wrote : Appends w w' (lines ++ e.lines s.start (given_now e s g.bytes (g.out ++ lines) g.standing t u v e1 e2 r1 r2 p a)))
-          → (Going-given w' wrote).standing.given ≡ g.standing.given ++ given_now e s g.bytes (g.out ++ lines) g.standing t u v e1 e2 r1 r2 p a ∷ []
-      unfolding Going-given ms
-      Going-given-is w' wrote = Going-written-given t v w e2 r2 (lines ++ e.lines s.start ms) Going-lined w' wrote ∙ lined-given
+      pub Going-given-is : (line : List ℕ) (next : e.Settled (g.standing.given ++ given_now e s g.bytes (g.out ++ lines) g.standing t u v e1 e2 r1 r2 p a ∷ []) ((g.out ++ lines) ++ line))
+          (w' : Option (List ℕ)) (wrote : Appends w w' (lines ++ line))
+          → (Going-given line next w' wrote).standing.given ≡ g.standing.given ++ given_now e s g.bytes (g.out ++ lines) g.standing t u v e1 e2 r1 r2 p a ∷ []
+      unfolding Going-given
+      Going-given-is line next w' wrote = Going-written-given t v w e2 r2 (lines ++ line) (Going-lined line next) w' wrote ∙ lined-given line next
 
       -- where a run goes on
       pub record GoesTo (lines' : List ℕ) (at : ℕ) : Type 0 where
@@ -295,17 +328,14 @@ module _ (e : Engine) (u0 w0 : Option (List ℕ)) (reads0 : Reads) where
         pub onward : s.start < t.start
         pub few : t.start ≤ longest_text
 
-      pub goes_to : (lines' : List ℕ) (at : ℕ) → at ≡ p.start + length p.text.now
-          → ((ms : List Marked) → s.cell ≡ e.cell → s.profile ≡ e.profile → IsPassage s ms p → lines' ≡ lines ++ e.lines p.start ms) → GoesTo lines' at
-      unfolding ms
-      goes_to lines' at end is =
+      pub goes_to : (lines' line : List ℕ) (at : ℕ) → at ≡ p.start + length p.text.now → lines' ≡ lines ++ line
+          → e.Settled (g.standing.given ++ given_now e s g.bytes (g.out ++ lines) g.standing t u v e1 e2 r1 r2 p a ∷ []) ((g.out ++ lines) ++ line) → GoesTo lines' at
+      goes_to lines' line at end same next =
           let start = start_now e s g.bytes (g.out ++ lines) g.standing t u v e1 e2 r1 r2 p a in
-          let passage = passage_now e s g.bytes (g.out ++ lines) g.standing t u v e1 e2 r1 r2 p a in
-          let same : lines' ≡ lines ++ e.lines s.start ms = is ms g.standing.cell g.standing.profile passage ∙ ap (λ n. lines ++ e.lines n ms) start in
           let lends : Lends s t p = a.answer in
           subst (λ l. GoesTo l at) (sym same) (record {
-            going = Going-lined;
-            before = before-lined;
+            going = Going-lined line next;
+            before = before-lined line next;
             is = omega (arith, end, start, a.start);
             onward = omega (arith, a.start, some_bytes_of lends.marks lends.passage.some, ap length lends.passage.text);
             few = omega (arith, a.start, lends.counted);
@@ -334,21 +364,39 @@ module _ (e : Engine) (u0 w0 : Option (List ℕ)) (reads0 : Reads) where
     pub at_the_end : AfterNext s t u v e1 e2 r1 r2 (Ok None) → (e2 ≡ true) × IsAtEnd v
     at_the_end a = let done : IsDone t = a.answer in a.agrees g.agrees done.at_end
 
-    -- the text was read to its end
-    pub ran_whole : {X : Type 0} (Late : ℕ → Type 0) (x : X) (w' : Option (List ℕ)) → Appends w w' lines → AfterNext s t u v e1 e2 r1 r2 (Ok None)
-        → Ran false u0 v w0 w' (Ends e reads0 r2 e2 v (MayStop Late) (Ok x))
-    ran_whole Late x w' wrote a =
-        let whole = run_whole e s g.bytes (g.out ++ lines) g.standing t u v e1 e2 r1 r2 a in
+    -- the text was read to its end, and what is written of all of it
+    pub ran_whole : {X : Type 0} (Late : ℕ → Type 0) (x : X) (w' : Option (List ℕ)) (put : List ℕ) → Appends w w' put → e.Whole g.standing.given (g.out ++ put)
+        → AfterNext s t u v e1 e2 r1 r2 (Ok None) → Ran false u0 v w0 w' (Ends e reads0 r2 e2 v (MayStop Late) (Ok x))
+    ran_whole Late x w' put wrote all a =
+        let whole = run_whole e s g.bytes (g.out ++ lines) g.standing t u v e1 e2 r1 r2 a (g.out ++ put) all in
         record {
           read = g.bytes ++ a.got;
-          out = g.out ++ lines;
+          out = g.out ++ put;
           took = Consumes-trans u0 u v g.bytes a.got g.took (kept_took _ _ _ a.grown u v a.ahead_kept);
-          put = Appends-trans w0 w w' g.out lines g.put wrote;
+          put = Appends-trans w0 w w' g.out put g.put wrote;
           so = record {
             comes = whole;
             in_range = λ from to may. inl (at_the_end a, whole);
-            keeps_up = keeps_then (Ok None) a lines;
-            before = λ from to may. before_then (Ok None) a lines to may.0.0 may.0.1;
+            keeps_up = keeps_then (Ok None) a put;
+            before = λ from to may. before_then (Ok None) a put to may.0.0 may.0.1;
+          };
+        }
+
+    -- the text was read to its end, and only the front was written of what is written of all of it
+    pub ran_cut_off : (X : Type 0) (all : List ℕ) → e.Whole g.standing.given all → AfterNext s t u v e1 e2 r1 r2 (Ok None) → (w' : Option (List ℕ)) (put : List ℕ) (n : ℕ)
+        → Appends w w' put → g.out ++ put ≡ take n all → Ran false u0 v w0 w' (Ends {X = X} e reads0 r2 e2 v (λ from to. MayEnd to) (Err cmd.Write))
+    ran_cut_off X all whole a w' put n wrote front =
+        let comes = front_of_all all n (at_the_end a).0 (run_whole e s g.bytes (g.out ++ lines) g.standing t u v e1 e2 r1 r2 a all whole) front in
+        record {
+          read = g.bytes ++ a.got;
+          out = g.out ++ put;
+          took = Consumes-trans u0 u v g.bytes a.got g.took (kept_took _ _ _ a.grown u v a.ahead_kept);
+          put = Appends-trans w0 w w' g.out put g.put wrote;
+          so = record {
+            comes = comes;
+            in_range = λ from to may. comes;
+            keeps_up = keeps_then (Ok None) a put;
+            before = λ from to may. before_then (Ok None) a put to may.0 may.1;
           };
         }
 
@@ -371,11 +419,11 @@ module _ (e : Engine) (u0 w0 : Option (List ℕ)) (reads0 : Reads) where
     }
 
     -- after a call that read nothing, the lines that waited were not written, or not all of them
-    pub ran_held_back : (X : Type 0) (r : Result (Option Passage) PassageFault) (a : AfterNext s t u v e1 e2 r1 r2 r) → ¬ (fault_in r ≡ Some fault.Read)
+    pub ran_held_back : Finishes e → (X : Type 0) (r : Result (Option Passage) PassageFault) (a : AfterNext s t u v e1 e2 r1 r2 r) → ¬ (fault_in r ≡ Some fault.Read)
         → (w' : Option (List ℕ)) (n : ℕ) → Appends w w' (take n lines) → Ran false u0 v w0 w' (Ends {X = X} e reads0 r2 e2 v (λ from to. MayEnd to) (Err cmd.Write))
-    ran_held_back X r a calm w' n wrote =
+    ran_held_back finishes X r a calm w' n wrote =
         let put = take n lines in
-        let comes = stopped e s g.bytes (g.out ++ lines) g.standing e2 a.got
+        let comes = stopped e s g.bytes (g.out ++ lines) g.standing finishes e2 a.got
         (λ at_end. let quiet = a.quiet at_end in (notices r a quiet.1, none_got s.held a.got (sym a.grown ∙ quiet.0))) (g.out ++ put) (length g.out + n)
         (sym (take-append-add g.out lines n)) in
         record {
@@ -392,8 +440,8 @@ module _ (e : Engine) (u0 w0 : Option (List ℕ)) (reads0 : Reads) where
         }
 
   -- nothing was read, where the segmenter could not be made
-  ran_none : (X : Type 0) (has_ended : Bool) → Ran false u0 u0 w0 w0 (Ends {X = X} e reads0 reads0 has_ended u0 (λ begin end. Unit {0}) (Err (cmd.Passage fault.Memory)))
-  ran_none X has_ended = record {
+  ran_none : e.Settled [] [] → (X : Type 0) (has_ended : Bool) → Ran false u0 u0 w0 w0 (Ends {X = X} e reads0 reads0 has_ended u0 (λ begin end. Unit {0}) (Err (cmd.Passage fault.Memory)))
+  ran_none none_settled X has_ended = record {
     read = [];
     out = [];
     took = Consumes-nil u0;
@@ -401,13 +449,13 @@ module _ (e : Engine) (u0 w0 : Option (List ℕ)) (reads0 : Reads) where
     so = record {
       comes = inl (refl, refl);
       in_range = λ begin end may. inl (refl, refl);
-      keeps_up = keeps_none e reads0;
-      before = λ begin end may. before_none e reads0 end;
+      keeps_up = keeps_none e reads0 none_settled;
+      before = λ begin end may. before_none e reads0 none_settled end;
     };
   }
 
-  ran_limit : (X : Type 0) (has_ended : Bool) → Ran false u0 u0 w0 w0 (Ends {X = X} e reads0 reads0 has_ended u0 (λ begin end. Unit {0}) (Err (cmd.Passage fault.Limit)))
-  ran_limit X has_ended = record {
+  ran_limit : e.Settled [] [] → (X : Type 0) (has_ended : Bool) → Ran false u0 u0 w0 w0 (Ends {X = X} e reads0 reads0 has_ended u0 (λ begin end. Unit {0}) (Err (cmd.Passage fault.Limit)))
+  ran_limit none_settled X has_ended = record {
     read = [];
     out = [];
     took = Consumes-nil u0;
@@ -415,20 +463,20 @@ module _ (e : Engine) (u0 w0 : Option (List ℕ)) (reads0 : Reads) where
     so = record {
       comes = (refl, refl);
       in_range = λ begin end may. (refl, refl);
-      keeps_up = keeps_none e reads0;
-      before = λ begin end may. before_none e reads0 end;
+      keeps_up = keeps_none e reads0 none_settled;
+      before = λ begin end may. before_none e reads0 none_settled end;
     };
   }
 
 -- A run by the answers of its calls
 
-module _ (e : Engine) (u0 w0 : Option (List ℕ)) (reads0 : Reads) (X : Type 0) (answer : Result X CmdFault) where
+module _ (e : Writing) (u0 w0 : Option (List ℕ)) (reads0 : Reads) (X : Type 0) (answer : Result X CmdFault) where
   -- the segmenter could not be made
-  pub run_none : (why : PassageFault) (has_ended : Bool) → answer ≡ Err (cmd.Passage why) → (why ≡ fault.Limit) ⊎ (why ≡ fault.Memory)
+  pub run_none : e.Settled [] [] → (why : PassageFault) (has_ended : Bool) → answer ≡ Err (cmd.Passage why) → (why ≡ fault.Limit) ⊎ (why ≡ fault.Memory)
       → Ran (is_failed_read answer) u0 u0 w0 w0 (Ends e reads0 reads0 has_ended u0 (λ begin end. Unit {0}) answer)
-  run_none why has_ended is one =
+  run_none none_settled why has_ended is one =
       subst (λ r. Ran (is_failed_read r) u0 u0 w0 w0 (Ends e reads0 reads0 has_ended u0 (λ begin end. Unit {0}) r)) (sym is)
-      (⊎_elim (λ limit. none limit (ran_limit e u0 w0 reads0 X has_ended)) (λ memory. none memory (ran_none e u0 w0 reads0 X has_ended)) one)
+      (⊎_elim (λ limit. none limit (ran_limit e u0 w0 reads0 none_settled X has_ended)) (λ memory. none memory (ran_none e u0 w0 reads0 none_settled X has_ended)) one)
     where
       none : {known : PassageFault} → why ≡ known
           → Ran (is_failed_read {X = X} (Err (cmd.Passage known))) u0 u0 w0 w0 (Ends {X = X} e reads0 reads0 has_ended u0 (λ begin end. Unit {0}) (Err (cmd.Passage known)))
@@ -456,9 +504,9 @@ module _ (e : Engine) (u0 w0 : Option (List ℕ)) (reads0 : Reads) (X : Type 0) 
         ended_so IsLate (Err (cmd.Passage why)) is (ran_fault e u0 w0 reads0 s t u v w e1 e2 r1 r2 lines g wait X IsLate why
         (λ from late same. late (was ∙ ap (λ f. Err f) same)) w' wrote (subst (AfterNext s t u v e1 e2 r1 r2) was a))
 
-    pub run_ended : (x : X) → r ≡ Ok None → answer ≡ Ok x → EndsSo IsLate
-    run_ended x was is =
-        ended_so IsLate (Ok x) is (ran_whole e u0 w0 reads0 s t u v w e1 e2 r1 r2 lines g wait IsLate x w' wrote (subst (AfterNext s t u v e1 e2 r1 r2) was a))
+    pub run_ended : (x : X) → r ≡ Ok None → e.Whole g.standing.given (g.out ++ lines) → answer ≡ Ok x → EndsSo IsLate
+    run_ended x was whole is =
+        ended_so IsLate (Ok x) is (ran_whole e u0 w0 reads0 s t u v w e1 e2 r1 r2 lines g wait IsLate x w' lines wrote whole (subst (AfterNext s t u v e1 e2 r1 r2) was a))
 
     pub run_out_of_memory : (p : Passage) → r ≡ Ok (Some p) → answer ≡ Err cmd.Memory → EndsSo (λ from. from ≤ s.start)
     run_out_of_memory p was is =
@@ -466,7 +514,7 @@ module _ (e : Engine) (u0 w0 : Option (List ℕ)) (reads0 : Reads) (X : Type 0) 
         (ran_memory e u0 w0 reads0 s t u v w e1 e2 r1 r2 lines g wait p (subst (AfterNext s t u v e1 e2 r1 r2) was a) X (λ from. from ≤ s.start) (λ from late. late) w' wrote)
 
 -- over the whole text
-pub whole_run : {X : Type 0} {failed : Bool} {u v w w' : Option (List ℕ)} {e : Engine} {from to : Reads} {has_ended : Bool} {unread : Option (List ℕ)} {May : ℕ → ℕ → Type 0}
+pub whole_run : {X : Type 0} {failed : Bool} {u v w w' : Option (List ℕ)} {e : Writing} {from to : Reads} {has_ended : Bool} {unread : Option (List ℕ)} {May : ℕ → ℕ → Type 0}
     {answer : Result X CmdFault} → Ran failed u v w w' (Ends e from to has_ended unread May answer) → Ran failed u v w w' (IsRun e from to has_ended answer)
 whole_run ran = record {
   read = ran.read;
@@ -477,7 +525,7 @@ whole_run ran = record {
 }
 
 -- over a range
-pub range_run : {X : Type 0} {failed : Bool} {u v w w' : Option (List ℕ)} {e : Engine} {from to : Reads} {has_ended : Bool} {unread : Option (List ℕ)} {May : ℕ → ℕ → Type 0}
+pub range_run : {X : Type 0} {failed : Bool} {u v w w' : Option (List ℕ)} {e : Writing} {from to : Reads} {has_ended : Bool} {unread : Option (List ℕ)} {May : ℕ → ℕ → Type 0}
     {answer : Result X CmdFault} → Ran failed u v w w' (Ends e from to has_ended unread May answer) → (begin end : ℕ) → May begin end
     → Ran failed u v w w' (IsRangeRun e begin end from to has_ended (IsTrue has_ended × IsAtEnd unread) answer)
 range_run ran begin end may = record {

@@ -24,11 +24,11 @@ use Rattle.lbk_cmd.specs.Acts.{Shows}
 use Rattle.lbk_cmd.specs.Devices.{Devices}
 use Rattle.lbk_cmd.specs.declared.faults.CmdFault.{CmdFault}
 use Rattle.lbk_cmd.specs.Owned.{AreOwned, AreRead, Owned, lent_as, owned_from, owned_of, owned_passage, owned_passages}
-use Rattle.lbk_cmd.specs.Run.{Engine}
+use Rattle.lbk_cmd.specs.Run.{Engine, by_passage}
 use Rattle.lbk_cmd.proofs.Breaking.{chars_scalars}
 use Rattle.lbk_cmd.proofs.Headlines.{headline, passages-same}
 use Rattle.lbk_cmd.proofs.Looping.{Going, at_the_end, Going-given, Going-given-is, Going-new, Going-new-given}
-use Rattle.lbk_cmd.proofs.Running.{given_now, passage_now, start_now}
+use Rattle.lbk_cmd.proofs.Running.{given_now, lined, passage_now, start_now}
 use Rattle.lbk_cmd.proofs.Stopping.{given_whole, run_whole}
 
 owned_same : (a b : ℕ → Cell) → AgreeOnScalars a b → (start : ℕ) (ps : List (List Marked)) → scalars (flat_map scalars_of ps) ≡ true
@@ -62,14 +62,14 @@ lent_is s ms p cell start of cell_is first =
 module _ (e : Engine) (u0 : Option (List ℕ)) (reads0 : Reads) where
   -- what the calls so far took from the reader, and the passages that they lent
   pub record Owning (s : State) (u : Option (List ℕ)) (has_ended : Bool) (reads : Reads) (items : List Owned) : Type 0 where
-    pub going : Going e u0 None reads0 s u None has_ended reads []
+    pub going : Going (by_passage e) u0 None reads0 s u None has_ended reads []
     pub list : items ≡ owned_from e.cell 0 going.standing.given
 
   pub Owning-new : (s : State) (has_ended : Bool) (items : List Owned) → s ≡ new_state e.cell e.profile e.limit → items ≡ []
       → Owning s u0 has_ended reads0 items
   Owning-new s has_ended items is none = record {
-    going = Going-new e u0 None reads0 s has_ended is;
-    list = none ∙ ap (owned_from e.cell 0) (sym (Going-new-given e u0 None reads0 s has_ended is));
+    going = Going-new (by_passage e) u0 None reads0 s has_ended is refl;
+    list = none ∙ ap (owned_from e.cell 0) (sym (Going-new-given (by_passage e) u0 None reads0 s has_ended is refl));
   }
 
   module _ (s t : State) (u v : Option (List ℕ)) (e1 e2 : Bool) (r1 r2 : Reads) (r : Result (Option Passage) PassageFault) (items : List Owned)
@@ -79,15 +79,16 @@ module _ (e : Engine) (u0 : Option (List ℕ)) (reads0 : Reads) where
         let a : AfterNext s t u v e1 e2 r1 r2 (Ok (Some p)) = subst (AfterNext s t u v e1 e2 r1 r2) was after in
         let g = o.going in
         let st = g.standing in
-        let ms = given_now e s g.bytes (g.out ++ []) st t u v e1 e2 r1 r2 p a in
+        let b = by_passage e in
+        let ms = given_now b s g.bytes (g.out ++ []) st t u v e1 e2 r1 r2 p a in
         let place : p.start ≡ 0 + length (encode_utf8_all (flat_map scalars_of st.given)) =
-        omega (arith, start_now e s g.bytes (g.out ++ []) st t u v e1 e2 r1 r2 p a, st.start, ap (λ l. length (encode_utf8_all l)) st.joined) in
+        omega (arith, start_now b s g.bytes (g.out ++ []) st t u v e1 e2 r1 r2 p a, st.start, ap (λ l. length (encode_utf8_all l)) st.joined) in
         record {
-          going = Going-given e u0 None reads0 s t u v None e1 e2 r1 r2 [] g (inl refl) p a None tt;
+          going = Going-given b u0 None reads0 s t u v None e1 e2 r1 r2 [] g (inl refl) p a (e.lines s.start ms) (lined e s g.bytes (g.out ++ []) st ms) None tt;
           list = more ∙ ap₂ (λ l x. l ++ x ∷ []) o.list
-              (lent_is s ms p e.cell _ (passage_now e s g.bytes (g.out ++ []) st t u v e1 e2 r1 r2 p a) st.cell place)
+              (lent_is s ms p e.cell _ (passage_now b s g.bytes (g.out ++ []) st t u v e1 e2 r1 r2 p a) st.cell place)
               ∙ sym (owned-snoc e.cell 0 st.given ms)
-              ∙ ap (owned_from e.cell 0) (sym (Going-given-is e u0 None reads0 s t u v None e1 e2 r1 r2 [] g (inl refl) p a None tt));
+              ∙ ap (owned_from e.cell 0) (sym (Going-given-is b u0 None reads0 s t u v None e1 e2 r1 r2 [] g (inl refl) p a (e.lines s.start ms) (lined e s g.bytes (g.out ++ []) st ms) None tt));
         }
 
     -- the text was read to its end
@@ -95,13 +96,13 @@ module _ (e : Engine) (u0 : Option (List ℕ)) (reads0 : Reads) where
     all_owned was =
         let a : AfterNext s t u v e1 e2 r1 r2 (Ok None) = subst (AfterNext s t u v e1 e2 r1 r2) was after in
         let g = o.going in
-        let end = at_the_end e u0 None reads0 s t u v None e1 e2 r1 r2 [] g (inl refl) a in
+        let end = at_the_end (by_passage e) u0 None reads0 s t u v None e1 e2 r1 r2 [] g (inl refl) a in
         record {
           bytes = g.bytes ++ a.got;
           read = Consumes-whole u0 v (g.bytes ++ a.got) (λ input. g.bytes ++ a.got ≡ input)
               (Consumes-trans u0 u v g.bytes a.got g.took (kept_took _ _ _ a.grown u v a.ahead_kept)) end.1 refl;
-          utf8 = (run_whole e s g.bytes (g.out ++ []) g.standing t u v e1 e2 r1 r2 a).utf8;
-          is = o.list ∙ ap (owned_from e.cell 0) (given_whole e s g.bytes (g.out ++ []) g.standing t u v e1 e2 r1 r2 a);
+          utf8 = (run_whole (by_passage e) s g.bytes (g.out ++ []) g.standing t u v e1 e2 r1 r2 a (g.out ++ []) g.standing.is).utf8;
+          is = o.list ∙ ap (owned_from e.cell 0) (given_whole (by_passage e) s g.bytes (g.out ++ []) g.standing t u v e1 e2 r1 r2 a);
         }
 
 -- by the cells of files

@@ -22,7 +22,7 @@ use Rattle.lbk_args.specs.declared.order.Part.{Part}
 use Rattle.lbk_cmd.specs.Engines.{engine_of}
 use Rattle.lbk_cmd.specs.declared.engine.Lines.{Lines}
 use Rattle.lbk_cmd.specs.Ranges.{AreRanges, HasPassed, IsRangeRun, ReadsBefore, end_of_ranges, lines_within, text_by_ranges, text_within, within}
-use Rattle.lbk_cmd.specs.Run.{Engine, IsWhole, is_failed_read, passages_by}
+use Rattle.lbk_cmd.specs.Run.{Engine, IsWhole, by_passage, is_failed_read, passages_by}
 use Rattle.lbk_cmd.specs.Texts.{lines_from}
 use Rattle.lbk_cmd.specs.declared.faults.CmdFault.{CmdFault}
 use Rattle.lbk_cmd.specs.Gathering.{Puts}
@@ -146,12 +146,12 @@ module _ (lines : ℕ → List Marked → List ℕ) where
       ∙ sym (append_assoc (lines start ms) (lines_from lines (start + length (text_of ms)) given) (lines_from lines (start + length (encode_utf8_all (flat_map scalars_of (ms ∷ given)))) more))
 
 -- what a run that passed its range wrote is written of any text that goes on from the bytes read
-module _ (part : Part) (e : Engine) (bytes out : List ℕ) (passed : HasPassed (within part e) part.to bytes out) where
-  pub passed-all : (more : List ℕ) → out ≡ text_within e.lines part.from part.to (passages_by e (chars (bytes ++ more)))
+module _ (part : Part) (e : Engine) (bytes out : List ℕ) (passed : HasPassed (by_passage (within part e)) part.to bytes out) where
+  pub passed-all : (more : List ℕ) → out ≡ text_within e.lines part.from part.to (passages_by (by_passage e) (chars (bytes ++ more)))
   passed-all more =
       let settled = passed.settled in
       let given = settled.given in
-      let later = passages_by e (settled.are.behind ++ chars (settled.rest ++ more)) in
+      let later = passages_by (by_passage e) (settled.are.behind ++ chars (settled.rest ++ more)) in
       let all : chars (bytes ++ more) ≡ settled.scalars ++ chars (settled.rest ++ more) =
       ap (λ l. chars (l ++ more)) settled.begins
       ∙ ap chars (append_assoc (encode_utf8_all settled.scalars) settled.rest more)
@@ -162,24 +162,24 @@ module _ (part : Part) (e : Engine) (bytes out : List ℕ) (passed : HasPassed (
       ∙ ap (λ l. lines_from (lines_within part e.lines) 0 given ++ l)
       (sym (all-behind e.lines part.from part.to (0 + length (encode_utf8_all (flat_map scalars_of given))) later (let far = passed.reaches in omega (arith, far))))
       ∙ sym (lines-append (lines_within part e.lines) 0 given later)
-      ∙ ap (λ l. lines_from (lines_within part e.lines) 0 l) (sym (settled.are.first (chars (settled.rest ++ more))) ∙ ap (passages_by e) (sym all))
+      ∙ ap (λ l. lines_from (lines_within part e.lines) 0 l) (sym (settled.are.first (chars (settled.rest ++ more))) ∙ ap (passages_by (by_passage e)) (sym all))
 
 -- what is known of a run over a reader that tells its bytes
 pub known_range : (part : Part) (e : Engine) (reads reads' : Reads) (has_ended : Bool) (answer : Result (Unit {0}) CmdFault) (u u' w w' : Option (List ℕ))
-    → Ran (is_failed_read answer) u u' w w' (IsRangeRun (within part e) part.from part.to reads reads' has_ended (IsTrue has_ended × IsAtEnd u') answer)
-    → OnOk answer (IfSome u (λ input. IsUtf8 input → Appends w w' (text_within e.lines part.from part.to (passages_by e (chars input)))))
+    → Ran (is_failed_read answer) u u' w w' (IsRangeRun (by_passage (within part e)) part.from part.to reads reads' has_ended (IsTrue has_ended × IsAtEnd u') answer)
+    → OnOk answer (IfSome u (λ input. IsUtf8 input → Appends w w' (text_within e.lines part.from part.to (passages_by (by_passage e) (chars input)))))
 known_range part e reads reads' has_ended (Err why) u u' w w' ran = tt
 known_range part e reads reads' has_ended (Ok x) None u' w w' ran = tt
 known_range part e reads reads' has_ended (Ok x) (Some input) None w w' ran = absurd ran.took
 known_range part e reads reads' has_ended (Ok x) (Some input) (Some left) w w' ran = λ utf8. subst (Appends w w') is ran.put
   where
-    is : ran.out ≡ text_within e.lines part.from part.to (passages_by e (chars input))
+    is : ran.out ≡ text_within e.lines part.from part.to (passages_by (by_passage e) (chars input))
     is = ⊎_elim
-        (λ (whole : (IsTrue has_ended × IsAtEnd (Some left)) × IsWhole (within part e) ran.read ran.out).
-        whole.1.is ∙ ap (λ l. text_within e.lines part.from part.to (passages_by e (chars l)))
+        (λ (whole : (IsTrue has_ended × IsAtEnd (Some left)) × IsWhole (by_passage (within part e)) ran.read ran.out).
+        whole.1.is ∙ ap (λ l. text_within e.lines part.from part.to (passages_by (by_passage e) (chars l)))
         (sym (append-nil ran.read) ∙ ap (λ l. ran.read ++ l) (sym whole.0.1) ∙ sym ran.took))
-        (λ (passed : HasPassed (within part e) part.to ran.read ran.out).
-        passed-all part e ran.read ran.out passed left ∙ ap (λ l. text_within e.lines part.from part.to (passages_by e (chars l))) (sym ran.took))
+        (λ (passed : HasPassed (by_passage (within part e)) part.to ran.read ran.out).
+        passed-all part e ran.read ran.out passed left ∙ ap (λ l. text_within e.lines part.from part.to (passages_by (by_passage e) (chars l))) (sym ran.took))
         ran.so.comes
 
 -- the engine of these lines, for a range
@@ -188,9 +188,9 @@ engine_in part lines cell profile limit = within part (engine_of lines cell prof
 
 -- a run that stops where the passages given reach the end of its range, once the lines that waited were written
 pub range_passed : (e : Engine) (u0 w0 : Option (List ℕ)) (reads0 : Reads) (s : State) (u w : Option (List ℕ)) (has_ended : Bool) (reads : Reads)
-    (lines : List ℕ) (from to : ℕ) → (g : Going e u0 w0 reads0 s u w has_ended reads lines) → ReadsBefore to g.keeps_up → to ≤ s.start
+    (lines : List ℕ) (from to : ℕ) → (g : Going (by_passage e) u0 w0 reads0 s u w has_ended reads lines) → ReadsBefore to g.keeps_up → to ≤ s.start
     → (w' : Option (List ℕ)) → Appends w w' lines
-    → Ran false u0 u w0 w' (IsRangeRun {X = Unit {0}} e from to reads0 reads has_ended (IsTrue has_ended × IsAtEnd u) (Ok (tt {0})))
+    → Ran false u0 u w0 w' (IsRangeRun {X = Unit {0}} (by_passage e) from to reads0 reads has_ended (IsTrue has_ended × IsAtEnd u) (Ok (tt {0})))
 range_passed e u0 w0 reads0 s u w has_ended reads lines from to g before past w' wrote = record {
   read = g.bytes;
   out = g.out ++ lines;
@@ -198,11 +198,11 @@ range_passed e u0 w0 reads0 s u w has_ended reads lines from to g before past w'
   put = Appends-trans w0 w w' g.out lines g.put wrote;
   so = record {
     comes = ⊎_elim
-        (λ (ended : (s.is_ended ≡ true) × IsWhole e g.bytes (g.out ++ lines)). inl (g.agrees ended.0, ended.1))
-        (λ (settled : HasPassed e to g.bytes (g.out ++ lines)). inr settled)
-        (passed e s g.bytes (g.out ++ lines) g.standing to past);
-    keeps_up = keeps_written e reads0 reads g.bytes g.out lines g.keeps_up;
-    no_further = before_written e reads0 reads g.bytes g.out lines g.keeps_up to before;
+        (λ (ended : (s.is_ended ≡ true) × IsWhole (by_passage e) g.bytes (g.out ++ lines)). inl (g.agrees ended.0, ended.1))
+        (λ (settled : HasPassed (by_passage e) to g.bytes (g.out ++ lines)). inr settled)
+        (passed (by_passage e) s g.bytes (g.out ++ lines) g.standing to g.standing.is past);
+    keeps_up = keeps_written (by_passage e) reads0 reads g.bytes g.out lines g.keeps_up;
+    no_further = before_written (by_passage e) reads0 reads g.bytes g.out lines g.keeps_up to before;
   };
 }
 

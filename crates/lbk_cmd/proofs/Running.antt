@@ -11,7 +11,7 @@ use Rattle.lbk_passage.specs.State.{State, new_state}
 use Rattle.lbk_passage.specs.Next.{AfterNext, GoesOn, IsLast, IsPassage, Lends}
 use Rattle.lbk_passage.specs.declared.passage.Passage.{Passage}
 use Rattle.lbk_cmd.specs.Texts.{lines_from}
-use Rattle.lbk_cmd.specs.Run.{Engine, passages_by, written_by, AreWithin}
+use Rattle.lbk_cmd.specs.Run.{Engine, Writing, by_passage, passages_by, written_by, AreWithin}
 
 pub some_bytes : (c : ℕ) → 1 ≤ length (encode_utf8 c)
 some_bytes c = let bounds = len_utf8_bounds c in omega (arith, length-encode c, bounds.0)
@@ -44,7 +44,14 @@ first_of : (ms : List Marked) → 0 < length ms → (c : ℕ) × (cs : List ℕ)
 first_of [] some = absurd (omega (arith, some))
 first_of (m ∷ ms) some = (m.scalar, scalars_of ms, refl)
 
-module _ (e : Engine) where
+-- whatever was written of the passages that are settled, more of it is all that is written of them
+abbrev pub Finishes : Writing → Type 0
+Finishes e = (given : List (List Marked)) (out : List ℕ) → e.Settled given out → (later : List ℕ) × e.Whole given (out ++ later)
+
+pub lines_finish : (e : Engine) → Finishes (by_passage e)
+lines_finish e given out is = ([], append-nil out ∙ is)
+
+module _ (e : Writing) where
   -- what stands behind the passages given: none was given, a scalar follows that is held, or the text ended
   pub data Stands (s : State) (scalars : List ℕ) (given : List (List Marked)) : Type 0 where
     fresh : scalars ≡ [] → given ≡ [] → Stands s scalars given
@@ -67,12 +74,12 @@ module _ (e : Engine) where
     pub few : s.start ≤ longest_text
     pub joined : flat_map scalars_of given ≡ scalars
     pub within : AreWithin e given
-    pub is : out ≡ written_by e given
+    pub is : e.Settled given out
     pub stands : Stands s scalars given
 
   -- before any call
-  pub Standing-new : (s : State) → s ≡ new_state e.cell e.profile e.limit → Standing s [] []
-  Standing-new s is = record {
+  pub Standing-new : (s : State) → s ≡ new_state e.cell e.profile e.limit → e.Settled [] [] → Standing s [] []
+  Standing-new s is none_settled = record {
     scalars = [];
     given = [];
     cell = ap (λ (t : State). t.cell) is;
@@ -85,13 +92,13 @@ module _ (e : Engine) where
     few = let none = ap (λ (t : State). t.start) is in omega (arith, none);
     joined = refl;
     within = tt;
-    is = refl;
+    is = none_settled;
     stands = fresh refl refl;
   }
 
-  pub Standing-new-given : (s : State) (is : s ≡ new_state e.cell e.profile e.limit) → (Standing-new s is).given ≡ []
+  pub Standing-new-given : (s : State) (is : s ≡ new_state e.cell e.profile e.limit) (none_settled : e.Settled [] []) → (Standing-new s is none_settled).given ≡ []
   unfolding Standing-new
-  Standing-new-given s is = refl
+  Standing-new-given s is none_settled = refl
 
   -- the same of equal text
   unfoldable pub Standing-same : (s : State) (bytes out out' : List ℕ) → out' ≡ out → Standing s bytes out → Standing s bytes out'
@@ -108,12 +115,12 @@ module _ (e : Engine) where
     few = st.few;
     joined = st.joined;
     within = st.within;
-    is = same ∙ st.is;
+    is = subst (e.Settled st.given) (sym same) st.is;
     stands = st.stands;
   }
 
   -- whether the next passage was found already
-  pub Standing-settled : (s : State) (is_settled : Bool) (bytes out : List ℕ) → Standing s bytes out → Standing (record s { is_settled = is_settled }) bytes out
+  unfoldable pub Standing-settled : (s : State) (is_settled : Bool) (bytes out : List ℕ) → Standing s bytes out → Standing (record s { is_settled = is_settled }) bytes out
   Standing-settled s is_settled bytes out st = record {
     scalars = st.scalars;
     given = st.given;
@@ -209,9 +216,9 @@ module _ (e : Engine) where
             ∙ ap (λ l. st.given ++ l) (sym (by_engine (scalars_of lent.marks)) ∙ h.first)))
             lent.comes.follows
 
-        pub Standing-next : Standing t (bytes ++ a.got) (out ++ e.lines s.start given_now)
+        pub Standing-next : (line : List ℕ) → e.Settled (st.given ++ given_now ∷ []) (out ++ line) → Standing t (bytes ++ a.got) (out ++ line)
         unfolding given_now lent
-        Standing-next = record {
+        Standing-next line next = record {
           scalars = st.scalars ++ scalars_of lent.marks;
           given = st.given ++ lent.marks ∷ [];
           cell = a.alike.cell ∙ st.cell;
@@ -226,17 +233,13 @@ module _ (e : Engine) where
           joined = flat_map-append scalars_of st.given (lent.marks ∷ []) ∙ ap₂ (λ l m. l ++ m) st.joined (append-nil (scalars_of lent.marks));
           within = all-snoc (λ ms. length (text_of ms) ≤ e.limit) st.given lent.marks st.within
               (let short = lent.comes.within in omega (arith, short, a.alike.limit, st.limit));
-          is = ap (λ l. l ++ e.lines s.start lent.marks) st.is
-              ∙ ap (λ n. written_by e st.given ++ e.lines n lent.marks)
-              (st.start ∙ ap (λ l. length (encode_utf8_all l)) (sym st.joined)
-              ∙ (let e0 : length (encode_utf8_all (flat_map scalars_of st.given)) ≡ 0 + length (encode_utf8_all (flat_map scalars_of st.given)) = omega arith in e0))
-              ∙ sym (lines_from-snoc e.lines 0 st.given lent.marks);
+          is = next;
           stands = stands_now;
         }
 
-        pub Standing-next-given : Standing-next.given ≡ st.given ++ given_now ∷ []
+        pub Standing-next-given : (line : List ℕ) (next : e.Settled (st.given ++ given_now ∷ []) (out ++ line)) → (Standing-next line next).given ≡ st.given ++ given_now ∷ []
         unfolding Standing-next given_now lent
-        Standing-next-given = refl
+        Standing-next-given line next = refl
 
         -- the marks of the passage are those that an engine writes by
         pub passage_now : IsPassage s given_now p
@@ -246,3 +249,13 @@ module _ (e : Engine) where
         pub start_now : p.start ≡ s.start
         unfolding lent
         start_now = lent.start
+
+-- the lines of a passage more
+pub lined : (e : Engine) (s : State) (bytes out : List ℕ) (st : Standing (by_passage e) s bytes out) (ms : List Marked)
+    → out ++ e.lines s.start ms ≡ written_by e (st.given ++ ms ∷ [])
+lined e s bytes out st ms =
+    ap (λ l. l ++ e.lines s.start ms) st.is
+    ∙ ap (λ n. written_by e st.given ++ e.lines n ms)
+    (st.start ∙ ap (λ l. length (encode_utf8_all l)) (sym st.joined)
+    ∙ (let e0 : length (encode_utf8_all (flat_map scalars_of st.given)) ≡ 0 + length (encode_utf8_all (flat_map scalars_of st.given)) = omega arith in e0))
+    ∙ sym (lines_from-snoc e.lines 0 st.given ms)

@@ -1,5 +1,5 @@
 -- Where a run of an engine ends.
-use Rattle.std.proofs.Common.{◌≡◌, ℕ, ◌+◌, ◌-◌, ◌<◌, ◌≤◌, Bool, true, ◌⊎◌, List, [], ◌∷◌, ◌++◌, length, take, None, Option, Result, Ok, Err, IsUtf8, encode_utf8, encode_utf8_all, chars, refl, sym, ap, subst, ◌∙◌, arith, inl, inr, ⊎_elim, length-append, length-take, append_assoc, append-nil}
+use Rattle.std.proofs.Common.{◌≡◌, ℕ, zero, suc, ◌+◌, ◌-◌, ◌<◌, ◌≤◌, Bool, true, ◌⊎◌, List, [], ◌∷◌, ◌++◌, length, take, None, Option, Result, Ok, Err, IsUtf8, encode_utf8, encode_utf8_all, chars, refl, sym, ap, subst, ◌∙◌, arith, inl, inr, ⊎_elim, length-append, length-take, append_assoc, append-nil}
 use Rattle.std.specs.List.{flat_map}
 use Rattle.std.proofs.Math.Seq.{take-append-add}
 use Rattle.std.proofs.lemmas.Bool.{false≢true}
@@ -18,11 +18,17 @@ use Rattle.lbk_passage.specs.declared.faults.PassageFault.TheVariants as fault
 use Rattle.lbk_passage.specs.declared.passage.Passage.{Passage as LentPassage}
 use Rattle.lbk_passage.proofs.Marking.{begins_with_all}
 use Rattle.lbk_cmd.specs.Ranges.{HasPassed, RangeComesTo, next_start}
-use Rattle.lbk_cmd.specs.Run.{Engine, passages_by, written_by, AreWithin, IsWhole, AreGiven, IsSettled, IsHeldUp, AreAll, ComesTo, segmenter_of}
+use Rattle.lbk_cmd.specs.Run.{Writing, passages_by, AreWithin, IsWhole, AreGiven, IsSettled, IsHeldUp, AreAll, ComesTo, segmenter_of}
 use Rattle.lbk_cmd.specs.declared.faults.CmdFault.TheVariants.{Passage}
-use Rattle.lbk_cmd.proofs.Running.{some_bytes, Stands, fresh, goes_on, ended, Standing, onward}
+use Rattle.lbk_cmd.proofs.Running.{Finishes, some_bytes, Stands, fresh, goes_on, ended, Standing, onward}
 
-module _ (e : Engine) where
+-- the front of some bytes is one of these and more
+pub front_of : (n : ℕ) (out later : List ℕ) → (k : ℕ) × (take n out ≡ take k (out ++ later))
+front_of zero out later = (0, refl)
+front_of (suc n) [] later = (0, refl)
+front_of (suc n) (x ∷ out) later = let rest = front_of n out later in (suc rest.0, ap (λ l. x ∷ l) rest.1)
+
+module _ (e : Writing) where
   no_passages : passages_by e [] ≡ []
   unfolding passages
   no_passages = refl
@@ -38,8 +44,8 @@ module _ (e : Engine) where
     within = tt;
   }
 
-  unfoldable pub settled_none : IsSettled e [] []
-  settled_none = record { scalars = []; rest = []; begins = refl; utf8 = IsUtf8-nil; few = omega arith; given = []; are = none_given; is = refl }
+  unfoldable pub settled_none : e.Settled [] [] → IsSettled e [] []
+  settled_none none = record { scalars = []; rest = []; begins = refl; utf8 = IsUtf8-nil; few = omega arith; given = []; are = none_given; is = none }
 
   module _ (s : State) (bytes out : List ℕ) (st : Standing e s bytes out) where
     -- nothing was given
@@ -52,7 +58,7 @@ module _ (e : Engine) where
       few = omega arith;
       given = [];
       are = none_given;
-      is = st.is ∙ ap (written_by e) no_given;
+      is = subst (λ (g : List (List Marked)). e.Settled g out) no_given st.is;
     }
 
     -- a scalar follows what was given
@@ -121,35 +127,37 @@ module _ (e : Engine) where
               (are ∙ ap (λ l. encode_utf8_all l ++ behind) is ∙ append_assoc (encode_utf8 c) (encode_utf8_all cs) behind)
 
     -- the text ended
-    whole_at : (all : List ℕ) → all ≡ encode_utf8_all st.scalars → passages_by e st.scalars ≡ st.given → IsWhole e all out
-    whole_at all is given =
+    whole_at : (all text : List ℕ) → all ≡ encode_utf8_all st.scalars → passages_by e st.scalars ≡ st.given → e.Whole st.given text → IsWhole e all text
+    whole_at all text is given whole =
         let scalars_are : chars all ≡ st.scalars = sym (chars_from_encodes st.scalars all (subst IsUtf8 (sym is) st.utf8) (sym is)) in
         record {
           utf8 = subst IsUtf8 (sym is) st.utf8;
           few = omega (arith, ap length is, st.start, st.few);
           within = subst (AreWithin e) (sym (ap (passages_by e) scalars_are ∙ given)) st.within;
-          is = st.is ∙ ap (written_by e) (sym (ap (passages_by e) scalars_are ∙ given));
+          is = subst (λ (g : List (List Marked)). e.Whole g text) (sym (ap (passages_by e) scalars_are ∙ given)) whole;
         }
 
     -- the front of what is written of the passages given; more may have been read behind them
-    pub stopped : (has_ended : Bool) (got : List ℕ) → (s.is_ended ≡ true → (has_ended ≡ true) × (got ≡ [])) → (put : List ℕ) (n : ℕ) → put ≡ take n out
+    pub stopped : Finishes e → (has_ended : Bool) (got : List ℕ) → (s.is_ended ≡ true → (has_ended ≡ true) × (got ≡ [])) → (put : List ℕ) (n : ℕ) → put ≡ take n out
         → IsStopped (IsSettled e) (IsWhole e) (has_ended ≡ true) (bytes ++ got) put
-    stopped has_ended got notices put n front = by st.stands
+    stopped finishes has_ended got notices put n front = by st.stands
       where
         by : Stands e s st.scalars st.given → IsStopped (IsSettled e) (IsWhole e) (has_ended ≡ true) (bytes ++ got) put
         by (fresh none no_given) = midway bytes got out n refl (settled_fresh no_given) front
         by (goes_on next rest held utf8 near first) = midway bytes got out n refl (settled_on next rest held utf8 near first) front
         by (ended held is_at_end given) =
             let at = notices is_at_end in
-            at_end out n at.0
-            (whole_at (bytes ++ got)
+            let all = finishes st.given out st.is in
+            let fewer = front_of n out all.0 in
+            at_end (out ++ all.0) fewer.0 at.0
+            (whole_at (bytes ++ got) (out ++ all.0)
             (ap (λ l. bytes ++ l) at.1 ∙ append-nil bytes ∙ st.bytes_are ∙ ap (λ l. encode_utf8_all st.scalars ++ l) held ∙ append-nil (encode_utf8_all st.scalars))
-            given) front
+            given all.1) (front ∙ fewer.1)
 
     -- the passages given reach up to `to`, or are all of the text
-    pub passed : (to : ℕ) → to ≤ s.start → ((s.is_ended ≡ true) × IsWhole e bytes out) ⊎ HasPassed e to bytes out
+    pub passed : (to : ℕ) → e.Whole st.given out → to ≤ s.start → ((s.is_ended ≡ true) × IsWhole e bytes out) ⊎ HasPassed e to bytes out
     unfolding settled_fresh settled_on
-    passed to past = by st.stands
+    passed to whole past = by st.stands
       where
         by : Stands e s st.scalars st.given → ((s.is_ended ≡ true) × IsWhole e bytes out) ⊎ HasPassed e to bytes out
         by (fresh none no_given) = inr (record {
@@ -161,7 +169,7 @@ module _ (e : Engine) where
           reaches = let long = ap (λ l. length (encode_utf8_all l)) st.joined in omega (arith, past, st.start, long);
         })
         by (ended held is_at_end given) =
-            inl (is_at_end, whole_at bytes (st.bytes_are ∙ ap (λ l. encode_utf8_all st.scalars ++ l) held ∙ append-nil (encode_utf8_all st.scalars)) given)
+            inl (is_at_end, whole_at bytes out (st.bytes_are ∙ ap (λ l. encode_utf8_all st.scalars ++ l) held ∙ append-nil (encode_utf8_all st.scalars)) given whole)
 
     module _ (t : State) (u v : Option (List ℕ)) (e1 e2 : Bool) (r1 r2 : Reads) where
       -- the text was read to its end
@@ -183,8 +191,8 @@ module _ (e : Engine) where
                 absurd (omega (arith, some, ap length none_left, length-append s.held a.got, ap length held, length-append (encode_utf8 next) rest))
             by (ended held is_at_end given) = given
 
-        pub run_whole : IsWhole e (bytes ++ a.got) out
-        run_whole = whole_at (bytes ++ a.got) all_read all_given
+        pub run_whole : (text : List ℕ) → e.Whole st.given text → IsWhole e (bytes ++ a.got) text
+        run_whole text whole = whole_at (bytes ++ a.got) text all_read all_given whole
 
         -- the passages given are all of the text
         pub given_whole : st.given ≡ passages_by e (chars (bytes ++ a.got))

@@ -12,8 +12,10 @@ use Rattle.lbk_passage.specs.declared.faults.PassageFault.{PassageFault}
 use Rattle.lbk_notation.specs.Replay.{IsReplayRun, IsReplayed, fault_in, is_read_fault}
 use Rattle.lbk_notation.specs.Replay as replay
 use Rattle.lbk_cmd.specs.Engines.{engine_of, lines_of, marking, segmenting, showing}
-use Rattle.lbk_cmd.specs.Run.{Engine as TextEngine, IsRun, failed_reads_with, failed_writes_with, is_failed_read}
+use Rattle.lbk_cmd.specs.Run.{Engine as TextEngine, IsRun, Writing, by_passage, failed_reads_with, failed_writes_with, is_failed_read}
 use Rattle.lbk_cmd.specs.Ranges.{RangeRuns}
+use Rattle.lbk_cmd.specs.Chunk.{AreLinesOf, chunking, limits_of}
+use Rattle.lbk_chunks.specs.declared.chunk.Limits.{Limits}
 use Rattle.lbk_cmd.specs.Titles.{RunsNamed}
 use Rattle.lbk_cmd.specs.Texts.{lines_from, segment_text, show_text, signed_text}
 use Rattle.lbk_rules.specs.CellPages.{page_cell}
@@ -25,7 +27,7 @@ use Rattle.lbk_notation.specs.declared.findings.ReplayFault.{ReplayFault}
 use Rattle.lbk_notation.specs.declared.marks.Form.{Form}
 use Rattle.lbk_notation.specs.declared.marks.Form.TheVariants.{Plain, Kinds}
 use Rattle.lbk_args.specs.declared.order.Engine.{Engine}
-use Rattle.lbk_args.specs.declared.order.Engine.TheVariants.{Mark, Show, Segment, Replay}
+use Rattle.lbk_args.specs.declared.order.Engine.TheVariants.{Mark, Show, Segment, Chunk, Replay}
 use Rattle.lbk_args.specs.declared.order.Part.{Part}
 use Rattle.lbk_args.specs.Command.{default_limit}
 use Rattle.lbk_args.specs.Task.{Task}
@@ -43,10 +45,9 @@ use Rattle.lbk_cmd.specs.Devices.{Devices}
 use Rattle.lbk_cmd.specs.Operands.{Reads, ReadsAlone, Standing}
 use Rattle.lbk_cmd.specs.Ending.{ending_of_files, ending_of_replay, ending_of_stop, ending_of_text}
 
--- what `mark`, `show` and `segment` do where they differ only in the text that they write: to the devices, with the
--- answer
-pub record TextRuns (text : List ℕ → List ℕ) (engine : TextEngine) (before after : Devices) (answer : Result (Unit {0}) CmdFault) : Type 0 where
-  pub shown : OnOk answer (IfSome before.unread (λ input. IsUtf8 input × Appends before.written after.written (text input)))
+-- what the engines over texts do where they differ only in what they write: to the devices, with the answer
+pub record TextRuns (Written : List ℕ → Option (List ℕ) → Option (List ℕ) → Type 0) (engine : Writing) (before after : Devices) (answer : Result (Unit {0}) CmdFault) : Type 0 where
+  pub shown : OnOk answer (IfSome before.unread (λ input. IsUtf8 input × Written input before.written after.written))
   pub ended : OnOk answer (IsTrue after.has_ended × IsAtEnd after.unread)
   pub run : Ran (is_failed_read answer) before.unread after.unread before.written after.written (IsRun engine before.reads after.reads after.has_ended answer)
   pub reads : after.reads.count ≤ before.reads.count + (longest_text + 1)
@@ -57,16 +58,26 @@ pub record TextRuns (text : List ℕ → List ℕ) (engine : TextEngine) (before
 -- the same, by the lines that are written of each passage
 abbrev pub Writes : Lines → (ℕ → Cell) → ℕ → Profile → Devices → Devices → Result (Unit {0}) CmdFault → Type 0
 Writes lines cell limit profile =
-    TextRuns (λ input. lines_from (lines_of lines cell) 0 (passages profile cell (chars input))) (engine_of lines cell profile limit)
+    TextRuns (λ input before after. Appends before after (lines_from (lines_of lines cell) 0 (passages profile cell (chars input))))
+    (by_passage (engine_of lines cell profile limit))
 
 abbrev pub Marks : List ℕ → (ℕ → Cell) → ℕ → Profile → Devices → Devices → Result (Unit {0}) CmdFault → Type 0
-Marks mark cell limit profile = TextRuns (λ input. signed_text mark cell (passages profile cell (chars input))) (marking mark cell profile limit)
+Marks mark cell limit profile =
+    TextRuns (λ input before after. Appends before after (signed_text mark cell (passages profile cell (chars input)))) (by_passage (marking mark cell profile limit))
 
 abbrev pub Shows : (ℕ → Cell) → ℕ → Profile → Devices → Devices → Result (Unit {0}) CmdFault → Type 0
-Shows cell limit profile = TextRuns (λ input. show_text (passages profile cell (chars input))) (showing cell profile limit)
+Shows cell limit profile =
+    TextRuns (λ input before after. Appends before after (show_text (passages profile cell (chars input)))) (by_passage (showing cell profile limit))
 
 abbrev pub Segments : (ℕ → Cell) → ℕ → Profile → Devices → Devices → Result (Unit {0}) CmdFault → Type 0
-Segments cell limit profile = TextRuns (λ input. segment_text cell (passages profile cell (chars input))) (segmenting cell profile limit)
+Segments cell limit profile =
+    TextRuns (λ input before after. Appends before after (segment_text cell (passages profile cell (chars input)))) (by_passage (segmenting cell profile limit))
+
+-- `chunk`, over the chunks of a range, if there is one
+abbrev pub Chunks : Option Part → Limits → (ℕ → Cell) → ℕ → Profile → Devices → Devices → Result (Unit {0}) CmdFault → Type 0
+Chunks range limits cell limit profile =
+    TextRuns (λ input before after. (out : List ℕ) × AreLinesOf range limits cell (passages profile cell (chars input)) out × Appends before after out)
+    (chunking range limits cell profile limit)
 
 -- what `replay` does
 pub record Replays (cell : ℕ → Cell) (form : Form) (profile : Profile) (before after : Devices) (answer : Result Report ReplayFault) : Type 0 where
@@ -94,6 +105,11 @@ ShowsSamples before after ending =
     ⊎ ((cell : ℕ → Cell) × AreSampleCells cell
     × ((answer : Result (Unit {0}) CmdFault) × Shows cell default_limit First before after answer × (ending ≡ ending_of_text answer)))
 
+-- `chunk` runs, and the run ends as its answer says
+abbrev pub ChunksEnd : Option Part → Limits → (ℕ → Cell) → ℕ → Profile → Devices → Devices → Ending → Type 0
+ChunksEnd range limits cell limit profile before after ending =
+    (answer : Result (Unit {0}) CmdFault) × Chunks range limits cell limit profile before after answer × (ending ≡ ending_of_text answer)
+
 -- the engine runs with its option, `mark` with this sign, and the run ends as its answer says
 abbrev pub EngineRuns : Engine → List ℕ → Profile → (ℕ → Cell) → Devices → Devices → Ending → Type 0
 EngineRuns (Mark limit) mark profile cell before after ending =
@@ -102,6 +118,7 @@ EngineRuns (Show limit) mark profile cell before after ending =
     (answer : Result (Unit {0}) CmdFault) × Shows cell limit profile before after answer × (ending ≡ ending_of_text answer)
 EngineRuns (Segment limit) mark profile cell before after ending =
     (answer : Result (Unit {0}) CmdFault) × Segments cell limit profile before after answer × (ending ≡ ending_of_text answer)
+EngineRuns (Chunk limit sizes) mark profile cell before after ending = ChunksEnd None (limits_of sizes) cell limit profile before after ending
 EngineRuns (Replay kinds) mark profile cell before after ending =
     (answer : Result Report ReplayFault) × Replays cell (form_of kinds) profile before after answer × (ending ≡ ending_of_replay answer)
 
@@ -116,6 +133,7 @@ RunsOver None engine mark profile cell = EngineRuns engine mark profile cell
 RunsOver (Some part) (Mark limit) mark profile cell = RangeEnds part (marking mark cell profile limit)
 RunsOver (Some part) (Show limit) mark profile cell = RangeEnds part (showing cell profile limit)
 RunsOver (Some part) (Segment limit) mark profile cell = RangeEnds part (segmenting cell profile limit)
+RunsOver (Some part) (Chunk limit sizes) mark profile cell = ChunksEnd (Some part) (limits_of sizes) cell limit profile
 RunsOver (Some part) (Replay kinds) mark profile cell = EngineRuns (Replay kinds) mark profile cell
 
 -- what a task runs over the text of a name, by cells

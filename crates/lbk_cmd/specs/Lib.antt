@@ -10,6 +10,7 @@ pub mod Devices
 pub mod Operands
 pub mod MemoryTexts
 pub mod Ranges
+pub mod Chunk
 pub mod Titles
 pub mod Acts
 pub mod Headline
@@ -23,3 +24,5 @@ pub mod Gathering
 pub mod Signing
 pub mod ReadBack
 pub mod Placing
+pub mod Waiting
+pub mod Chunking

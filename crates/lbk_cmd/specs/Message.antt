@@ -16,7 +16,7 @@ use Rattle.lbk_notation.specs.declared.findings.ReplayFault.TheVariants as repla
 use Rattle.lbk_args.specs.Command.{default_limit}
 use Rattle.lbk_args.specs.OneLine.{one_line}
 use Rattle.lbk_args.specs.declared.order.Engine.{Engine}
-use Rattle.lbk_args.specs.declared.order.Engine.TheVariants.{Mark, Show, Segment, Replay}
+use Rattle.lbk_args.specs.declared.order.Engine.TheVariants.{Mark, Show, Segment, Chunk, Replay}
 use Rattle.lbk_args.specs.declared.order.FileName.{FileName}
 use Rattle.lbk_args.specs.declared.order.FileName.TheVariants.{Given, InFolder}
 use Rattle.lbk_args.specs.declared.order.FileNames.{FileNames}
@@ -96,6 +96,7 @@ abbrev pub limit_of_engine : Engine → Option ℕ
 limit_of_engine (Mark limit) = Some limit
 limit_of_engine (Show limit) = Some limit
 limit_of_engine (Segment limit) = Some limit
+limit_of_engine (Chunk limit sizes) = Some limit
 limit_of_engine (Replay kinds) = None
 
 abbrev pub limit_of : Caller → Option ℕ

@@ -15,7 +15,8 @@ use Rattle.lbk_passage.specs.declared.faults.PassageFault.{PassageFault}
 use Rattle.lbk_passage.specs.declared.faults.PassageFault.TheVariants as passage
 use Rattle.lbk_args.specs.declared.order.Part.{Part}
 use Rattle.lbk_cmd.specs.Devices.{Devices}
-use Rattle.lbk_cmd.specs.Run.{ComesTo, Engine, IsHeldUp, IsRefused, IsSettled, IsWhole, KeepsUp, failed_reads_with}
+use Rattle.lbk_cmd.specs.Run.{ComesTo, Engine, IsHeldUp, IsRefused, IsSettled, IsWhole, KeepsUp, Writing, by_passage}
+use Rattle.lbk_cmd.specs.Run.{failed_reads_with}
 use Rattle.lbk_cmd.specs.Run.{failed_writes_with, is_failed_read, passages_by}
 use Rattle.lbk_cmd.specs.Texts.{lines_from}
 use Rattle.lbk_cmd.specs.declared.faults.CmdFault.{CmdFault}
@@ -52,22 +53,22 @@ end_of_ranges from [] = from
 end_of_ranges from (to ∷ tos) = end_of_ranges to tos
 
 -- the byte behind the passages that are settled, where the next one begins
-abbrev pub next_start : {e : Engine} {bytes out : List ℕ} → IsSettled e bytes out → ℕ
+abbrev pub next_start : {e : Writing} {bytes out : List ℕ} → IsSettled e bytes out → ℕ
 next_start settled = length (encode_utf8_all (flat_map scalars_of settled.given))
 
 -- the range was passed: `out` is written of passages that some first scalars of the bytes settle, and that reach up
 -- to byte `to`
-pub record HasPassed (e : Engine) (to : ℕ) (bytes out : List ℕ) : Type 0 where
+pub record HasPassed (e : Writing) (to : ℕ) (bytes out : List ℕ) : Type 0 where
   pub settled : IsSettled e bytes out
   pub reaches : to ≤ next_start settled
 
 -- a fault of the reader or of the text comes of a passage that begins before byte `to`
-pub record IsRefusedBefore (e : Engine) (to : ℕ) (why : PassageFault) (ended : Bool) (bytes out : List ℕ) : Type 0 where
+pub record IsRefusedBefore (e : Writing) (to : ℕ) (why : PassageFault) (ended : Bool) (bytes out : List ℕ) : Type 0 where
   pub refused : IsRefused e why ended bytes out
   pub begins : next_start refused.settled < to
 
 -- want of memory comes of a passage that begins in the range: those before it are passed over, for which nothing grows
-pub record IsHeldUpWithin (e : Engine) (from to : ℕ) (ended : Bool) (bytes out : List ℕ) : Type 0 where
+pub record IsHeldUpWithin (e : Writing) (from to : ℕ) (ended : Bool) (bytes out : List ℕ) : Type 0 where
   pub held_up : IsHeldUp e ended bytes out
   pub late : from ≤ next_start held_up.settled
   pub begins : next_start held_up.settled < to
@@ -75,7 +76,7 @@ pub record IsHeldUpWithin (e : Engine) (from to : ℕ) (ended : Bool) (bytes out
 -- what was read and what was written, by the answer: as in a run over the whole text, except that no more has to be
 -- read once the range was passed, and that no passage behind it is refused. `ended`: a read has given no byte;
 -- `AtEnd`: the text was read to its end
-abbrev pub RangeComesTo : {X : Type 0} → Engine → ℕ → ℕ → Bool → Type 0 → Result X CmdFault → List ℕ → List ℕ → Type 0
+abbrev pub RangeComesTo : {X : Type 0} → Writing → ℕ → ℕ → Bool → Type 0 → Result X CmdFault → List ℕ → List ℕ → Type 0
 RangeComesTo e from to ended AtEnd (Ok x) bytes out = (AtEnd × IsWhole e bytes out) ⊎ HasPassed e to bytes out
 RangeComesTo e from to ended AtEnd (Err (Passage passage.Limit)) bytes out = (bytes ≡ []) × (out ≡ [])
 RangeComesTo e from to ended AtEnd (Err (Passage passage.Memory)) bytes out = ((bytes ≡ []) × (out ≡ [])) ⊎ IsHeldUpWithin e from to ended bytes out
@@ -85,10 +86,10 @@ RangeComesTo e from to ended AtEnd (Err Memory) bytes out = IsHeldUpWithin e fro
 
 -- no read was made, or the last one, like those before it, for a passage that begins before byte `end`: what the
 -- bytes of all reads but the last settle ends before it
-abbrev pub ReadsBefore : {e : Engine} {from to : Reads} {bytes out : List ℕ} → ℕ → KeepsUp e from to bytes out → Type 0
+abbrev pub ReadsBefore : {e : Writing} {from to : Reads} {bytes out : List ℕ} → ℕ → KeepsUp e from to bytes out → Type 0
 ReadsBefore {e} {from} {to} {bytes} {out} end keeps_up = IsStill [] bytes from to ⊎ (next_start keeps_up.settled < end)
 
-pub record IsRangeRun {X : Type 0} (e : Engine) (from to : ℕ) (reads reads' : Reads) (ended : Bool) (AtEnd : Type 0) (answer : Result X CmdFault) (bytes out : List ℕ) : Type 0 where
+pub record IsRangeRun {X : Type 0} (e : Writing) (from to : ℕ) (reads reads' : Reads) (ended : Bool) (AtEnd : Type 0) (answer : Result X CmdFault) (bytes out : List ℕ) : Type 0 where
   pub comes : RangeComesTo e from to ended AtEnd answer bytes out
   pub keeps_up : KeepsUp e reads reads' bytes out
   pub no_further : ReadsBefore to keeps_up
@@ -96,9 +97,9 @@ pub record IsRangeRun {X : Type 0} (e : Engine) (from to : ℕ) (reads reads' : 
 -- what `mark`, `show` and `segment` do with the passages of a range: to the devices, with the answer
 pub record RangeRuns (part : Part) (engine : Engine) (before after : Devices) (answer : Result (Unit {0}) CmdFault) : Type 0 where
   pub shown : OnOk answer (IfSome before.unread (λ input. IsUtf8 input
-      → Appends before.written after.written (text_within engine.lines part.from part.to (passages_by engine (chars input)))))
+      → Appends before.written after.written (text_within engine.lines part.from part.to (passages_by (by_passage engine) (chars input)))))
   pub run : Ran (is_failed_read answer) before.unread after.unread before.written after.written
-      (IsRangeRun (within part engine) part.from part.to before.reads after.reads after.has_ended (IsTrue after.has_ended × IsAtEnd after.unread) answer)
+      (IsRangeRun (by_passage (within part engine)) part.from part.to before.reads after.reads after.has_ended (IsTrue after.has_ended × IsAtEnd after.unread) answer)
   pub reads : after.reads.count ≤ before.reads.count + (longest_text + 1)
   pub limit : IsErrOf answer (CmdFault.Passage PassageFault.Limit) ↔ (¬ (IsLimit engine.limit))
   pub failed_reads : after.failed_reads ≡ failed_reads_with before.failed_reads answer

@@ -7,14 +7,14 @@ use Rattle.lbk_passage.specs.Marks.{Marked, scalars_of, text_of}
 use Rattle.lbk_notation.specs.TestLine.{Line}
 use Rattle.lbk_notation.specs.Shown.{passage_line}
 use Rattle.lbk_cmd.specs.Broken.{said}
-use Rattle.lbk_cmd.specs.Run.{Engine, IsWhole}
+use Rattle.lbk_cmd.specs.Run.{Engine, IsWhole, by_passage}
 use Rattle.lbk_cmd.specs.Show.{shown_passage, verdicts_of}
 
 -- the text was written of all that was read
 pub record IsShown (e : Engine) (unread : Option (List ℕ)) (text : List ℕ) : Type 0 where
   pub bytes : List ℕ
   pub read : IfSome unread (λ input. bytes ≡ input)
-  pub whole : IsWhole e bytes text
+  pub whole : IsWhole (by_passage e) bytes text
 
 -- the line of a passage without its line end
 abbrev pub line_of : List Marked → List ℕ

@@ -26,26 +26,44 @@ pub record Engine : Type 0 where
   pub profile : Profile
   pub limit : ℕ
 
-abbrev pub passages_by : Engine → List ℕ → List (List Marked)
+-- what is written of a text by its passages: of those that its first bytes settle, and of all of them
+pub record Writing : Type 1 where
+  pub Settled : List (List Marked) → List ℕ → Type 0
+  pub Whole : List (List Marked) → List ℕ → Type 0
+  pub cell : ℕ → Cell
+  pub profile : Profile
+  pub limit : ℕ
+
+abbrev pub passages_by : Writing → List ℕ → List (List Marked)
 passages_by e scalars = passages e.profile e.cell scalars
 
 -- what is written of some passages
 abbrev pub written_by : Engine → List (List Marked) → List ℕ
 written_by e given = lines_from e.lines 0 given
 
-abbrev pub AreWithin : Engine → List (List Marked) → Type 0
+-- the lines of each passage, once it is settled
+abbrev pub by_passage : Engine → Writing
+by_passage e = record {
+  Settled = λ given out. out ≡ written_by e given;
+  Whole = λ given out. out ≡ written_by e given;
+  cell = e.cell;
+  profile = e.profile;
+  limit = e.limit;
+}
+
+abbrev pub AreWithin : Writing → List (List Marked) → Type 0
 AreWithin e given = AllByRecursion (λ ms. length (text_of ms) ≤ e.limit) given
 
 -- `out` is written of a text that is all of the bytes
-pub record IsWhole (e : Engine) (bytes out : List ℕ) : Type 0 where
+pub record IsWhole (e : Writing) (bytes out : List ℕ) : Type 0 where
   pub utf8 : IsUtf8 bytes
   pub few : length bytes ≤ longest_text
   pub within : AreWithin e (passages_by e (chars bytes))
-  pub is : out ≡ written_by e (passages_by e (chars bytes))
+  pub is : e.Whole (passages_by e (chars bytes)) out
 
 -- of a text that begins with these scalars, these are the passages after each of which one of them follows, whatever
 -- comes behind: the scalars that stand behind them are in one passage
-pub record AreGiven (e : Engine) (scalars : List ℕ) (given : List (List Marked)) : Type 0 where
+pub record AreGiven (e : Writing) (scalars : List ℕ) (given : List (List Marked)) : Type 0 where
   pub behind : List ℕ
   pub joined : scalars ≡ flat_map scalars_of given ++ behind
   pub followed : 0 < length given → 0 < length behind
@@ -54,7 +72,7 @@ pub record AreGiven (e : Engine) (scalars : List ℕ) (given : List (List Marked
   pub within : AreWithin e given
 
 -- `out` is written of the passages that some first scalars of the bytes settle, of as many as a text may have
-pub record IsSettled (e : Engine) (bytes out : List ℕ) : Type 0 where
+pub record IsSettled (e : Writing) (bytes out : List ℕ) : Type 0 where
   pub scalars : List ℕ
   pub rest : List ℕ
   pub begins : bytes ≡ encode_utf8_all scalars ++ rest
@@ -62,16 +80,16 @@ pub record IsSettled (e : Engine) (bytes out : List ℕ) : Type 0 where
   pub few : length (encode_utf8_all scalars) ≤ longest_text
   pub given : List (List Marked)
   pub are : AreGiven e scalars given
-  pub is : out ≡ written_by e given
+  pub is : e.Settled given out
 
 -- the scalars are all well-formed bytes read, of as many as a text may have, and the last of them are within the limit
-abbrev pub AreAll : Engine → List ℕ → List ℕ → List ℕ → Type 0
+abbrev pub AreAll : Writing → List ℕ → List ℕ → List ℕ → Type 0
 AreAll e bytes scalars behind =
     (encode_utf8_all scalars ≡ well_formed_prefix (counted bytes)) × (length (encode_utf8_all behind) ≤ e.limit)
 
 -- why a run stops behind these scalars, the last of which are those of the paragraph in progress; `rest` are the
 -- bytes read behind them. A failed read is the answer only where these may still go on to a scalar
-abbrev pub Lies : Engine → PassageFault → Bool → List ℕ → List ℕ → List ℕ → List ℕ → Type 0
+abbrev pub Lies : Writing → PassageFault → Bool → List ℕ → List ℕ → List ℕ → List ℕ → Type 0
 Lies e fault.Limit ended bytes scalars behind rest = ⊥
 Lies e fault.Memory ended bytes scalars behind rest = ⊥
 Lies e fault.Read ended bytes scalars behind rest =
@@ -85,16 +103,16 @@ Lies e (fault.ParagraphTooLong start) ended bytes scalars behind rest =
 Lies e fault.Spent ended bytes scalars behind rest = ⊥
 
 -- a fault of the reader or of the text stopped the run: `out` is written of the passages given before it
-pub record IsRefused (e : Engine) (why : PassageFault) (ended : Bool) (bytes out : List ℕ) : Type 0 where
+pub record IsRefused (e : Writing) (why : PassageFault) (ended : Bool) (bytes out : List ℕ) : Type 0 where
   pub settled : IsSettled e bytes out
   pub lies : Lies e why ended bytes settled.scalars settled.are.behind settled.rest
 
 -- a segmenter that decides as the engine does
-abbrev pub segmenter_of : Engine → Bool → State
+abbrev pub segmenter_of : Writing → Bool → State
 segmenter_of e ended = record (new_state e.cell e.profile e.limit) { is_ended = ended }
 
 -- memory could not grow for a passage that was read whole, or for its lines: `out` is written of all passages before it
-pub record IsHeldUp (e : Engine) (ended : Bool) (bytes out : List ℕ) : Type 0 where
+pub record IsHeldUp (e : Writing) (ended : Bool) (bytes out : List ℕ) : Type 0 where
   pub settled : IsSettled e bytes out
   pub passage : List Marked
   pub some : 0 < length passage
@@ -103,7 +121,7 @@ pub record IsHeldUp (e : Engine) (ended : Bool) (bytes out : List ℕ) : Type 0 
   pub comes : ComesFirst (segmenter_of e ended) passage behind
 
 -- what was read and what was written, by the answer; `ended`: a read has given no byte
-abbrev pub ComesTo : {X : Type 0} → Engine → Bool → Result X CmdFault → List ℕ → List ℕ → Type 0
+abbrev pub ComesTo : {X : Type 0} → Writing → Bool → Result X CmdFault → List ℕ → List ℕ → Type 0
 ComesTo e ended (Ok x) bytes out = IsWhole e bytes out
 ComesTo e ended (Err Write) bytes out = IsStopped (IsSettled e) (IsWhole e) (ended ≡ true) bytes out
 ComesTo e ended (Err Memory) bytes out = IsHeldUp e ended bytes out
@@ -114,7 +132,7 @@ ComesTo e ended (Err (Passage why)) bytes out = IsRefused e why ended bytes out
 -- nothing is kept back: of the bytes that all reads but the last gave, at least one each, the lines of all passages
 -- that they settle were written. Behind the scalars that settle them stood nothing, or the first bytes of a scalar.
 -- `from` and `to` are the reads before the run and after it
-pub record KeepsUp (e : Engine) (from to : Reads) (bytes out : List ℕ) : Type 0 where
+pub record KeepsUp (e : Writing) (from to : Reads) (bytes out : List ℕ) : Type 0 where
   pub before : List ℕ
   pub last : List ℕ
   pub read : bytes ≡ before ++ last
@@ -127,7 +145,7 @@ pub record KeepsUp (e : Engine) (from to : Reads) (bytes out : List ℕ) : Type 
   pub goes_on : CanGoOn (length (encode_utf8_all settled.scalars)) settled.rest
 
 -- what a run reads and writes, whatever the answer
-pub record IsRun {X : Type 0} (e : Engine) (from to : Reads) (ended : Bool) (answer : Result X CmdFault) (bytes out : List ℕ) : Type 0 where
+pub record IsRun {X : Type 0} (e : Writing) (from to : Reads) (ended : Bool) (answer : Result X CmdFault) (bytes out : List ℕ) : Type 0 where
   pub comes : ComesTo e ended answer bytes out
   pub keeps_up : KeepsUp e from to bytes out
 

@@ -2,6 +2,7 @@
 #![tactic(auto)]
 
 mod broken;
+mod chunked;
 mod command;
 mod ending;
 mod engine;
@@ -21,8 +22,10 @@ mod segmented;
 mod shown;
 mod signed;
 mod titles;
+mod waiting;
 
 pub use broken::{BreakFault, break_text};
+pub use chunked::chunk;
 pub use command::{run, run_over_texts};
 pub use ending::{Ending, RunFault};
 pub use engine::{mark, mark_with, segment, show};

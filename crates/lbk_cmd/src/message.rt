@@ -233,9 +233,10 @@ impl<'a> Message<'a> {
             Caller::Call => None,
             Caller::NoWords => Some(DEFAULT_LIMIT),
             Caller::Words { engine, .. } => match engine {
-                Engine::Mark { limit } | Engine::Show { limit } | Engine::Segment { limit } => Some(
-                    limit,
-                ),
+                Engine::Mark { limit }
+                | Engine::Show { limit }
+                | Engine::Segment { limit }
+                | Engine::Chunk { limit, .. } => Some(limit),
                 Engine::Replay { .. } => None,
             },
         }

@@ -2,18 +2,21 @@
 
 ghost use Rattle.std.specs.Prelude.{◌≡◌, map};
 ghost use Rattle.lbk_rules.specs.CellPages.{page_cell};
-ghost use Rattle.lbk_cmd.specs.Acts.{EngineRuns, RangeEnds, RunsOver, RunsReady, form_of};
+ghost use Rattle.lbk_cmd.specs.Acts.{ChunksEnd, EngineRuns, RangeEnds, RunsOver, RunsReady, form_of};
+ghost use Rattle.lbk_cmd.specs.Chunk.{limits_of};
 ghost use Rattle.lbk_cmd.specs.Devices.{devices_of};
 ghost use Rattle.lbk_cmd.specs.Engines.{engine_of};
 ghost use Rattle.lbk_cmd.specs.Operands.{Reads, ReadsText, ReadsTexts, refused_after, standing};
 ghost use Rattle.lbk_cmd.specs.declared.ending.Ending.TheVariants.{Done};
 
+use super::chunked::chunk;
 use super::ending::{Ending, RunFault};
 use super::engine::{Lines, mark_with, segment, show};
 use super::operands::Texts;
 use super::ranges::write_range;
 use super::titles::write_title;
-use lbk_args::{Engine, Part};
+use lbk_args::{Engine, Part, Sizes};
+use lbk_chunks::Limits;
 use lbk_feed::{Sink, Source};
 use lbk_files::{LoadFault, Opens, Ready};
 use lbk_notation::{Form, replay};
@@ -165,7 +168,54 @@ fn perform_one<R: Source, W: Sink>(
             reader,
             writer,
         ),
+        Engine::Chunk { limit, sizes } => perform_chunk(
+            alloc,
+            Some(part),
+            sizes,
+            limit,
+            ready,
+            reader,
+            writer,
+        ),
         Engine::Replay { .. } => perform_whole(alloc, ready, reader, writer),
+    }
+}
+
+/// Writes the chunks of one text, or those that begin in a range of it.
+#[tactic(none)]
+fn perform_chunk<R: Source, W: Sink>(
+    alloc: Global,
+    range: Option<Part>,
+    sizes: Sizes,
+    limit: u32,
+    ready: &Ready<'_>,
+    reader: &mut R,
+    writer: &mut W,
+) -> Ending
+    ensures { ChunksEnd range (limits_of sizes) (page_cell ready.now.cells) limit ready.now.profile
+        (devices_of R.Source W.Sink reader.old writer.old) (devices_of R.Source W.Sink reader.new writer.new) result }
+{
+    Ending::of_text(chunk(
+        limits(sizes),
+        range,
+        alloc,
+        reader,
+        writer,
+        &ready.cells,
+        limit,
+        ready.profile,
+    ))
+}
+
+/// The limits of chunks of these sizes.
+fn limits(sizes: Sizes) -> Limits
+    ensures { result ≡ limits_of sizes }
+{
+    Limits {
+        most: sizes.most as usize,
+        words: sizes.words as usize,
+        least: sizes.least as usize,
+        overlap: sizes.overlap as usize,
     }
 }
 
@@ -233,6 +283,9 @@ fn perform_whole<R: Source, W: Sink>(
             limit,
             ready.profile,
         )),
+        Engine::Chunk { limit, sizes } => perform_chunk(
+            alloc, None, sizes, limit, ready, reader, writer,
+        ),
         Engine::Replay { kinds } => Ending::of_replay(replay(
             alloc,
             reader,

@@ -166,7 +166,7 @@ fn place_part(
 
 /// Places the name of a kind, between two spaces.
 #[inline(always)]
-fn place_kind(line: &mut [u8], at: usize, kind: Kind) -> usize
+pub(crate) fn place_kind(line: &mut [u8], at: usize, kind: Kind) -> usize
     requires { at + 8 ≤ length line.old }
     ensures placed { Placed line.old line.new at (32 ∷ (kind_name kind ++ 32 ∷ [])) result }
     ensures short { result ≤ at + 6 }

@@ -14,10 +14,10 @@ use std::test::Fail;
 use test_support::checks::same;
 
 /// The most bytes of a paragraph.
-const LIMIT: u32 = 64;
+pub const LIMIT: u32 = 64;
 
 /// The sizes of the first, the second and all later reads.
-fn cuttings(alloc: Global, length: usize) -> Result<Vec<[usize; 3]>, AllocError> {
+pub fn cuttings(alloc: Global, length: usize) -> Result<Vec<[usize; 3]>, AllocError> {
     let mut cuttings = Vec::new(alloc);
     for size in [1, 2, 3, 7, usize::MAX] {
         cuttings.push([size, size, size])?;
@@ -30,7 +30,7 @@ fn cuttings(alloc: Global, length: usize) -> Result<Vec<[usize; 3]>, AllocError>
     Ok(cuttings)
 }
 
-fn limits_of(numbers: &[usize; 4]) -> Limits {
+pub fn limits_of(numbers: &[usize; 4]) -> Limits {
     Limits {
         most: numbers[0],
         words: numbers[1],
@@ -39,7 +39,7 @@ fn limits_of(numbers: &[usize; 4]) -> Limits {
     }
 }
 
-fn push_told(line: &mut String, chunk: &Chunk) -> Result<(), AllocError> {
+pub fn push_told(line: &mut String, chunk: &Chunk) -> Result<(), AllocError> {
     if !line.is_empty() {
         line.push(' ')?;
     }

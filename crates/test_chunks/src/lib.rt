@@ -2,4 +2,5 @@
 #![tactic(auto)]
 
 mod cuttings;
+mod lines;
 mod rows;

@@ -1,7 +1,4 @@
 use Rattle.lbk_args.proofs.options.limited.Goals as goal
 
 pub returns : goal.returns
-returns c =
-    c.with_shared.ensures _ (c.with_option.ensures _ _ c.byte_option-2.ensures.rule
-    (c.with_option-command-2.ensures _ _ c.byte_option.ensures.rule
-    (c.with_option-command.ensures _ _ c.limit_option.ensures.rule c.with_files.ensures)))
+returns c = c.ranged.ensures _ c.with_files.ensures

@@ -1,4 +1,4 @@
-use Rattle.std.proofs.Common.{◌∙◌, sym}
+use Rattle.std.proofs.Common.{◌≡◌, ◌∙◌, Bool, true, false, is_some, not, ap, refl, sym}
 use Rattle.clap.specs.declared.error.kind.ErrorKind.TheVariants.{MissingRequiredArgument, ValueValidation}
 use Rattle.lbk_args.specs.Refusal.{IsMistake}
 use Rattle.lbk_args.proofs.parsing.accepted.Goals as goal
@@ -20,3 +20,18 @@ pub returns-then-not-is_sign-clause-refused : goal.returns-then-not-is_sign-clau
 returns-then-not-is_sign-clause-refused c =
     rw (c.in-Some.is, sym c.is_range.ensures ∙ c.if-not-is_range.false, sym c.is_sign.ensures ∙ c.if-not-is_sign.true)
     (c.mistake-then-not-is_sign.ensures ValueValidation unfit)
+
+-- what is none is not
+none_of : (b : Bool) → true ≡ not b → b ≡ false
+none_of true is = is
+none_of false is = refl
+
+pub returns-in-Some-wrong_size-clause-refused : goal.returns-in-Some-wrong_size-clause-refused
+returns-in-Some-wrong_size-clause-refused c =
+    rw (
+      c.in-Some.is,
+      sym c.is_range.ensures ∙ c.if-not-is_range.false,
+      sym c.is_sign.ensures ∙ c.if-not-is_sign.false,
+      none_of _ (sym (ap is_some c.in-Some-wrong_size.is) ∙ c.wrong_size.ensures),
+    )
+    (c.mistake-in-Some-wrong_size.ensures ValueValidation unfit)

@@ -1,6 +1,6 @@
 use Rattle.std.proofs.Common.{◌<◌, ◌≤◌, length, None, subst, sym, ◌∙◌, arith}
 use Rattle.lbk_chunks.specs.declared.cut.Cut.{Cut}
-use Rattle.lbk_chunks.specs.Chunks.{cuts_past, is_early}
+use Rattle.lbk_chunks.specs.Chunks.{is_early}
 use Rattle.lbk_chunks.specs.Coming.{IsCutOf, IsEnd, here_of}
 use Rattle.lbk_chunks.proofs.CutLemmas.{cut-past}
 use Rattle.lbk_chunks.proofs.EndLemmas.{early-placed, end-alone, end-begins, end-full, end-goes, end-whole, or-placed}

@@ -1,7 +1,6 @@
-use Rattle.std.proofs.Common.{◌++◌, ◌+◌, ◌≡◌, drop_of_length-le, [], drop, length, map, take, ap, refl, subst, sym, ◌∙◌, arith}
+use Rattle.std.proofs.Common.{◌++◌, ◌+◌, ◌≡◌, drop_of_length-le, [], drop, length, ap, subst, ◌∙◌, arith}
 use Rattle.std.proofs.lemmas.List.{length-map, length-take-le}
 use Rattle.lbk_bytes.specs.Shown.{raw_of}
-use Rattle.lbk_rules.specs.declared.Break.{Break}
 use Rattle.lbk_chunks.specs.Coming.{AreAmong}
 use Rattle.lbk_chunks.proofs.BreakLemmas.{shown-at}
 use Rattle.lbk_chunks.proofs.cursor.add_cuts.Goals as goal

@@ -1,4 +1,4 @@
-use Rattle.std.proofs.Common.{◌≡◌, ◌++◌, ◌+◌, ◌-◌, ◌<◌, ◌≤◌, ℕ, List, drop, length, map, slice_index_or, take}
+use Rattle.std.proofs.Common.{◌≡◌, ◌++◌, ◌+◌, ◌-◌, ◌<◌, ◌≤◌, ℕ, List, drop, map, slice_index_or, take}
 use Rattle.lbk_bytes.specs.Order.{no_break}
 use Rattle.lbk_bytes.specs.Shown.{raw_of}
 use Rattle.lbk_rules.specs.declared.Break.{Break}

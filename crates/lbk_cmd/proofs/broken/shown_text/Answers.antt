@@ -1,6 +1,7 @@
 use Rattle.std.proofs.Common.{rules, Err, refl, ap, ◌∙◌, inl, inr}
 use Rattle.lbk_rules.specs.CellPages.{page_cell}
 use Rattle.lbk_cmd.specs.Engines.{showing}
+use Rattle.lbk_cmd.specs.Run.{by_passage}
 use Rattle.lbk_cmd.proofs.InMemory.{untold_unwritten}
 use Rattle.lbk_cmd.proofs.broken.shown_text.Goals as goal
 
@@ -8,7 +9,7 @@ pub returns-in-Err-Write-clause-refused : goal.returns-in-Err-Write-clause-refus
 returns-in-Err-Write-clause-refused g c =
     inr (
       refl,
-      untold_unwritten _ (showing (page_cell c.args.cells.now) c.args.profile c.args.limit) _ _ c.show.result (c.in-Err-Write.is ∙ ap Err c.in-Err-Write.field-0-is)
+      untold_unwritten _ (by_passage (showing (page_cell c.args.cells.now) c.args.profile c.args.limit)) _ _ c.show.result (c.in-Err-Write.is ∙ ap Err c.in-Err-Write.field-0-is)
           c.show.ensures,
     )
 

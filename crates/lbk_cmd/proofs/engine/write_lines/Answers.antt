@@ -3,9 +3,10 @@ use Rattle.std.proofs.lemmas.Result.{err_from_is_err_and}
 use Rattle.lbk_feed.specs.Devices.{count_up, failures_after}
 use Rattle.lbk_passage.specs.Shown.{state_of}
 use Rattle.lbk_cmd.specs.Engines.{engine_of}
-use Rattle.lbk_cmd.specs.Run.{failed_reads_with}
+use Rattle.lbk_cmd.specs.Run.{by_passage, failed_reads_with}
 use Rattle.lbk_cmd.proofs.Known.{known_whole}
 use Rattle.lbk_cmd.proofs.Looping.{Going, Going-new, due, ran_unwritten, run_none, whole_run}
+use Rattle.lbk_cmd.proofs.Running.{lines_finish}
 use Rattle.lbk_cmd.proofs.Gathering.{ends, failed_reads, held_back, limit_kept, most, no_failed_write, no_limit, on, to_its_end, waits}
 use Rattle.lbk_cmd.proofs.engine.write_lines.Goals as goal
 
@@ -15,8 +16,8 @@ returns-in_err-segmenter g c =
     record {
       shown = search rules;
       ended = search rules;
-      run = whole_run (run_none (engine_of c.args.lines (g.C.CellSource.cell_of c.args.cells.now) c.args.profile c.args.limit)
-          _ _ (g.R.Source.reads_made c.args.reader.now) _ c.from_residual.result c.in_err-segmenter.field-0.0 _ (exit.1 ∙ ap Err exit.2)
+      run = whole_run (run_none (by_passage (engine_of c.args.lines (g.C.CellSource.cell_of c.args.cells.now) c.args.profile c.args.limit))
+          _ _ (g.R.Source.reads_made c.args.reader.now) _ c.from_residual.result refl c.in_err-segmenter.field-0.0 _ (exit.1 ∙ ap Err exit.2)
           c.in_err-segmenter.ensures.only);
       reads = search rules;
       limit = search rules;
@@ -33,7 +34,7 @@ loop-gathered-init g c =
     let reads = g.R.Source.reads_made c.args.reader.now in
     let ended = g.R.Source.has_ended c.args.reader.now in
     record {
-      going = subst (λ l. Going e u w reads s u w ended reads l) (sym c.new-gathered.ensures.lines) (Going-new e u w reads s ended c.in_ok-segmenter.ensures.state);
+      going = subst (λ l. Going (by_passage e) u w reads s u w ended reads l) (sym c.new-gathered.ensures.lines) (Going-new (by_passage e) u w reads s ended c.in_ok-segmenter.ensures.state refl);
       read_failures = refl;
       write_failures = refl;
     }
@@ -48,7 +49,7 @@ returns-in_err-write_due g c =
     rw is (record {
       shown = tt;
       ended = tt;
-      run = whole_run (ran_unwritten e _ _ _ (state_of g.C.CellSource.cell_of l.segmenter) _ _ _ _ _ l.invariant.going (Unit {0}) _ front.0 front.1);
+      run = whole_run (ran_unwritten (by_passage e) _ _ _ (state_of g.C.CellSource.cell_of l.segmenter) _ _ _ _ _ l.invariant.going (lines_finish e) (Unit {0}) _ front.0 front.1);
       reads = l.invariant.going.most;
       limit = limit_kept c.args.limit c.new.result c.in_ok-segmenter.segmenter c.in_ok-segmenter.was c.new.ensures.limit _ (λ same. cc);
       failed_reads = l.invariant.read_failures;
@@ -61,7 +62,7 @@ returns-in_err-write g c =
     let exit = err_from_is_err_and c.from_residual-in_err-write.result c.from_residual-in_err-write.ensures.1 in
     let is = exit.1 ∙ ap Err exit.2 in
     let l = c.loop-gathered in
-    let d = due e _ _ _ (state_of g.C.CellSource.cell_of l.segmenter) (state_of g.C.CellSource.cell_of c.write_due.new.segmenter) _ _ _ _ _ _ _ l.invariant.going
+    let d = due (by_passage e) _ _ _ (state_of g.C.CellSource.cell_of l.segmenter) (state_of g.C.CellSource.cell_of c.write_due.new.segmenter) _ _ _ _ _ _ _ l.invariant.going
     c.write_due.ensures.state (⊎_elim inl (λ k. inr (k.0, ap g.W.Sink.written k.1, k.2)) c.in_ok-write_due.ensures.due) in
     let put = c.put_next-put.ensures.puts c.args.limit in
     let answer = sym c.end_of.ensures ∙ c.in-Some.is in
@@ -83,7 +84,7 @@ pub returns-in-Some : goal.returns-in-Some
 returns-in-Some g c =
     let e = engine_of c.args.lines (g.C.CellSource.cell_of c.args.cells.now) c.args.profile c.args.limit in
     let l = c.loop-gathered in
-    let d = due e _ _ _ (state_of g.C.CellSource.cell_of l.segmenter) (state_of g.C.CellSource.cell_of c.write_due.new.segmenter) _ _ _ _ _ _ _ l.invariant.going
+    let d = due (by_passage e) _ _ _ (state_of g.C.CellSource.cell_of l.segmenter) (state_of g.C.CellSource.cell_of c.write_due.new.segmenter) _ _ _ _ _ _ _ l.invariant.going
     c.write_due.ensures.state (⊎_elim inl (λ k. inr (k.0, ap g.W.Sink.written k.1, k.2)) c.in_ok-write_due.ensures.due) in
     let put = c.put_next-put.ensures.puts c.args.limit in
     let answer = sym c.end_of.ensures ∙ c.in-Some.is in
@@ -108,7 +109,7 @@ pub loop-gathered-smaller : goal.loop-gathered-smaller
 loop-gathered-smaller g c =
     let e = engine_of c.args.lines (g.C.CellSource.cell_of c.args.cells.now) c.args.profile c.args.limit in
     let l = c.loop-gathered in
-    let d = due e _ _ _ (state_of g.C.CellSource.cell_of l.segmenter) (state_of g.C.CellSource.cell_of c.write_due.new.segmenter) _ _ _ _ _ _ _ l.invariant.going
+    let d = due (by_passage e) _ _ _ (state_of g.C.CellSource.cell_of l.segmenter) (state_of g.C.CellSource.cell_of c.write_due.new.segmenter) _ _ _ _ _ _ _ l.invariant.going
     c.write_due.ensures.state (⊎_elim inl (λ k. inr (k.0, ap g.W.Sink.written k.1, k.2)) c.in_ok-write_due.ensures.due) in
     let more = on e _ _ _ _ _ _ _ _ _ _ _ _ _ _ _ _ _ _ d.going d.wait (c.put_next-put.ensures.puts c.args.limit) (sym c.end_of.ensures ∙ c.in_default.is) in
     omega (arith, d.start, more.onward, more.few)
@@ -117,7 +118,7 @@ pub loop-gathered-preserved : goal.loop-gathered-preserved
 loop-gathered-preserved g c =
     let e = engine_of c.args.lines (g.C.CellSource.cell_of c.args.cells.now) c.args.profile c.args.limit in
     let l = c.loop-gathered in
-    let d = due e _ _ _ (state_of g.C.CellSource.cell_of l.segmenter) (state_of g.C.CellSource.cell_of c.write_due.new.segmenter) _ _ _ _ _ _ _ l.invariant.going
+    let d = due (by_passage e) _ _ _ (state_of g.C.CellSource.cell_of l.segmenter) (state_of g.C.CellSource.cell_of c.write_due.new.segmenter) _ _ _ _ _ _ _ l.invariant.going
     c.write_due.ensures.state (⊎_elim inl (λ k. inr (k.0, ap g.W.Sink.written k.1, k.2)) c.in_ok-write_due.ensures.due) in
     let more = on e _ _ _ _ _ _ _ _ _ _ _ _ _ _ _ _ _ _ d.going d.wait (c.put_next-put.ensures.puts c.args.limit) (sym c.end_of.ensures ∙ c.in_default.is) in
     record {

@@ -4,6 +4,7 @@ use Rattle.lbk_rules.specs.CellPages.{page_cell}
 use Rattle.lbk_passage.specs.Next.{failures_with, fault_in}
 use Rattle.lbk_passage.specs.Shown.{state_of}
 use Rattle.lbk_cmd.specs.Engines.{showing}
+use Rattle.lbk_cmd.specs.Run.{by_passage}
 use Rattle.lbk_cmd.proofs.Known.{known_whole}
 use Rattle.lbk_cmd.proofs.Looping.{most_reads, run_none, run_stopped, run_ended, run_out_of_memory, whole_run}
 use Rattle.lbk_cmd.proofs.Owning.{Owning-new, Owning-next, all_owned, shows_err}
@@ -15,8 +16,8 @@ returns-in_err-segmenter-clause-refused g c =
     shows_err (page_cell c.args.cells.now) c.args.limit c.args.profile _ _ c.from_residual.result (record {
       shown = search rules;
       ended = search rules;
-      run = whole_run (run_none (showing (page_cell c.args.cells.now) c.args.profile c.args.limit)
-          _ _ (g.R.Source.reads_made c.args.reader.now) _ c.from_residual.result c.in_err-segmenter.field-0.0 _ (exit.1 ∙ ap Err exit.2)
+      run = whole_run (run_none (by_passage (showing (page_cell c.args.cells.now) c.args.profile c.args.limit))
+          _ _ (g.R.Source.reads_made c.args.reader.now) _ c.from_residual.result refl c.in_err-segmenter.field-0.0 _ (exit.1 ∙ ap Err exit.2)
           c.in_err-segmenter.ensures.only);
       reads = search rules;
       limit = search rules;
@@ -37,10 +38,10 @@ returns-in_err-passage-clause-refused g c =
     shows_err (page_cell c.args.cells.now) c.args.limit c.args.profile _ _ c.from_residual-in_err-passage.result (record {
       shown = search rules;
       ended = search rules;
-      run = whole_run (run_stopped (showing (page_cell c.args.cells.now) c.args.profile c.args.limit) _ _ _ _
+      run = whole_run (run_stopped (by_passage (showing (page_cell c.args.cells.now) c.args.profile c.args.limit)) _ _ _ _
           c.from_residual-in_err-passage.result _ _ _ _ _ _ _ _ _ c.next.result [] c.loop-segmenter.invariant.owning.going (inl refl) c.next.follows.holds-at-none.0 None tt
           c.in_err-passage.field-0.0 c.in_err-passage.was (exit.1 ∙ ap Err exit.2));
-      reads = most_reads (showing (page_cell c.args.cells.now) c.args.profile c.args.limit) _ _ _ _ _ _ _ _ _ _ _ _ []
+      reads = most_reads (by_passage (showing (page_cell c.args.cells.now) c.args.profile c.args.limit)) _ _ _ _ _ _ _ _ _ _ _ _ []
           c.loop-segmenter.invariant.owning.going (inl refl) c.next.result c.next.follows.holds-at-none.0;
       limit = search rules;
       failed_reads = search rules;
@@ -53,10 +54,10 @@ returns-in_err-owned-clause-refused g c =
     shows_err (page_cell c.args.cells.now) c.args.limit c.args.profile _ _ c.from_residual-in_err-owned.result (record {
       shown = search rules;
       ended = search rules;
-      run = whole_run (run_out_of_memory (showing (page_cell c.args.cells.now) c.args.profile c.args.limit) _ _ _ _
+      run = whole_run (run_out_of_memory (by_passage (showing (page_cell c.args.cells.now) c.args.profile c.args.limit)) _ _ _ _
           c.from_residual-in_err-owned.result _ _ _ _ _ _ _ _ _ c.next.result [] c.loop-segmenter.invariant.owning.going (inl refl) c.next.follows.holds-at-none.0 None tt
           c.in-Some.passage (c.in_ok-passage.was ∙ ap Ok c.in-Some.is) (exit.1 ∙ ap Err exit.2));
-      reads = most_reads (showing (page_cell c.args.cells.now) c.args.profile c.args.limit) _ _ _ _ _ _ _ _ _ _ _ _ []
+      reads = most_reads (by_passage (showing (page_cell c.args.cells.now) c.args.profile c.args.limit)) _ _ _ _ _ _ _ _ _ _ _ _ []
           c.loop-segmenter.invariant.owning.going (inl refl) c.next.result c.next.follows.holds-at-none.0;
       limit = search rules;
       failed_reads = search rules;
@@ -69,10 +70,10 @@ returns-in_err-push-clause-refused g c =
     shows_err (page_cell c.args.cells.now) c.args.limit c.args.profile _ _ c.from_residual-in_err-push.result (record {
       shown = search rules;
       ended = search rules;
-      run = whole_run (run_out_of_memory (showing (page_cell c.args.cells.now) c.args.profile c.args.limit) _ _ _ _
+      run = whole_run (run_out_of_memory (by_passage (showing (page_cell c.args.cells.now) c.args.profile c.args.limit)) _ _ _ _
           c.from_residual-in_err-push.result _ _ _ _ _ _ _ _ _ c.next.result [] c.loop-segmenter.invariant.owning.going (inl refl) c.next.follows.holds-at-none.0 None tt
           c.in-Some.passage (c.in_ok-passage.was ∙ ap Ok c.in-Some.is) (exit.1 ∙ ap Err exit.2));
-      reads = most_reads (showing (page_cell c.args.cells.now) c.args.profile c.args.limit) _ _ _ _ _ _ _ _ _ _ _ _ []
+      reads = most_reads (by_passage (showing (page_cell c.args.cells.now) c.args.profile c.args.limit)) _ _ _ _ _ _ _ _ _ _ _ _ []
           c.loop-segmenter.invariant.owning.going (inl refl) c.next.result c.next.follows.holds-at-none.0;
       limit = search rules;
       failed_reads = search rules;
@@ -98,16 +99,16 @@ returns-clause-owned g c =
 pub returns-clause-done : goal.returns-clause-done
 returns-clause-done g c =
     let run =
-    whole_run (run_ended (showing (page_cell c.args.cells.now) c.args.profile c.args.limit) _ _ _ (Unit {0})
+    whole_run (run_ended (by_passage (showing (page_cell c.args.cells.now) c.args.profile c.args.limit)) _ _ _ (Unit {0})
     (Ok (tt {0})) _ _ _ _ _ _ _ _ _ c.next.result [] c.loop-segmenter.invariant.owning.going (inl refl) c.next.follows.holds-at-none.0 None tt (tt {0})
-    (c.in_ok-passage.was ∙ ap Ok c.in_default.is) refl)
+    (c.in_ok-passage.was ∙ ap Ok c.in_default.is) c.loop-segmenter.invariant.owning.going.standing.is refl)
     in
     record {
       shown = known_whole _ (showing (page_cell c.args.cells.now) c.args.profile c.args.limit) _ _ _
           (Ok (tt {0})) _ _ _ _ run (search rules);
       ended = search rules;
       run = run;
-      reads = most_reads (showing (page_cell c.args.cells.now) c.args.profile c.args.limit) _ _ _ _ _ _ _ _ _ _ _ _ []
+      reads = most_reads (by_passage (showing (page_cell c.args.cells.now) c.args.profile c.args.limit)) _ _ _ _ _ _ _ _ _ _ _ _ []
           c.loop-segmenter.invariant.owning.going (inl refl) c.next.result c.next.follows.holds-at-none.0;
       limit = search rules;
       failed_reads = search rules;

@@ -13,6 +13,9 @@ returns-in-Show g c = rw (c.in-Some.is, c.in-Show.is) c.perform_range-in-Show.en
 pub returns-in-Segment : goal.returns-in-Segment
 returns-in-Segment g c = rw (c.in-Some.is, c.in-Segment.is) c.perform_range-in-Segment.ensures
 
+pub returns-in-Chunk : goal.returns-in-Chunk
+returns-in-Chunk g c = rw (c.in-Some.is, c.in-Chunk.is) c.perform_chunk.ensures
+
 pub returns-in-Replay : goal.returns-in-Replay
 returns-in-Replay g c = rw (c.in-Some.is, c.in-Replay.is) (rw c.in-Replay.is at c.perform_whole-in-Replay.ensures)
 

@@ -22,6 +22,9 @@ returns-in-Segment g c = rw c.in-Segment.is (
   c.of_text-in-Segment.ensures,
 )
 
+pub returns-in-Chunk : goal.returns-in-Chunk
+returns-in-Chunk g c = rw c.in-Chunk.is c.perform_chunk.ensures
+
 pub returns-in-Replay : goal.returns-in-Replay
 returns-in-Replay g c = rw (c.in-Replay.is, ← c.form.ensures) (
   c.replay.result,

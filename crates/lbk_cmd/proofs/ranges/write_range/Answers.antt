@@ -4,8 +4,9 @@ use Rattle.lbk_feed.specs.Devices.{count_up, failures_after}
 use Rattle.lbk_passage.specs.Shown.{state_of}
 use Rattle.lbk_passage.specs.State.{State}
 use Rattle.lbk_cmd.specs.Ranges.{ReadsBefore}
-use Rattle.lbk_cmd.specs.Run.{failed_reads_with}
+use Rattle.lbk_cmd.specs.Run.{by_passage, failed_reads_with}
 use Rattle.lbk_cmd.proofs.Looping.{Going, Going-new, before-new, due, ran_unwritten, range_run, run_none}
+use Rattle.lbk_cmd.proofs.Running.{lines_finish}
 use Rattle.lbk_cmd.proofs.Gathering.{ends, failed_reads, held_back, limit_kept, most, no_failed_write, no_limit, on, waits}
 use Rattle.lbk_cmd.proofs.Ranging.{engine_in, known_range, range_passed}
 use Rattle.lbk_cmd.proofs.ranges.write_range.Goals as goal
@@ -15,8 +16,8 @@ returns-in_err-segmenter g c =
     let exit = err_from_is_err_and c.from_residual.result c.from_residual.ensures.1 in
     record {
       shown = search rules;
-      run = range_run (run_none (engine_in c.args.part c.args.lines (g.C.CellSource.cell_of c.args.cells.now) c.args.profile c.args.limit)
-          _ _ (g.R.Source.reads_made c.args.reader.now) _ c.from_residual.result c.in_err-segmenter.field-0.0 _ (exit.1 ∙ ap Err exit.2)
+      run = range_run (run_none (by_passage (engine_in c.args.part c.args.lines (g.C.CellSource.cell_of c.args.cells.now) c.args.profile c.args.limit))
+          _ _ (g.R.Source.reads_made c.args.reader.now) _ c.from_residual.result refl c.in_err-segmenter.field-0.0 _ (exit.1 ∙ ap Err exit.2)
           c.in_err-segmenter.ensures.only) c.args.part.from c.args.part.to tt;
       reads = search rules;
       limit = search rules;
@@ -32,8 +33,8 @@ loop-part-init g c =
     let w = g.W.Sink.written c.args.writer.now in
     let reads = g.R.Source.reads_made c.args.reader.now in
     let ended = g.R.Source.has_ended c.args.reader.now in
-    let begun = subst (λ l. (going : Going e u w reads s u w ended reads l) × ReadsBefore c.args.part.to going.keeps_up) (sym c.new-gathered.ensures.lines)
-    (Going-new e u w reads s ended c.in_ok-segmenter.ensures.state, before-new e u w reads s ended c.in_ok-segmenter.ensures.state c.args.part.to) in
+    let begun = subst (λ l. (going : Going (by_passage e) u w reads s u w ended reads l) × ReadsBefore c.args.part.to going.keeps_up) (sym c.new-gathered.ensures.lines)
+    (Going-new (by_passage e) u w reads s ended c.in_ok-segmenter.ensures.state refl, before-new (by_passage e) u w reads s ended c.in_ok-segmenter.ensures.state refl c.args.part.to) in
     record {
       going = begun.0;
       before = begun.1;
@@ -51,7 +52,7 @@ returns-in_err-write_due g c =
     let front = c.in_err-write_due.ensures.front in
     rw is (record {
       shown = tt;
-      run = range_run (ran_unwritten e _ _ _ (state_of g.C.CellSource.cell_of l.segmenter) _ _ _ _ _ l.invariant.going (Unit {0}) _ front.0 front.1)
+      run = range_run (ran_unwritten (by_passage e) _ _ _ (state_of g.C.CellSource.cell_of l.segmenter) _ _ _ _ _ l.invariant.going (lines_finish e) (Unit {0}) _ front.0 front.1)
           c.args.part.from c.args.part.to l.invariant.before;
       reads = l.invariant.going.most;
       limit = limit_kept c.args.limit c.new.result c.in_ok-segmenter.segmenter c.in_ok-segmenter.was c.new.ensures.limit _ (λ same. cc);
@@ -65,7 +66,7 @@ returns-in_err-write g c =
     let exit = err_from_is_err_and c.from_residual-in_err-write.result c.from_residual-in_err-write.ensures.1 in
     let is = exit.1 ∙ ap Err exit.2 in
     let l = c.loop-part in
-    let d = due e _ _ _ (state_of g.C.CellSource.cell_of l.segmenter) (state_of g.C.CellSource.cell_of c.write_due.new.segmenter) _ _ _ _ _ _ _ l.invariant.going
+    let d = due (by_passage e) _ _ _ (state_of g.C.CellSource.cell_of l.segmenter) (state_of g.C.CellSource.cell_of c.write_due.new.segmenter) _ _ _ _ _ _ _ l.invariant.going
     c.write_due.ensures.state (⊎_elim inl (λ k. inr (k.0, ap g.W.Sink.written k.1, k.2)) c.in_ok-write_due.ensures.due) in
     let put = c.put_within-put.ensures.puts c.args.limit in
     let answer = sym c.end_of.ensures ∙ c.in-Some.is in
@@ -88,7 +89,7 @@ pub returns-in-Some : goal.returns-in-Some
 returns-in-Some g c =
     let e = engine_in c.args.part c.args.lines (g.C.CellSource.cell_of c.args.cells.now) c.args.profile c.args.limit in
     let l = c.loop-part in
-    let d = due e _ _ _ (state_of g.C.CellSource.cell_of l.segmenter) (state_of g.C.CellSource.cell_of c.write_due.new.segmenter) _ _ _ _ _ _ _ l.invariant.going
+    let d = due (by_passage e) _ _ _ (state_of g.C.CellSource.cell_of l.segmenter) (state_of g.C.CellSource.cell_of c.write_due.new.segmenter) _ _ _ _ _ _ _ l.invariant.going
     c.write_due.ensures.state (⊎_elim inl (λ k. inr (k.0, ap g.W.Sink.written k.1, k.2)) c.in_ok-write_due.ensures.due) in
     let put = c.put_within-put.ensures.puts c.args.limit in
     let answer = sym c.end_of.ensures ∙ c.in-Some.is in
@@ -114,7 +115,7 @@ pub loop-part-smaller : goal.loop-part-smaller
 loop-part-smaller g c =
     let e = engine_in c.args.part c.args.lines (g.C.CellSource.cell_of c.args.cells.now) c.args.profile c.args.limit in
     let l = c.loop-part in
-    let d = due e _ _ _ (state_of g.C.CellSource.cell_of l.segmenter) (state_of g.C.CellSource.cell_of c.write_due.new.segmenter) _ _ _ _ _ _ _ l.invariant.going
+    let d = due (by_passage e) _ _ _ (state_of g.C.CellSource.cell_of l.segmenter) (state_of g.C.CellSource.cell_of c.write_due.new.segmenter) _ _ _ _ _ _ _ l.invariant.going
     c.write_due.ensures.state (⊎_elim inl (λ k. inr (k.0, ap g.W.Sink.written k.1, k.2)) c.in_ok-write_due.ensures.due) in
     let more = on e _ _ _ _ _ _ _ _ _ _ _ _ _ _ _ _ _ _ d.going d.wait (c.put_within-put.ensures.puts c.args.limit) (sym c.end_of.ensures ∙ c.in_default.is) in
     omega (arith, d.start, more.onward, more.few)
@@ -123,7 +124,7 @@ pub loop-part-preserved : goal.loop-part-preserved
 loop-part-preserved g c =
     let e = engine_in c.args.part c.args.lines (g.C.CellSource.cell_of c.args.cells.now) c.args.profile c.args.limit in
     let l = c.loop-part in
-    let d = due e _ _ _ (state_of g.C.CellSource.cell_of l.segmenter) (state_of g.C.CellSource.cell_of c.write_due.new.segmenter) _ _ _ _ _ _ _ l.invariant.going
+    let d = due (by_passage e) _ _ _ (state_of g.C.CellSource.cell_of l.segmenter) (state_of g.C.CellSource.cell_of c.write_due.new.segmenter) _ _ _ _ _ _ _ l.invariant.going
     c.write_due.ensures.state (⊎_elim inl (λ k. inr (k.0, ap g.W.Sink.written k.1, k.2)) c.in_ok-write_due.ensures.due) in
     let more = on e _ _ _ _ _ _ _ _ _ _ _ _ _ _ _ _ _ _ d.going d.wait (c.put_within-put.ensures.puts c.args.limit) (sym c.end_of.ensures ∙ c.in_default.is) in
     record {
@@ -144,7 +145,7 @@ returns-in_err-write-2 g c =
     let front = c.in_err-write-2.ensures.front in
     rw is (record {
       shown = tt;
-      run = range_run (ran_unwritten e _ _ _ (state_of g.C.CellSource.cell_of l.segmenter) _ _ _ _ _ l.invariant.going (Unit {0}) _ front.0 front.1)
+      run = range_run (ran_unwritten (by_passage e) _ _ _ (state_of g.C.CellSource.cell_of l.segmenter) _ _ _ _ _ l.invariant.going (lines_finish e) (Unit {0}) _ front.0 front.1)
           c.args.part.from c.args.part.to l.invariant.before;
       reads = l.invariant.going.most;
       limit = limit_kept c.args.limit c.new.result c.in_ok-segmenter.segmenter c.in_ok-segmenter.was c.new.ensures.limit _ (λ same. cc);

@@ -1,4 +1,4 @@
-use Rattle.std.proofs.Common.{◌-◌, ◌+◌, ◌≡◌, ◌≤◌, slice_index_or, inr, arith, subst, sym}
+use Rattle.std.proofs.Common.{◌-◌, ◌+◌, ◌≡◌, ◌≤◌, slice_index_or, inr, arith, subst}
 use Rattle.lbk_chunks.specs.Coming.{no_cut}
 use Rattle.lbk_chunks.proofs.BlockLemmas.{goes-on, reach-some}
 use Rattle.lbk_chunks.proofs.cut_block.CutBlock.first_past.Goals as goal

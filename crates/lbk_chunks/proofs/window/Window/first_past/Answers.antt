@@ -1,4 +1,4 @@
-use Rattle.std.proofs.Common.{arith, sym, ◌∙◌}
+use Rattle.std.proofs.Common.{sym, ◌∙◌}
 use Rattle.lbk_chunks.proofs.BlockLemmas.{block-first, reach-le}
 use Rattle.lbk_chunks.proofs.window.Window.first_past.Goals as goal
 

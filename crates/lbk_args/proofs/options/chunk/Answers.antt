@@ -1,0 +1,4 @@
+use Rattle.lbk_args.proofs.options.chunk.Goals as goal
+
+pub returns : goal.returns
+returns c = c.described.ensures _ (c.ranged-command.ensures _ c.sized.ensures)

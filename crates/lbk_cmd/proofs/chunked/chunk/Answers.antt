@@ -1,0 +1,285 @@
+use Rattle.std.proofs.Common.{◌≤◌, ◌∙◌, ◌⊎◌, List, ℕ, Ok, Err, true, false, refl, sym, ap, subst, inl, inr, ⊎_elim, arith, rules}
+use Rattle.std.proofs.lemmas.Result.{err_from_is_err_and}
+use Rattle.lbk_feed.specs.Devices.{count_up, failures_after}
+use Rattle.lbk_passage.specs.Shown.{state_of}
+use Rattle.lbk_chunks.specs.Cuts.{AreCutsPast}
+use Rattle.lbk_chunk_reader.specs.Taking.{TakesNext}
+use Rattle.lbk_chunk_reader.specs.Window.{cuts_in, here_in, words_in}
+use Rattle.lbk_cmd.specs.Chunk.{chunking}
+use Rattle.lbk_cmd.specs.Chunking.{BreaksOff, WritesAll}
+use Rattle.lbk_cmd.specs.Run.{failed_reads_with}
+use Rattle.lbk_cmd.specs.Waiting.{waiting_in}
+use Rattle.lbk_cmd.specs.declared.faults.CmdFault.TheVariants as cmd
+use Rattle.lbk_cmd.proofs.Chunking.{chunks_finish, none_settled}
+use Rattle.lbk_cmd.proofs.ChunkRuns.{Cuts, all-written, broken-off, came, cuts-due, cuts-new, end-met, ended-so, goes-on, known_chunks, last-broken-off, last-rising, last-told, most, no-limit, ok-no-limit, onward, refused, refused-failures, still-failures, then-rising, then-told, unwritten-lines, waited, write-no-limit}
+use Rattle.lbk_cmd.proofs.Gathering.{limit_kept}
+use Rattle.lbk_cmd.proofs.Looping.{ran_unwritten, run_none, whole_run}
+use Rattle.lbk_cmd.proofs.chunked.chunk.Goals as goal
+
+pub returns-in_err-segmenter : goal.returns-in_err-segmenter
+returns-in_err-segmenter g c =
+    let exit = err_from_is_err_and c.from_residual.result c.from_residual.ensures.1 in
+    let cell = g.C.CellSource.cell_of c.args.cells.now in
+    record {
+      shown = search rules;
+      ended = search rules;
+      run = whole_run (run_none (chunking c.args.range c.args.limits cell c.args.profile c.args.limit)
+          _ _ (g.R.Source.reads_made c.args.reader.now) _ c.from_residual.result (none_settled c.args.range c.args.limits cell c.args.profile c.args.limit)
+          c.in_err-segmenter.field-0.0 _ (exit.1 ∙ ap Err exit.2) c.in_err-segmenter.ensures.only);
+      reads = search rules;
+      limit = search rules;
+      failed_reads = search rules;
+      failed_writes = search rules;
+    }
+
+pub loop-window-init : goal.loop-window-init
+loop-window-init g c =
+    let cell = g.C.CellSource.cell_of c.args.cells.now in
+    let u = g.R.Source.unread c.args.reader.now in
+    let w = g.W.Sink.written c.args.writer.now in
+    let reads = g.R.Source.reads_made c.args.reader.now in
+    let ended = g.R.Source.has_ended c.args.reader.now in
+    let s = state_of g.C.CellSource.cell_of c.in_ok-segmenter.segmenter in
+    let window = c.new-window.result in
+    record {
+      cuts = subst (λ (x : List ℕ). Cuts c.args.range c.args.limits cell c.args.profile c.args.limit u w reads s u w ended reads x window) (sym c.new-waiting.ensures)
+          (cuts-new c.args.range c.args.limits cell c.args.profile c.args.limit u w reads s ended window c.new-window.ensures c.in_ok-segmenter.ensures.state);
+      read_failures = refl;
+      write_failures = refl;
+    }
+
+pub returns-in_err-write_due : goal.returns-in_err-write_due
+returns-in_err-write_due g c =
+    let cell = g.C.CellSource.cell_of c.args.cells.now in
+    let exit = err_from_is_err_and c.from_residual-in_err-write_due.result c.from_residual-in_err-write_due.ensures.1 in
+    let is = exit.1 ∙ ap Err exit.2 in
+    let l = c.loop-window in
+    let front = c.in_err-write_due.ensures.front in
+    rw is (record {
+      shown = tt;
+      ended = tt;
+      run = whole_run (ran_unwritten (chunking c.args.range c.args.limits cell c.args.profile c.args.limit) _ _ _ (state_of g.C.CellSource.cell_of l.segmenter) _ _ _ _ _ l.invariant.cuts.going
+          (chunks_finish c.args.range c.args.limits cell c.args.profile c.args.limit) (Unit {0}) _ front.0 front.1);
+      reads = l.invariant.cuts.going.most;
+      limit = limit_kept c.args.limit c.new.result c.in_ok-segmenter.segmenter c.in_ok-segmenter.was c.new.ensures.limit (Err cmd.Write) (write-no-limit (Err cmd.Write) refl);
+      failed_reads = l.invariant.read_failures;
+      failed_writes = c.write_due.ensures.failures ∙ ap (failures_after (g.W.Sink.failure_count l.writer)) c.in_err-write_due.was ∙ ap count_up l.invariant.write_failures;
+    })
+
+pub write_chunks-requires-clause-rising : goal.write_chunks-requires-clause-rising
+write_chunks-requires-clause-rising g c =
+    let cell = g.C.CellSource.cell_of c.args.cells.now in
+    let l = c.loop-window in
+    let d = cuts-due c.args.range c.args.limits cell c.args.profile c.args.limit _ _ _ (state_of g.C.CellSource.cell_of l.segmenter) (state_of g.C.CellSource.cell_of c.write_due.new.segmenter)
+    _ _ _ _ _ _ _ _ l.invariant.cuts c.write_due.ensures.state (⊎_elim inl (λ k. inr (k.0, ap g.W.Sink.written k.1, k.2)) c.in_ok-write_due.ensures.due) in
+    let few : words_in l.window ≤ (state_of g.C.CellSource.cell_of c.write_due.new.segmenter).start = d.cuts.chunked.stands.words in
+    let n = subst (TakesNext (state_of g.C.CellSource.cell_of c.write_due.new.segmenter) (state_of g.C.CellSource.cell_of c.take_next.new.segmenter)
+    (g.R.Source.unread l.reader) (g.R.Source.unread c.take_next.new.reader) (g.R.Source.has_ended l.reader) (g.R.Source.has_ended c.take_next.new.reader)
+    (g.R.Source.reads_made l.reader) (g.R.Source.reads_made c.take_next.new.reader) (g.R.Source.failure_count l.reader) (g.R.Source.failure_count c.take_next.new.reader)
+    l.window c.take_next.new.self) (c.in-Ok-true.is ∙ ap Ok c.in-Ok-true.field-0-test) (c.take_next.ensures few) in
+    let k = came _ _ _ _ _ _ _ _ _ _ _ _ _ _ _ _ _ _ _ _ _ _ d.cuts d.wait n in
+    then-rising _ _ _ _ _ _ _ _ _ _ _ _ _ _ _ _ _ _ _ _ _ _ d.cuts d.wait k
+
+pub write_chunks-requires-clause-told : goal.write_chunks-requires-clause-told
+write_chunks-requires-clause-told g c =
+    let cell = g.C.CellSource.cell_of c.args.cells.now in
+    let l = c.loop-window in
+    let d = cuts-due c.args.range c.args.limits cell c.args.profile c.args.limit _ _ _ (state_of g.C.CellSource.cell_of l.segmenter) (state_of g.C.CellSource.cell_of c.write_due.new.segmenter)
+    _ _ _ _ _ _ _ _ l.invariant.cuts c.write_due.ensures.state (⊎_elim inl (λ k. inr (k.0, ap g.W.Sink.written k.1, k.2)) c.in_ok-write_due.ensures.due) in
+    let few : words_in l.window ≤ (state_of g.C.CellSource.cell_of c.write_due.new.segmenter).start = d.cuts.chunked.stands.words in
+    let n = subst (TakesNext (state_of g.C.CellSource.cell_of c.write_due.new.segmenter) (state_of g.C.CellSource.cell_of c.take_next.new.segmenter)
+    (g.R.Source.unread l.reader) (g.R.Source.unread c.take_next.new.reader) (g.R.Source.has_ended l.reader) (g.R.Source.has_ended c.take_next.new.reader)
+    (g.R.Source.reads_made l.reader) (g.R.Source.reads_made c.take_next.new.reader) (g.R.Source.failure_count l.reader) (g.R.Source.failure_count c.take_next.new.reader)
+    l.window c.take_next.new.self) (c.in-Ok-true.is ∙ ap Ok c.in-Ok-true.field-0-test) (c.take_next.ensures few) in
+    let k = came _ _ _ _ _ _ _ _ _ _ _ _ _ _ _ _ _ _ _ _ _ _ d.cuts d.wait n in
+    then-told _ _ _ _ _ _ _ _ _ _ _ _ _ _ _ _ _ _ _ _ _ _ d.cuts d.wait k
+
+pub loop-window-smaller : goal.loop-window-smaller
+loop-window-smaller g c =
+    let cell = g.C.CellSource.cell_of c.args.cells.now in
+    let l = c.loop-window in
+    let d = cuts-due c.args.range c.args.limits cell c.args.profile c.args.limit _ _ _ (state_of g.C.CellSource.cell_of l.segmenter) (state_of g.C.CellSource.cell_of c.write_due.new.segmenter)
+    _ _ _ _ _ _ _ _ l.invariant.cuts c.write_due.ensures.state (⊎_elim inl (λ k. inr (k.0, ap g.W.Sink.written k.1, k.2)) c.in_ok-write_due.ensures.due) in
+    let few : words_in l.window ≤ (state_of g.C.CellSource.cell_of c.write_due.new.segmenter).start = d.cuts.chunked.stands.words in
+    let n = subst (TakesNext (state_of g.C.CellSource.cell_of c.write_due.new.segmenter) (state_of g.C.CellSource.cell_of c.take_next.new.segmenter)
+    (g.R.Source.unread l.reader) (g.R.Source.unread c.take_next.new.reader) (g.R.Source.has_ended l.reader) (g.R.Source.has_ended c.take_next.new.reader)
+    (g.R.Source.reads_made l.reader) (g.R.Source.reads_made c.take_next.new.reader) (g.R.Source.failure_count l.reader) (g.R.Source.failure_count c.take_next.new.reader)
+    l.window c.take_next.new.self) (c.in-Ok-true.is ∙ ap Ok c.in-Ok-true.field-0-test) (c.take_next.ensures few) in
+    let k = came _ _ _ _ _ _ _ _ _ _ _ _ _ _ _ _ _ _ _ _ _ _ d.cuts d.wait n in
+    let more = onward _ _ _ _ _ _ _ _ _ _ _ _ _ _ _ _ _ _ _ _ _ _ d.cuts d.wait k in
+    omega (arith, d.start, more.0, more.1)
+
+pub loop-window-preserved : goal.loop-window-preserved
+loop-window-preserved g c =
+    let cell = g.C.CellSource.cell_of c.args.cells.now in
+    let l = c.loop-window in
+    let d = cuts-due c.args.range c.args.limits cell c.args.profile c.args.limit _ _ _ (state_of g.C.CellSource.cell_of l.segmenter) (state_of g.C.CellSource.cell_of c.write_due.new.segmenter)
+    _ _ _ _ _ _ _ _ l.invariant.cuts c.write_due.ensures.state (⊎_elim inl (λ k. inr (k.0, ap g.W.Sink.written k.1, k.2)) c.in_ok-write_due.ensures.due) in
+    let few : words_in l.window ≤ (state_of g.C.CellSource.cell_of c.write_due.new.segmenter).start = d.cuts.chunked.stands.words in
+    let n = subst (TakesNext (state_of g.C.CellSource.cell_of c.write_due.new.segmenter) (state_of g.C.CellSource.cell_of c.take_next.new.segmenter)
+    (g.R.Source.unread l.reader) (g.R.Source.unread c.take_next.new.reader) (g.R.Source.has_ended l.reader) (g.R.Source.has_ended c.take_next.new.reader)
+    (g.R.Source.reads_made l.reader) (g.R.Source.reads_made c.take_next.new.reader) (g.R.Source.failure_count l.reader) (g.R.Source.failure_count c.take_next.new.reader)
+    l.window c.take_next.new.self) (c.in-Ok-true.is ∙ ap Ok c.in-Ok-true.field-0-test) (c.take_next.ensures few) in
+    let k = came _ _ _ _ _ _ _ _ _ _ _ _ _ _ _ _ _ _ _ _ _ _ d.cuts d.wait n in
+    let gives = c.in_ok-write_chunks-in-Ok-true.ensures.gives in
+    record {
+      cuts = goes-on _ _ _ _ _ _ _ _ _ _ _ _ _ _ _ _ _ _ _ _ _ _ d.cuts d.wait k c.write_chunks.new.window _ _ gives.0 gives.1;
+      read_failures = k.none_failed ∙ l.invariant.read_failures;
+      write_failures = c.write_chunks.ensures.failures ∙ ap (failures_after (g.W.Sink.failure_count c.write_due.new.writer)) c.in_ok-write_chunks-in-Ok-true.was
+          ∙ c.write_due.ensures.failures ∙ ap (failures_after (g.W.Sink.failure_count l.writer)) c.in_ok-write_due.was ∙ l.invariant.write_failures;
+    }
+
+pub returns-in_err-write_chunks-in-Ok-true : goal.returns-in_err-write_chunks-in-Ok-true
+returns-in_err-write_chunks-in-Ok-true g c =
+    let cell = g.C.CellSource.cell_of c.args.cells.now in
+    let l = c.loop-window in
+    let d = cuts-due c.args.range c.args.limits cell c.args.profile c.args.limit _ _ _ (state_of g.C.CellSource.cell_of l.segmenter) (state_of g.C.CellSource.cell_of c.write_due.new.segmenter)
+    _ _ _ _ _ _ _ _ l.invariant.cuts c.write_due.ensures.state (⊎_elim inl (λ k. inr (k.0, ap g.W.Sink.written k.1, k.2)) c.in_ok-write_due.ensures.due) in
+    let few : words_in l.window ≤ (state_of g.C.CellSource.cell_of c.write_due.new.segmenter).start = d.cuts.chunked.stands.words in
+    let n = subst (TakesNext (state_of g.C.CellSource.cell_of c.write_due.new.segmenter) (state_of g.C.CellSource.cell_of c.take_next.new.segmenter)
+    (g.R.Source.unread l.reader) (g.R.Source.unread c.take_next.new.reader) (g.R.Source.has_ended l.reader) (g.R.Source.has_ended c.take_next.new.reader)
+    (g.R.Source.reads_made l.reader) (g.R.Source.reads_made c.take_next.new.reader) (g.R.Source.failure_count l.reader) (g.R.Source.failure_count c.take_next.new.reader)
+    l.window c.take_next.new.self) (c.in-Ok-true.is ∙ ap Ok c.in-Ok-true.field-0-test) (c.take_next.ensures few) in
+    let k = came _ _ _ _ _ _ _ _ _ _ _ _ _ _ _ _ _ _ _ _ _ _ d.cuts d.wait n in
+    let exit = err_from_is_err_and c.from_residual-in_err-write_chunks-in-Ok-true.result c.from_residual-in_err-write_chunks-in-Ok-true.ensures.1 in
+    let is = exit.1 ∙ ap Err exit.2 in
+    rw is (record {
+      shown = tt;
+      ended = tt;
+      run = broken-off _ _ _ _ _ _ _ _ _ _ _ _ _ _ _ _ _ _ _ _ _ _ d.cuts d.wait k _ c.in_err-write_chunks-in-Ok-true.ensures.gives;
+      reads = most _ _ _ _ _ _ _ _ _ _ _ _ _ _ _ _ _ _ _ _ _ _ d.cuts d.wait (Ok true) n;
+      limit = limit_kept c.args.limit c.new.result c.in_ok-segmenter.segmenter c.in_ok-segmenter.was c.new.ensures.limit (Err cmd.Write) (write-no-limit (Err cmd.Write) refl);
+      failed_reads = k.none_failed ∙ l.invariant.read_failures;
+      failed_writes = c.write_chunks.ensures.failures ∙ ap (failures_after (g.W.Sink.failure_count c.write_due.new.writer)) c.in_err-write_chunks-in-Ok-true.was
+          ∙ ap count_up (c.write_due.ensures.failures ∙ ap (failures_after (g.W.Sink.failure_count l.writer)) c.in_ok-write_due.was ∙ l.invariant.write_failures);
+    })
+
+pub write_last-requires-clause-rising : goal.write_last-requires-clause-rising
+write_last-requires-clause-rising g c =
+    let cell = g.C.CellSource.cell_of c.args.cells.now in
+    let l = c.loop-window in
+    let d = cuts-due c.args.range c.args.limits cell c.args.profile c.args.limit _ _ _ (state_of g.C.CellSource.cell_of l.segmenter) (state_of g.C.CellSource.cell_of c.write_due.new.segmenter)
+    _ _ _ _ _ _ _ _ l.invariant.cuts c.write_due.ensures.state (⊎_elim inl (λ k. inr (k.0, ap g.W.Sink.written k.1, k.2)) c.in_ok-write_due.ensures.due) in
+    let few : words_in l.window ≤ (state_of g.C.CellSource.cell_of c.write_due.new.segmenter).start = d.cuts.chunked.stands.words in
+    let n = subst (TakesNext (state_of g.C.CellSource.cell_of c.write_due.new.segmenter) (state_of g.C.CellSource.cell_of c.take_next.new.segmenter)
+    (g.R.Source.unread l.reader) (g.R.Source.unread c.take_next.new.reader) (g.R.Source.has_ended l.reader) (g.R.Source.has_ended c.take_next.new.reader)
+    (g.R.Source.reads_made l.reader) (g.R.Source.reads_made c.take_next.new.reader) (g.R.Source.failure_count l.reader) (g.R.Source.failure_count c.take_next.new.reader)
+    l.window c.take_next.new.self) (c.in-Ok-false.is ∙ ap Ok c.in-Ok-false.field-0-test) (c.take_next.ensures few) in
+    let k = ended-so _ _ _ _ _ _ _ _ _ _ _ _ _ _ _ _ _ _ _ _ _ _ d.cuts d.wait n in
+    subst (λ x. AreCutsPast (here_in x).start (cuts_in x)) (sym k.1) (last-rising _ _ _ _ _ _ _ _ _ _ _ _ _ _ _ _ _ 0 0 _ _ l.window d.cuts d.wait k.0)
+
+pub write_last-requires-clause-told : goal.write_last-requires-clause-told
+write_last-requires-clause-told g c =
+    let cell = g.C.CellSource.cell_of c.args.cells.now in
+    let l = c.loop-window in
+    let d = cuts-due c.args.range c.args.limits cell c.args.profile c.args.limit _ _ _ (state_of g.C.CellSource.cell_of l.segmenter) (state_of g.C.CellSource.cell_of c.write_due.new.segmenter)
+    _ _ _ _ _ _ _ _ l.invariant.cuts c.write_due.ensures.state (⊎_elim inl (λ k. inr (k.0, ap g.W.Sink.written k.1, k.2)) c.in_ok-write_due.ensures.due) in
+    let few : words_in l.window ≤ (state_of g.C.CellSource.cell_of c.write_due.new.segmenter).start = d.cuts.chunked.stands.words in
+    let n = subst (TakesNext (state_of g.C.CellSource.cell_of c.write_due.new.segmenter) (state_of g.C.CellSource.cell_of c.take_next.new.segmenter)
+    (g.R.Source.unread l.reader) (g.R.Source.unread c.take_next.new.reader) (g.R.Source.has_ended l.reader) (g.R.Source.has_ended c.take_next.new.reader)
+    (g.R.Source.reads_made l.reader) (g.R.Source.reads_made c.take_next.new.reader) (g.R.Source.failure_count l.reader) (g.R.Source.failure_count c.take_next.new.reader)
+    l.window c.take_next.new.self) (c.in-Ok-false.is ∙ ap Ok c.in-Ok-false.field-0-test) (c.take_next.ensures few) in
+    let k = ended-so _ _ _ _ _ _ _ _ _ _ _ _ _ _ _ _ _ _ _ _ _ _ d.cuts d.wait n in
+    subst (λ x. (here_in x).start ≤ (here_in x).told) (sym k.1) (last-told _ _ _ _ _ _ _ _ _ _ _ _ _ _ _ _ _ 0 0 _ _ l.window d.cuts d.wait k.0)
+
+pub returns-in_err-write_last-in-Ok-false : goal.returns-in_err-write_last-in-Ok-false
+returns-in_err-write_last-in-Ok-false g c =
+    let cell = g.C.CellSource.cell_of c.args.cells.now in
+    let l = c.loop-window in
+    let d = cuts-due c.args.range c.args.limits cell c.args.profile c.args.limit _ _ _ (state_of g.C.CellSource.cell_of l.segmenter) (state_of g.C.CellSource.cell_of c.write_due.new.segmenter)
+    _ _ _ _ _ _ _ _ l.invariant.cuts c.write_due.ensures.state (⊎_elim inl (λ k. inr (k.0, ap g.W.Sink.written k.1, k.2)) c.in_ok-write_due.ensures.due) in
+    let few : words_in l.window ≤ (state_of g.C.CellSource.cell_of c.write_due.new.segmenter).start = d.cuts.chunked.stands.words in
+    let n = subst (TakesNext (state_of g.C.CellSource.cell_of c.write_due.new.segmenter) (state_of g.C.CellSource.cell_of c.take_next.new.segmenter)
+    (g.R.Source.unread l.reader) (g.R.Source.unread c.take_next.new.reader) (g.R.Source.has_ended l.reader) (g.R.Source.has_ended c.take_next.new.reader)
+    (g.R.Source.reads_made l.reader) (g.R.Source.reads_made c.take_next.new.reader) (g.R.Source.failure_count l.reader) (g.R.Source.failure_count c.take_next.new.reader)
+    l.window c.take_next.new.self) (c.in-Ok-false.is ∙ ap Ok c.in-Ok-false.field-0-test) (c.take_next.ensures few) in
+    let k = ended-so _ _ _ _ _ _ _ _ _ _ _ _ _ _ _ _ _ _ _ _ _ _ d.cuts d.wait n in
+    let exit = err_from_is_err_and c.from_residual-in_err-write_last-in-Ok-false.result c.from_residual-in_err-write_last-in-Ok-false.ensures.1 in
+    let is = exit.1 ∙ ap Err exit.2 in
+    rw is (record {
+      shown = tt;
+      ended = tt;
+      run = last-broken-off _ _ _ _ _ _ _ _ _ _ _ _ _ _ _ _ _ 0 0 _ _ l.window d.cuts d.wait k.0 _
+          (subst (λ x. BreaksOff c.args.range true x (g.W.Sink.written c.write_due.new.writer) (g.W.Sink.written c.write_last.new.writer) (waiting_in c.write_due.new.self)) k.1
+          c.in_err-write_last-in-Ok-false.ensures.front);
+      reads = most _ _ _ _ _ _ _ _ _ _ _ _ _ _ _ _ _ _ _ _ _ _ d.cuts d.wait (Ok false) n;
+      limit = limit_kept c.args.limit c.new.result c.in_ok-segmenter.segmenter c.in_ok-segmenter.was c.new.ensures.limit (Err cmd.Write) (write-no-limit (Err cmd.Write) refl);
+      failed_reads = k.2 ∙ l.invariant.read_failures;
+      failed_writes = c.write_last.ensures.failures ∙ ap (failures_after (g.W.Sink.failure_count c.write_due.new.writer)) c.in_err-write_last-in-Ok-false.was
+          ∙ ap count_up (c.write_due.ensures.failures ∙ ap (failures_after (g.W.Sink.failure_count l.writer)) c.in_ok-write_due.was ∙ l.invariant.write_failures);
+    })
+
+pub returns-in-Ok-false : goal.returns-in-Ok-false
+returns-in-Ok-false g c =
+    let cell = g.C.CellSource.cell_of c.args.cells.now in
+    let l = c.loop-window in
+    let d = cuts-due c.args.range c.args.limits cell c.args.profile c.args.limit _ _ _ (state_of g.C.CellSource.cell_of l.segmenter) (state_of g.C.CellSource.cell_of c.write_due.new.segmenter)
+    _ _ _ _ _ _ _ _ l.invariant.cuts c.write_due.ensures.state (⊎_elim inl (λ k. inr (k.0, ap g.W.Sink.written k.1, k.2)) c.in_ok-write_due.ensures.due) in
+    let few : words_in l.window ≤ (state_of g.C.CellSource.cell_of c.write_due.new.segmenter).start = d.cuts.chunked.stands.words in
+    let n = subst (TakesNext (state_of g.C.CellSource.cell_of c.write_due.new.segmenter) (state_of g.C.CellSource.cell_of c.take_next.new.segmenter)
+    (g.R.Source.unread l.reader) (g.R.Source.unread c.take_next.new.reader) (g.R.Source.has_ended l.reader) (g.R.Source.has_ended c.take_next.new.reader)
+    (g.R.Source.reads_made l.reader) (g.R.Source.reads_made c.take_next.new.reader) (g.R.Source.failure_count l.reader) (g.R.Source.failure_count c.take_next.new.reader)
+    l.window c.take_next.new.self) (c.in-Ok-false.is ∙ ap Ok c.in-Ok-false.field-0-test) (c.take_next.ensures few) in
+    let k = ended-so _ _ _ _ _ _ _ _ _ _ _ _ _ _ _ _ _ _ _ _ _ _ d.cuts d.wait n in
+    let end = end-met _ _ _ _ _ _ _ _ _ _ _ _ _ _ _ _ _ 0 0 _ _ l.window d.cuts d.wait k.0 in
+    let run = all-written _ _ _ _ _ _ _ _ _ _ _ _ _ _ _ _ _ 0 0 _ _ l.window d.cuts d.wait k.0 _
+    (subst (λ x. WritesAll c.args.range x (g.W.Sink.written c.write_due.new.writer) (g.W.Sink.written c.write_last.new.writer) (waiting_in c.write_due.new.self)) k.1
+    c.in_ok-write_last-in-Ok-false.ensures.all) in
+    record {
+      shown = known_chunks c.args.range c.args.limits cell c.args.profile c.args.limit _ _ _ _ _ _ _ run end.1;
+      ended = (end.0, end.1);
+      run = run;
+      reads = most _ _ _ _ _ _ _ _ _ _ _ _ _ _ _ _ _ _ _ _ _ _ d.cuts d.wait (Ok false) n;
+      limit = limit_kept c.args.limit c.new.result c.in_ok-segmenter.segmenter c.in_ok-segmenter.was c.new.ensures.limit (Ok (tt {0})) (ok-no-limit (Ok (tt {0})) refl);
+      failed_reads = k.2 ∙ l.invariant.read_failures;
+      failed_writes = c.write_last.ensures.failures ∙ ap (failures_after (g.W.Sink.failure_count c.write_due.new.writer)) c.in_ok-write_last-in-Ok-false.was
+          ∙ c.write_due.ensures.failures ∙ ap (failures_after (g.W.Sink.failure_count l.writer)) c.in_ok-write_due.was ∙ l.invariant.write_failures;
+    }
+
+pub returns-in_err-write-in-Err : goal.returns-in_err-write-in-Err
+returns-in_err-write-in-Err g c =
+    let cell = g.C.CellSource.cell_of c.args.cells.now in
+    let l = c.loop-window in
+    let d = cuts-due c.args.range c.args.limits cell c.args.profile c.args.limit _ _ _ (state_of g.C.CellSource.cell_of l.segmenter) (state_of g.C.CellSource.cell_of c.write_due.new.segmenter)
+    _ _ _ _ _ _ _ _ l.invariant.cuts c.write_due.ensures.state (⊎_elim inl (λ k. inr (k.0, ap g.W.Sink.written k.1, k.2)) c.in_ok-write_due.ensures.due) in
+    let few : words_in l.window ≤ (state_of g.C.CellSource.cell_of c.write_due.new.segmenter).start = d.cuts.chunked.stands.words in
+    let n = subst (TakesNext (state_of g.C.CellSource.cell_of c.write_due.new.segmenter) (state_of g.C.CellSource.cell_of c.take_next.new.segmenter)
+    (g.R.Source.unread l.reader) (g.R.Source.unread c.take_next.new.reader) (g.R.Source.has_ended l.reader) (g.R.Source.has_ended c.take_next.new.reader)
+    (g.R.Source.reads_made l.reader) (g.R.Source.reads_made c.take_next.new.reader) (g.R.Source.failure_count l.reader) (g.R.Source.failure_count c.take_next.new.reader)
+    l.window c.take_next.new.self) (c.in-Err.is) (c.take_next.ensures few) in
+    let exit = err_from_is_err_and c.from_residual-in_err-write-in-Err.result c.from_residual-in_err-write-in-Err.ensures.1 in
+    let is = exit.1 ∙ ap Err exit.2 in
+    let settled = waited (state_of g.C.CellSource.cell_of c.write_due.new.segmenter) (waiting_in c.write_due.new.self) d.wait c.write.result c.in_err-write-in-Err.field-0.0 c.in_err-write-in-Err.was (λ none. (c.write.ensures.nothing none).0) in
+    let front = c.in_err-write-in-Err.ensures.front in
+    rw is (record {
+      shown = tt;
+      ended = tt;
+      run = unwritten-lines _ _ _ _ _ _ _ _ _ _ _ _ _ _ _ _ _ _ _ _ _ _ d.cuts d.wait c.in-Err.fault n settled _ front.0 front.1;
+      reads = most _ _ _ _ _ _ _ _ _ _ _ _ _ _ _ _ _ _ _ _ _ _ d.cuts d.wait (Err c.in-Err.fault) n;
+      limit = limit_kept c.args.limit c.new.result c.in_ok-segmenter.segmenter c.in_ok-segmenter.was c.new.ensures.limit (Err cmd.Write) (write-no-limit (Err cmd.Write) refl);
+      failed_reads = still-failures _ _ _ _ _ _ _ _ _ _ _ _ _ _ _ _ _ _ _ _ _ _ d.cuts d.wait c.in-Err.fault n settled ∙ l.invariant.read_failures;
+      failed_writes = c.write.ensures.failures ∙ ap (failures_after (g.W.Sink.failure_count c.write_due.new.writer)) c.in_err-write-in-Err.was
+          ∙ ap count_up (c.write_due.ensures.failures ∙ ap (failures_after (g.W.Sink.failure_count l.writer)) c.in_ok-write_due.was ∙ l.invariant.write_failures);
+    })
+
+pub returns-in-Err : goal.returns-in-Err
+returns-in-Err g c =
+    let cell = g.C.CellSource.cell_of c.args.cells.now in
+    let l = c.loop-window in
+    let d = cuts-due c.args.range c.args.limits cell c.args.profile c.args.limit _ _ _ (state_of g.C.CellSource.cell_of l.segmenter) (state_of g.C.CellSource.cell_of c.write_due.new.segmenter)
+    _ _ _ _ _ _ _ _ l.invariant.cuts c.write_due.ensures.state (⊎_elim inl (λ k. inr (k.0, ap g.W.Sink.written k.1, k.2)) c.in_ok-write_due.ensures.due) in
+    let few : words_in l.window ≤ (state_of g.C.CellSource.cell_of c.write_due.new.segmenter).start = d.cuts.chunked.stands.words in
+    let n = subst (TakesNext (state_of g.C.CellSource.cell_of c.write_due.new.segmenter) (state_of g.C.CellSource.cell_of c.take_next.new.segmenter)
+    (g.R.Source.unread l.reader) (g.R.Source.unread c.take_next.new.reader) (g.R.Source.has_ended l.reader) (g.R.Source.has_ended c.take_next.new.reader)
+    (g.R.Source.reads_made l.reader) (g.R.Source.reads_made c.take_next.new.reader) (g.R.Source.failure_count l.reader) (g.R.Source.failure_count c.take_next.new.reader)
+    l.window c.take_next.new.self) (c.in-Err.is) (c.take_next.ensures few) in
+    record {
+      shown = tt;
+      ended = tt;
+      run = refused _ _ _ _ _ _ _ _ _ _ _ _ _ _ _ _ _ _ _ _ _ _ d.cuts d.wait c.in-Err.fault n _ c.in_ok-write-in-Err.ensures.written;
+      reads = most _ _ _ _ _ _ _ _ _ _ _ _ _ _ _ _ _ _ _ _ _ _ d.cuts d.wait (Err c.in-Err.fault) n;
+      limit = limit_kept c.args.limit c.new.result c.in_ok-segmenter.segmenter c.in_ok-segmenter.was c.new.ensures.limit _ (λ same. no-limit _ _ _ _ _ _ _ _ _ _ _ _ _ _ _ _ _ _ _ _ _ _ d.cuts d.wait (Err (cmd.Passage c.in-Err.fault)) c.in-Err.fault refl n same);
+      failed_reads = refused-failures _ _ _ _ _ _ _ _ _ _ _ _ _ _ _ _ _ _ _ _ _ _ d.cuts d.wait c.in-Err.fault n ∙ ap (λ k. failed_reads_with {X = Unit {0}} k (Err (cmd.Passage c.in-Err.fault))) l.invariant.read_failures;
+      failed_writes = c.write.ensures.failures ∙ ap (failures_after (g.W.Sink.failure_count c.write_due.new.writer)) c.in_ok-write-in-Err.was
+          ∙ c.write_due.ensures.failures ∙ ap (failures_after (g.W.Sink.failure_count l.writer)) c.in_ok-write_due.was ∙ l.invariant.write_failures;
+    }

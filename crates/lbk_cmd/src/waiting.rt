@@ -1,0 +1,153 @@
+//! The lines of chunks, which wait in a buffer of fixed size: no memory grows for them.
+
+ghost use Rattle.std.specs.Prelude.{◌≡◌, ◌⊎◌, ℕ, ◌+◌, ◌≤◌, ◌++◌, ◌∷◌, [], length, take, decimal, true};
+ghost use Rattle.std.specs.Prelude.{OnErr, OnOk};
+ghost use Rattle.std.specs.Io.KnownBytes.{Appends};
+ghost use Rattle.lbk_feed.specs.Devices.{failures_after};
+ghost use Rattle.lbk_passage.specs.Shown.{state_of};
+ghost use Rattle.lbk_chunk_reader.specs.Numbered.{numbered_chunk};
+ghost use Rattle.lbk_cmd.specs.Chunk.{asked_line, chunk_line, is_asked};
+ghost use Rattle.lbk_cmd.specs.Chunking.{Passes};
+ghost use Rattle.lbk_cmd.specs.Gathering.{HasWritten};
+ghost use Rattle.lbk_cmd.specs.Placing.{Placed};
+
+use super::placing::{place_byte, place_few, place_front};
+use super::segmented::place_kind;
+use itoa::write_digits;
+use lbk_args::Part;
+use lbk_chunk_reader::Chunk;
+use lbk_feed::{Failed, Sink, write_all};
+use lbk_passage::Segmenter;
+use lbk_rules::CellSource;
+
+/// How many bytes wait at most.
+const ROOM: usize = 16_384;
+
+/// Room for a line, and for what its parts write past its end.
+const LINE: usize = 128;
+
+/// The most digits of a number.
+const DIGITS: usize = 20;
+
+/// Lines that were not written yet.
+#[derive(Drop)]
+pub(crate) struct Waiting {
+    bytes: [u8; ROOM],
+    len: usize,
+    ghost few: { len ≤ 16384 },
+}
+
+impl Waiting {
+    ghost use Rattle.lbk_cmd.specs.Waiting.{waiting_in};
+
+    /// None.
+    pub fn new() -> Waiting
+        ensures { waiting_in result ≡ [] }
+    {
+        Waiting {
+            bytes: [0; ROOM],
+            len: 0,
+        }
+    }
+
+    /// Writes the lines.
+    pub fn write<W: Sink>(&mut self, writer: &mut W) -> Result<(), Failed>
+        ensures none { OnOk result (waiting_in self.new ≡ []) }
+        ensures empty { OnOk result (self.new.len ≡ 0) }
+        ensures written { OnOk result (Appends (W.written writer.old) (W.written writer.new) (waiting_in self.old)) }
+        ensures front { OnErr result
+            ((n : ℕ) × Appends (W.written writer.old) (W.written writer.new) (take n (waiting_in self.old))) }
+        ensures failures { W.failure_count writer.new ≡ failures_after (W.failure_count writer.old) result }
+        ensures nothing { waiting_in self.old ≡ [] → (result ≡ Ok tt) × (writer.new ≡ writer.old) }
+    {
+        write_all(writer, &self.bytes[..self.len])?;
+        self.len = 0;
+        Ok(())
+    }
+
+    /// Writes the lines, but where the next passage is settled by what was read.
+    pub fn write_due<W: Sink, C: CellSource>(
+        &mut self,
+        segmenter: &mut Segmenter<'_, C>,
+        writer: &mut W,
+    ) -> Result<(), Failed>
+        ensures state { state_of C.cell_of segmenter.new
+            ≡ record (state_of C.cell_of segmenter.old) { is_settled = (state_of C.cell_of segmenter.new).is_settled } }
+        ensures due { OnOk result (HasWritten (W.written writer.old) (W.written writer.new) (waiting_in self.old)
+            (waiting_in self.new)
+            ⊎ ((waiting_in self.new ≡ waiting_in self.old) × (writer.new ≡ writer.old)
+            × ((state_of C.cell_of segmenter.new).is_settled ≡ true))) }
+        ensures front { OnErr result
+            ((n : ℕ) × Appends (W.written writer.old) (W.written writer.new) (take n (waiting_in self.old))) }
+        ensures failures { W.failure_count writer.new ≡ failures_after (W.failure_count writer.old) result }
+    {
+        if segmenter.look_ahead() {
+            return Ok(());
+        }
+        self.write(writer)
+    }
+
+    /// Puts the line of a chunk behind the others, if it is asked for. These are written where no room is left for it.
+    pub fn push<W: Sink>(
+        &mut self,
+        range: Option<Part>,
+        chunk: &Chunk,
+        writer: &mut W,
+    ) -> Result<(), Failed>
+        ensures line { OnOk result (Passes (W.written writer.old) (W.written writer.new) (waiting_in self.old)
+            (waiting_in self.new) (asked_line range (numbered_chunk chunk.now))) }
+        ensures front { OnErr result
+            ((n : ℕ) × Appends (W.written writer.old) (W.written writer.new) (take n (waiting_in self.old))) }
+        ensures failures { W.failure_count writer.new ≡ failures_after (W.failure_count writer.old) result }
+    {
+        if !is_asked(range, chunk.start) {
+            return Ok(());
+        }
+        if self.len > ROOM - LINE {
+            self.write(writer)?;
+        }
+        self.len = place_chunk(&mut self.bytes, self.len, chunk);
+        Ok(())
+    }
+}
+
+/// Whether a chunk that begins at this byte is asked for.
+fn is_asked(range: Option<Part>, start: usize) -> bool
+    ensures { result ≡ is_asked range start }
+{
+    match range {
+        None => true,
+        Some(range) => range.from as usize <= start && start < range.to as usize,
+    }
+}
+
+/// Places the line of a chunk.
+fn place_chunk(line: &mut [u8], at: usize, chunk: &Chunk) -> usize
+    requires { at + 128 ≤ length line.old }
+    ensures placed { Placed line.old line.new at (chunk_line (numbered_chunk chunk.now)) result }
+    ensures short { result ≤ at + 128 }
+{
+    let next = place_front(line, at, *b"C ", 2);
+    let next = place_number(line, next, chunk.start);
+    let next = place_byte(line, next, b' ');
+    let next = place_number(line, next, chunk.end);
+    let next = place_byte(line, next, b' ');
+    let next = place_number(line, next, chunk.words);
+    let next = place_kind(line, next, chunk.kind);
+    let next = place_few(line, next, chunk.rule.label().as_bytes());
+    place_byte(line, next, b'\n')
+}
+
+/// Places the digits of a number.
+fn place_number(line: &mut [u8], at: usize, number: usize) -> usize
+    requires { at + 20 ≤ length line.old }
+    ensures placed { Placed line.old line.new at (decimal number) result }
+    ensures short { result ≤ at + 20 }
+{
+    let mut room = [0; DIGITS];
+    let start = write_digits(number as u64, &mut room, DIGITS);
+    let digits = &room[start..];
+    let behind = at + digits.len();
+    line[at..behind].copy_from_slice(digits);
+    behind
+}

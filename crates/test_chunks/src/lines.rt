@@ -1,0 +1,122 @@
+//! The lines that `chunk` writes, however the reads are cut, of the whole text and of a range, and a window by itself.
+
+use crate::cuttings::{LIMIT, cuttings, limits_of, push_told};
+use crate::rows::ROWS;
+use lbk_args::Part;
+use lbk_chunk_reader::Window;
+use lbk_chunks::Limits;
+use lbk_cmd::{CmdFault, chunk};
+use lbk_feed::devices::{MemorySink, MemorySource};
+use lbk_files::{SAMPLE_FILES, read_cells};
+use lbk_passage::{PassageFault, Segmenter};
+use lbk_rules::{CellPages, Profile};
+use std::alloc::Global;
+use std::test::Fail;
+use test_support::checks::same;
+
+/// A text that is read in these sizes has these lines, and the run ends so.
+fn check(
+    alloc: Global,
+    cells: &CellPages,
+    range: Option<Part>,
+    text: &[u8],
+    sizes: &[usize],
+    want: (&str, Result<(), CmdFault>),
+) -> Result<(), Fail> {
+    let mut reader = MemorySource::cut(text, sizes);
+    let mut writer = MemorySink::new(alloc, 1024)?;
+    let answer = chunk(
+        limits_of(&[4, 0, 2, 0]),
+        range,
+        alloc,
+        &mut reader,
+        &mut writer,
+        cells,
+        LIMIT,
+        Profile::First,
+    );
+    same(&writer.bytes(), &want.0.as_bytes(), &sizes)?;
+    same(&answer, &want.1, &sizes)
+}
+
+#[test]
+fn lines_in_all_reads(rt: HostRuntime) -> Result<(), Fail> {
+    let cells = read_cells(rt.alloc(), SAMPLE_FILES)?;
+    let text = b"aa bb\ncc";
+    let lines = "C 0 3 1 May 18\nC 3 6 1 Must 5\nC 6 8 1 Must 3\n";
+    for sizes in &cuttings(rt.alloc(), text.len())? {
+        check(rt.alloc(), &cells, None, text, sizes, (lines, Ok(())))?;
+    }
+    Ok(())
+}
+
+#[test]
+fn lines_of_a_range(rt: HostRuntime) -> Result<(), Fail> {
+    let cells = read_cells(rt.alloc(), SAMPLE_FILES)?;
+    let range = Some(Part { from: 1, to: 6 });
+    let want = ("C 3 6 1 Must 5\n", Ok(()));
+    check(rt.alloc(), &cells, range, b"aa bb\ncc", &[8], want)
+}
+
+#[test]
+fn lines_before_a_fault(rt: HostRuntime) -> Result<(), Fail> {
+    let cells = read_cells(rt.alloc(), SAMPLE_FILES)?;
+    let fault = CmdFault::Passage(PassageFault::NotUtf8 { at: 8 });
+    let want = ("C 0 3 1 May 18\n", Err(fault));
+    check(rt.alloc(), &cells, None, b"aa bb\ncc\xFF", &[9], want)
+}
+
+/// The chunks of a text by a window.
+fn by_window(
+    alloc: Global,
+    cells: &CellPages,
+    limits: Limits,
+    text: &[u8],
+) -> Result<String, Fail> {
+    let mut line = String::new(alloc);
+    let Ok(mut segmenter) = Segmenter::new(alloc, cells, LIMIT, Profile::First) else {
+        return Err(Fail::new(format_args!("no segmenter")));
+    };
+    let mut window = Window::new(alloc, limits);
+    let mut reader = MemorySource::new(text);
+    for _ in 0..u64::MAX {
+        let came = matches!(window.take_next(&mut segmenter, &mut reader), Ok(true));
+        for _ in 0..u64::MAX {
+            let Some(chunk) = window.next(!came) else {
+                break;
+            };
+            push_told(&mut line, &chunk)?;
+        }
+        if !came {
+            break;
+        }
+    }
+    Ok(line)
+}
+
+/// The same of its first passage, whose cuts are taken by hand.
+fn of_one_passage(alloc: Global, cells: &CellPages, text: &[u8]) -> Result<String, Fail> {
+    let mut line = String::new(alloc);
+    let Ok(mut segmenter) = Segmenter::new(alloc, cells, LIMIT, Profile::First) else {
+        return Err(Fail::new(format_args!("no segmenter")));
+    };
+    let mut window = Window::new(alloc, limits_of(&[4, 0, 0, 0]));
+    if let Ok(Some(passage)) = segmenter.next(&mut MemorySource::new(text)) {
+        window.take(&passage)?;
+    }
+    if let Some(chunk) = window.next(true) {
+        push_told(&mut line, &chunk)?;
+    }
+    Ok(line)
+}
+
+#[test]
+fn windows(rt: HostRuntime) -> Result<(), Fail> {
+    let cells = read_cells(rt.alloc(), SAMPLE_FILES)?;
+    for (text, numbers, want) in &ROWS {
+        let line = by_window(rt.alloc(), &cells, limits_of(numbers), text.as_bytes())?;
+        same(&line.as_str(), want, text)?;
+    }
+    let line = of_one_passage(rt.alloc(), &cells, b"aa bb\ncc")?;
+    same(&line.as_str(), &"0-3:1", &line)
+}
