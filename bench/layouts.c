@@ -1,8 +1,8 @@
-/* What a table in two stages and smaller breaks would gain: the loop of the library for C, modelled in C over its own table, with
- * kinds read flat or by pages, and breaks of 16 bytes, in columns of 4 + 1 + 1 bytes, or of 2 bytes (the distance from the break
- * before, and the number of the verdict). Texts are taken as well-formed and held positions as no breaks, in every form alike.
+/* What a table in two stages and smaller breaks would gain: the loop of the library for C, modelled in C over its table and its
+ * steps (crates/lbk_steps/src/row_steps.rt), with kinds read flat or by pages, and breaks of 16 bytes, in columns of 4 + 1 + 1 bytes, or of 2 bytes (the distance from the break
+ * before, and the number of the rule). Texts are taken as well-formed and held positions as no breaks, in every form alike.
  *
- *     layouts LINE-BREAK EAST-ASIAN CATEGORY EMOJI TEXT..
+ *     layouts ROW-STEPS LINE-BREAK EAST-ASIAN CATEGORY EMOJI TEXT..
  */
 #include <lbk.h>
 #include <stdio.h>
@@ -13,6 +13,7 @@
 enum { ROOM = 256, RUNS = 31, MOST = 1000000, PAGE = 64 };
 
 static lbk_table table;
+static struct { uint16_t shown, next; } steps[128 * 128];
 static uint16_t starts[LBK_CODES / PAGE];
 static uint8_t pages[LBK_CODES];
 
@@ -38,9 +39,9 @@ static size_t make_pages(void)
 
 #define FLAT(c) table.kinds[c]
 #define PAGED(c) pages[(size_t)starts[(c) / PAGE] * PAGE + (c) % PAGE]
-#define AS_WIDE (wides[count].at = at, wides[count].kind = (uint8_t)(code % 3), wides[count].rule = (uint8_t)(code / 4))
-#define AS_COLUMNS (places[count] = (uint32_t)at, kinds_out[count] = (uint8_t)(code % 3), rules_out[count] = (uint8_t)(code / 4))
-#define AS_NARROW (narrows[count] = (uint16_t)((at - last) << 8 | code), last = code % 3 ? at : last)
+#define AS_WIDE (wides[count].at = at, wides[count].kind = (uint8_t)shown, wides[count].rule = (uint8_t)(shown >> 8))
+#define AS_COLUMNS (places[count] = (uint32_t)at, kinds_out[count] = (uint8_t)shown, rules_out[count] = (uint8_t)(shown >> 8))
+#define AS_NARROW (narrows[count] = (uint16_t)((at - last) << 8 | shown >> 8), last = (shown & 255) ? at : last)
 
 #define FORM(name, KIND, PUT)                                                                  \
     static size_t name(const uint8_t *text, size_t size)                                       \
@@ -49,21 +50,21 @@ static size_t make_pages(void)
         uint16_t row = 0;                                                                      \
         while (at < size) {                                                                    \
             while (at < size && count < ROOM && text[at] < 0x80) {                             \
-                lbk_step step = table.first[row + KIND(text[at])];                             \
-                uint16_t code = step.code;                                                     \
-                PUT, count += code % 3 != 0, row = step.next, at++;                            \
+                size_t step = row + KIND(text[at]);                                            \
+                uint16_t shown = steps[step].shown;                                            \
+                PUT, count += (shown & 255) != 0, row = steps[step].next, at++;                \
             }                                                                                  \
             while (at + 1 < size && count < ROOM && text[at] >= 0xC0 && text[at] < 0xE0) {     \
                 uint32_t c = (uint32_t)(text[at] & 31) << 6 | (text[at + 1] & 63);             \
-                lbk_step step = table.first[row + KIND(c)];                                    \
-                uint16_t code = step.code;                                                     \
-                PUT, count += code % 3 != 0, row = step.next, at += 2;                         \
+                size_t step = row + KIND(c);                                                   \
+                uint16_t shown = steps[step].shown;                                            \
+                PUT, count += (shown & 255) != 0, row = steps[step].next, at += 2;             \
             }                                                                                  \
             while (at + 2 < size && count < ROOM && text[at] >= 0xE0 && text[at] < 0xF0) {     \
                 uint32_t c = (uint32_t)(text[at] & 15) << 12 | (uint32_t)(text[at + 1] & 63) << 6 | (text[at + 2] & 63); \
-                lbk_step step = table.first[row + KIND(c)];                                    \
-                uint16_t code = step.code;                                                     \
-                PUT, count += code % 3 != 0, row = step.next, at += 3;                         \
+                size_t step = row + KIND(c);                                                   \
+                uint16_t shown = steps[step].shown;                                            \
+                PUT, count += (shown & 255) != 0, row = steps[step].next, at += 3;             \
             }                                                                                  \
             if (count == ROOM)                                                                 \
                 total += count, count = 0;                                                     \
@@ -104,10 +105,25 @@ static uint8_t *whole(const char *name, size_t *size)
     return bytes;
 }
 
+/* Reads the steps of the first profile. */
+static void read_steps(const char *name)
+{
+    FILE *file = fopen(name, "r");
+    size_t count = 0;
+    unsigned shown, next;
+    if (file == NULL)
+        perror(name), exit(1);
+    for (int c; count < 128 * 128 && (c = getc(file)) != EOF;)
+        if (c == '{' && fscanf(file, "shown:%u,next:%u", &shown, &next) == 2)
+            steps[count].shown = (uint16_t)shown, steps[count++].next = (uint16_t)next;
+    fclose(file);
+}
+
 int main(int argc, char **argv)
 {
-    if (argc < 6)
-        return fprintf(stderr, "usage: layouts FOUR-FILES TEXT..\n"), 2;
+    if (argc < 7)
+        return fprintf(stderr, "usage: layouts ROW-STEPS FOUR-FILES TEXT..\n"), 2;
+    read_steps(*++argv), argc--;
     uint8_t *files[4];
     size_t sizes[4];
     for (int k = 0; k < 4; k++)

@@ -33,9 +33,9 @@ CLAIM_SOURCES = {
 # Where the calls of each column are declared, and how.
 CALLS = {
     "C": (["include/lbk.h"], r"^\w+ {}\("),
-    "C++": (["include/lbk.hpp"], r"^class {0} |^using {0} = |^inline [\w:<> ]+ {0}\(|^    static const table &{0}\("),
+    "C++": (["include/lbk.hpp"], r"^class {0} |^using {0} = |^inline [\w:<> ]+ {0}\(|^    (?:static const table &|std::string ){0}\("),
     "Rust": (["packages/rust/src"], r"^ *pub fn {0}\b|^pub struct {0} "),
-    "Python": (["packages/python/src/lbk/_table.py", "packages/python/src/lbk/_stream.py"], r"^    def {0}\(|^class {0}\b"),
+    "Python": ([f"packages/python/src/lbk/_{it}.py" for it in ("table", "stream", "labels")], r"^    def {0}\(|^class {0}\b"),
     "JavaScript": (
         [f"packages/javascript/{it}.d.ts" for it in ("lbk", "words", "parts", "chunks")],
         r"^  (?:static )?{0}(?:<.*>)?\(|^export (?:class|function) {0}\b",

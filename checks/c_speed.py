@@ -1,7 +1,9 @@
-"""The speed of the calls of the library for C over letters of one, two and three bytes, held positions and short texts.
+"""The speed of the calls of the library for C over letters of one, two and three bytes, held positions, short texts, and
+texts on which a call could be much slower than on others.
 
 Each is measured against a loop over the same bytes in the same process, and has to be at least some part as fast: a third to
-half of what is measured on an idle machine, so that neither the machine nor other load on it decides.
+half of what is measured on an idle machine, so that neither the machine nor other load on it decides. With made-up tables time
+may grow no faster than the text.
 """
 
 import re
@@ -15,6 +17,10 @@ from checks.unicode_files import property_files
 
 SIZE = 500_000
 HELD = "held positions"
+ILL_FORMED = "ill-formed bytes"
+FLAGS = "flags"
+QUOTES = "a run of quotation marks"
+LINES = "Arabic with CRLF"
 
 # A text, a call, and the least ratio of its speed to the loop's. `-2` is the second profile, `-8` eight bytes a call, `-60` a
 # line of at most sixty, `lbk_cut` a call for each 4,096 bytes: over a text without a cut, where each call reads to the end, 0.006
@@ -75,35 +81,60 @@ BOUNDS = [
 ]
 
 # A text, two calls, and the least ratio of the speed of the first to that of the second, which decides each byte by steps alone. So a
-# third less is seen: 0.97 was left of letters of three bytes where bytes that masks do not tell were never found to be many, and 1.6
-# is measured.
+# third less is seen: 1.3, 1.9, 3.4 and 2.5 are measured, where steps that are constants of the code made positions up to 1.3 times as
+# fast as before. Of letters of three bytes 0.6 of the ratio was left where bytes that masks do not tell were never found to be many.
 BESIDE = [
-    ("letters of three bytes", "lbk_breaks", "lbk_positions", 1.25),
+    ("letters of three bytes", "lbk_breaks", "lbk_positions", 1.05),
     ("letters of three bytes", "lbk_breaks_utf16", "lbk_positions_utf16", 1.4),
-    ("letters of two bytes", "lbk_breaks", "lbk_positions", 2.8),
-    ("the pages", "lbk_breaks", "lbk_positions", 2.5),
+    ("letters of two bytes", "lbk_breaks", "lbk_positions", 2.5),
+    ("the pages", "lbk_breaks", "lbk_positions", 1.9),
+]
+
+# A text, a call, and the least ratio of its speed to that of the call over the pages. Where masks were made anew behind
+# each byte that they do not tell, and single pieces taken by calls, 0.02, 0.02, 0.11, 0.03 and 0.03 were left.
+ACROSS = [
+    (ILL_FORMED, "lbk_breaks", 0.1),
+    (ILL_FORMED, "lbk_feed", 0.1),
+    (FLAGS, "lbk_breaks", 0.3),
+    (QUOTES, "lbk_breaks-2", 0.06),
+    (LINES, "lbk_marks", 0.07),
 ]
 
 
-def measured(room):
-    """The ratio of each call over each text."""
-    words = c_programs.library(room / "library")
-    program = c_programs.build("c/speed.c", room / "speed", *words)
-    of_all = {**texts(), HELD: "a\u2019 \u2019\u0301 (\u2018b\u2019 c, "}
+def ratios(room, program, calls, of_all):
+    """The ratio of each of these calls over each text."""
     paths = {}
-    for number, (name, text) in enumerate(of_all.items()):
-        data = text.encode()
-        path = room / f"text-{number}"
+    for name, text in of_all.items():
+        data = text if isinstance(text, bytes) else text.encode()
+        path = room / name.replace(" ", "-")
         path.write_bytes((data * (SIZE // len(data) + 1))[:SIZE])
         paths[str(path)] = name
-    ran = run_program([program, *property_files(), *paths])
+    ran = run_program([program, calls, *property_files(), *paths])
     rows = re.findall(r"^(\S+) (\S+) ([0-9.]+)$", ran.out.decode(), re.M)
     return {(paths[path], call): float(ratio) for path, call, ratio in rows}
 
 
+def measured(room, words):
+    """The ratio of each call over each text, and over those on which it could be slow of some."""
+    program = c_programs.build("c/speed.c", room / "speed", *words)
+    usual = {**texts(), HELD: "a\u2019 \u2019\u0301 (\u2018b\u2019 c, "}
+    slow = {
+        ILL_FORMED: b"\x80\xff",
+        FLAGS: "\U0001f1e9\U0001f1ea\U0001f1f8\U0001f1ea",
+        QUOTES: "\u00bb",
+        LINES: "\u0627\u0644\u0633\u0644\u0627\u0645 \u0639\u0644\u064a\u0643\u0645\u060c \u0645\u0631\u062d\u0628\u0627\r\n",
+    }
+    calls = "".join(f" {call} " for _, call, _ in ACROSS)
+    return {**ratios(room, program, "all", usual), **ratios(room, program, calls, slow)}
+
+
 def run(tally, _arguments):
     with tempfile.TemporaryDirectory() as room:
-        found = measured(Path(room))
+        words = c_programs.library(Path(room) / "library")
+        corrupt = c_programs.build("c/corrupt.c", Path(room) / "corrupt", "-D_GNU_SOURCE", *words)
+        what = "made-up kinds and neighbours: time grows no faster than the text"
+        c_programs.count(tally, what, [corrupt, *property_files()])
+        found = measured(Path(room), words)
         for text, call, least in BOUNDS:
             ratio = found.get((text, call), 0.0)
             said = f"{text}: {call}: {ratio:.3f} times the loop, at least {least}"
@@ -111,4 +142,8 @@ def run(tally, _arguments):
         for text, call, other, least in BESIDE:
             ratio = found.get((text, call), 0.0) / found.get((text, other), 1.0)
             said = f"{text}: {call}: {ratio:.2f} times {other}, at least {least}"
+            tally.tell(said, None if ratio >= least else "it is slower")
+        for text, call, least in ACROSS:
+            ratio = found.get((text, call), 0.0) / found.get(("the pages", call), 1.0)
+            said = f"{text}: {call}: {ratio:.3f} times the pages, at least {least}"
             tally.tell(said, None if ratio >= least else "it is slower")

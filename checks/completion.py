@@ -9,7 +9,7 @@ from checks.harness import TOP, has
 FILE = TOP / "docs/lbk.bash"
 # Words, of which the last is completed, and what comes.
 ROWS = [
-    ("", "mark show segment replay help --help --version"),
+    ("", "mark show segment chunk replay help --help --version"),
     ("s", "show segment"),
     ("help ma", "mark"),
     ("mark --l", "--line-break --limit"),
@@ -19,6 +19,8 @@ ROWS = [
     ("mark --ucd folder f", "folder file"),
     ("mark --s", "--sign"),
     ("segment --s", ""),
+    ("chunk --w", "--words"),
+    ("chunk --most ", ""),
     ("segment --from ", ""),
     ("mark --sign ", ""),
     ("bogus ", ""),

@@ -11,6 +11,7 @@ import tempfile
 from pathlib import Path
 
 from checks import c_programs
+from checks.files_and_pipes.place import REQUIRED
 from checks.harness import built_program, has, shown
 from checks.program import Ended, redirected
 from checks.program import run as run_program
@@ -246,9 +247,9 @@ def run(tally, _arguments):
             library = c_programs.build("c/interrupted.c", runs.room / "interrupted.so", "-shared", "-fPIC", compiler="gcc")
         else:
             tally.leave_out("interrupted calls, for which gcc is not there")
-        for task in ("", "mark", "show", "segment", "replay"):
+        for task in ("", "mark", "show", "segment", "chunk", "replay"):
             name = task or "no arguments"
-            words = [task, *runs.words(runs.files)] if task else []
+            words = [task, *REQUIRED.get(task, []), *runs.words(runs.files)] if task else []
             first = "" if task else SAMPLES
             outputs(runs, name, words, first)
             inputs(runs, name, words, first)

@@ -16,7 +16,7 @@ from checks.harness import TOP, built_program, shown
 from checks.program import run as run_program
 from checks.unicode_files import MISSING, OPTIONS, published
 
-TASKS = ("mark", "show", "segment", "replay")
+TASKS = ("mark", "show", "segment", "chunk", "replay")
 FILES = [word for pair in zip(OPTIONS, "LECM") for word in pair]
 # Arguments that no program is needed for; the program says the same of them.
 WORDS = [
@@ -27,6 +27,9 @@ WORDS = [
     ["mark", *FILES, "--from", "5", "--to", "4"], ["mark", "--ucd", "none"], ["mark", "--ucd", "U.zip"], ["replay", "--ucd", "a\u2066\nb"],
     ["mark", *FILES, "none", "fo\u200flder"], ["mark", *FILES, "--", "--limit", "-x"], ["show", *FILES[:7], "none"],
     ["mark", *FILES, "--sign", "ninebytes"], ["mark", *FILES, "--sign="], ["mark", *FILES, "--sign", "a\u2028"], ["show", *FILES, "--sign", "|"],
+    ["chunk", "--most", "64K"], ["chunk", "--most", "0"], ["chunk", "--words=0"], ["chunk", "--least", "-1"], ["chunk", "--overlap", "1e6"],
+    ["chunk", *FILES, "--most", "4", "--least", "5"], ["chunk", *FILES, "--most", "5", "--overlap", "3"], ["chunk", "--most", "5"],
+    ["chunk", *FILES, "--most", "5", "--most", "6"], ["mark", *FILES, "--most", "5"],
     ["mark", *FILES, "--sign", "|", "--sign", "+"], ["mark", *FILES, "--sign"], ["show", *FILES, "--name", "x"], ["replay", "--kind"],
 ]  # fmt: skip
 SECONDS = 1  # of processor time

@@ -23,6 +23,10 @@ NUMBERS = {
         "lbk_c/specs/Faults.antt",
         lambda name: "LBK_CAUSE_" + {"Memory": "OUT_OF_MEMORY"}.get(name, re.sub(r"(?<=.)(?=[A-Z])", "_", name).upper()),
     ),
+    "refusal_number": (
+        "lbk_calls/specs/Refused.antt",
+        {"Foreign": "LBK_CAUSE_NOT_PACKED", "Version": "LBK_CAUSE_OTHER_LAYOUT", "Damaged": "LBK_CAUSE_DAMAGED"},
+    ),
 }
 # The names that differ between the code and the header.
 TYPES = {"FlatTable": "table", "FlatStep": "step", "RawBreak": "break"}

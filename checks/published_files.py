@@ -163,6 +163,21 @@ def one_file_less(runs, folder, here, mark, marked):
     runs.tally.equal("a folder that lacks a file, which an option names", ended.out, marked)
 
 
+def cut_files(runs, words, show):
+    """A file that an option names, and that was cut, is read with a warning. One of another first line may end as it likes."""
+    own = runs.room / "cut.txt"
+    for k, option in enumerate(words[::2]):
+        contents = Path(words[2 * k + 1]).read_bytes()
+        given = [*words[: 2 * k], option, own, *words[2 * k + 2 :]]
+        for what, bytes_of, err in [
+            ("lacks its last line", contents[: contents.rindex(b"\n", 0, -1)], f"^lbk: {own}: warning: the file was cut: "),
+            ("has more line ends", contents + b"\r\n\n", ""),
+            ("lacks its first and its last line", contents[contents.index(b"\n") : contents.rindex(b"\n", 0, -1)], ""),
+        ]:
+            own.write_bytes(bytes_of)
+            runs.ends(f"{option} names a file that {what}", show(*given), 0, err)
+
+
 def faults(runs, words):
     room = runs.room
     missing, bad = room / "none.txt", room / "bad.txt"
@@ -171,6 +186,7 @@ def faults(runs, words):
     runs.ends("a folder for a file", show(*words[:2], "--east-asian", room, *words[4:]), 1, f"^lbk: {room}: ")
     bad.write_text("# one\n0061;AK\n", encoding="ascii")
     runs.ends("a bad row", show("--line-break", bad, *words[2:]), 1, f"^lbk: {bad}:2: ")
+    cut_files(runs, words, show)
     runs.ends("a limit of 0", show(*words, "--limit", 0), 2, r"0 is not in 1\.\.=16777216")
     runs.ends("profile 3", show(*words, "--profile", 3), 2, r"3 is not in 1\.\.=2")
     runs.ends("a paragraph past the limit", show(*words, "--limit", 4), 1, "^lbk: standard input: byte 0: .*--limit")

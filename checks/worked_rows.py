@@ -11,6 +11,7 @@ import socket
 import subprocess
 import tempfile
 
+from checks.chunk_lines import chunk_lines
 from checks.failing_streams import NOT_READY, SAMPLES
 from checks.files_and_pipes.place import LIMIT, NAMES, Place, words_of
 from checks.harness import TOP, built_program, shown
@@ -43,6 +44,11 @@ ROWS = [
     ("mark", "--limit 6", "ab cd\n", "ab ÷cd\n", "", 0),
     ("mark", "--limit 6", "a\nabcdefg", "a\n", too_long(2, 6), 1),
     ("show", "--limit 4", "abc\r\n", "", too_long(0, 4), 1),
+    ("chunk", "--most 4", "ab cd", "C 0 3 1 May 18\nC 3 5 1 Must 3\n", "", 0),
+    ("chunk", "--most 4 --words 1 --least 2 --overlap 2 --profile 2 --limit 5", "ab\ncd", "C 0 3 1 Must 5\nC 3 5 1 Must 3\n", "", 0),
+    ("chunk", "--most 4", "", "", "", 0),
+    ("chunk", "--most 1 --limit 4", "a\nbcdef", "", too_long(2, 4), 1),
+    ("chunk", "--most 2 --limit 4", "a b\nbcdef", "C 0 2 1 May 18\n", too_long(4, 4), 1),
 ]
 # The same where each operand names a text, and standard input is `ef`.
 OPERANDS = [
@@ -68,6 +74,10 @@ OPERANDS = [
     ("mark", "--from 1 --to 5 lines two", "cd\n", "", 0),
     ("segment", "--from 4 one", "", "", 0),
     ("segment", "--from 7 lines", "", ILL_FORMED.format("lines", 9), 1),
+    # A chunk that begins in a range is written, and all of the text is read.
+    ("chunk", "--most 3 one two", "C 0 3 2 Must 3\nC 0 3 1 Must 3\n", "", 0),
+    ("chunk", "--most 2 --from 1 --to 2 --names one", "==> one <==\n", "", 0),
+    ("chunk", "--most 2 --to 4 lines two", "C 0 2 1 May 18\nC 2 4 1 Must 5\nC 0 3 1 Must 3\n", ILL_FORMED.format("lines", 9), 1),
     ("replay", "tests tests", "D 1 1 ÷ × 28\nT 1 0 1 0\nD 1 1 ÷ × 28\nT 1 0 1 0\n", "", 3),
     ("replay", "tests none", "D 1 1 ÷ × 28\nT 1 0 1 0\n", MISSING.format("none"), 1),
 ]
@@ -97,12 +107,15 @@ CUT = [
                 ILL_FORMED.format("standard input", 3),
             ),
             ("segment", b"a\n\xff", "", ILL_FORMED.format("standard input", 2)),
+            ("chunk --most 3", b"ab cd\nef\xff", "C 0 3 1 May 18\n", ILL_FORMED.format("standard input", 8)),
+            ("chunk --most 9", b"a\nb\xff", "", ILL_FORMED.format("standard input", 3)),
         )
         for sizes in ([1], [2], [])
     ],
     # After a character that follows a passage, after a passage by itself, and after a line of a test file.
     ("show", b"a\nb", [], True, "× 0061 × 000A !\t# 2 6 5\n", IN_FAULT),
     ("show", b"a\n", [], True, "", IN_FAULT),
+    ("chunk --most 2", b"a b\nc", [], True, "C 0 2 1 May 18\n", IN_FAULT),
     ("", b"a\nb", [], True, "× 0061 × 000A !\t# 2 6 5\n", SAMPLES + IN_FAULT),
     ("replay", "× 0061 × 0062 ÷\n× 0061 ÷ 0062 ÷\n".encode(), [38], True, "D 2 1 ÷ × 28\n", IN_FAULT),
     # Standard input twice with a range: the second text is what no read had taken.
@@ -116,6 +129,7 @@ FULL = [
     ("show", "ab cd", OUT_FAULT, b"\xc3\x97 00"),
     ("", "ab cd", SAMPLES + OUT_FAULT, b"\xc3\x97 00"),
     ("segment", "ab cd", OUT_FAULT, b"P 0 5"),
+    ("chunk --most 3", "ab cd", OUT_FAULT, b"C 0 3"),
     ("replay", "× 0061 × 0062 ÷\n× 0061 ÷ 0062 ÷\n× D800 ÷\n", OUT_FAULT, b"D 2 1"),
 ]
 # Words behind the files that no command line has, and words without files.
@@ -129,6 +143,14 @@ segment --limit 0
 segment --limit 16777217
 segment --profile 0
 segment --kinds
+chunk
+chunk --most 0
+chunk --most 16777217
+chunk --most 4 --words 0
+chunk --most 4 --least 5
+chunk --most 4 --overlap 3
+chunk --most 4 --sign +
+segment --most 4
 segment --line-break L
 segment --from 2 --to 1
 mark --to 4294967296
@@ -319,5 +341,5 @@ def run(tally, _arguments):
         place = Place(tally, built_program(), folder)
         for name, of in zip(NAMES, ("LINE_BREAK", "EAST_ASIAN", "CATEGORY", "EMOJI")):
             place.write(name, samples[f"SAMPLE_{of}"])
-        for part in (worked, test_files, rows, cut_reads, full_outputs, wrong_words, bad_files, folders):
+        for part in (worked, test_files, rows, chunk_lines, cut_reads, full_outputs, wrong_words, bad_files, folders):
             part(place)

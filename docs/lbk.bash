@@ -3,16 +3,17 @@ _lbk() {
     local word=${COMP_WORDS[COMP_CWORD]} before=${COMP_WORDS[COMP_CWORD - 1]} options=
     COMPREPLY=()
     if [ "$COMP_CWORD" = 1 ]; then
-        mapfile -t COMPREPLY < <(compgen -W "mark show segment replay help --help --version" -- "$word")
+        mapfile -t COMPREPLY < <(compgen -W "mark show segment chunk replay help --help --version" -- "$word")
         return
     fi
     case ${COMP_WORDS[1]} in
     mark) options="--ucd --line-break --east-asian --category --emoji --limit --from --to --profile --names --sign --help" ;;
     show) options="--ucd --line-break --east-asian --category --emoji --limit --from --to --profile --names --help" ;;
     segment) options="--ucd --line-break --east-asian --category --emoji --limit --from --to --profile --names --help" ;;
+    chunk) options="--ucd --line-break --east-asian --category --emoji --most --words --least --overlap --limit --from --to --profile --names --help" ;;
     replay) options="--ucd --line-break --east-asian --category --emoji --kinds --profile --names --help" ;;
     help)
-        mapfile -t COMPREPLY < <(compgen -W "mark show segment replay" -- "$word")
+        mapfile -t COMPREPLY < <(compgen -W "mark show segment chunk replay" -- "$word")
         return
         ;;
     *) return ;;
@@ -23,7 +24,7 @@ _lbk() {
         mapfile -t COMPREPLY < <(compgen -d -- "$word")
         return
         ;;
-    --limit|--from|--to|--profile|--sign) return ;;
+    --limit|--from|--to|--profile|--sign|--most|--words|--least|--overlap) return ;;
     esac
     case $word in
     -*) mapfile -t COMPREPLY < <(compgen -W "$options" -- "$word") ;;

@@ -291,6 +291,51 @@ static void try_labels(void)
     }
 }
 
+static void try_rule_texts(void)
+{
+    told("what a rule says", strcmp(lbk_rule_text(LBK_RULE_18).text, "A break is allowed after spaces.") == 0);
+    for (unsigned rule = 0; rule <= UINT8_MAX; rule++) {
+        const lbk_text text = lbk_rule_text((uint8_t)rule);
+        const char *end = memchr(text.text, 0, sizeof text.text);
+        told("a rule that has a label says something", (text.text[0] != 0) == (lbk_label((uint8_t)rule).text[0] != 0));
+        told("zeros follow what it says", end != NULL && text.text[sizeof text.text - 1] == 0);
+    }
+}
+
+/* Whether the packed bytes are refused so. A table that is refused as damaged is corrupt then, and another one unchanged. */
+static int is_refused(const char *packed, size_t size, uint32_t cause)
+{
+    static lbk_table other;
+    other = table;
+    const uint32_t found = lbk_unpack(&other, packed, size);
+    return found == cause && (cause == LBK_CAUSE_DAMAGED ? !lbk_check(&other) : memcmp(&other, &table, sizeof table) == 0);
+}
+
+static void try_packing(void)
+{
+    static lbk_table unpacked;
+    static char packed[1 << 16], again[1 << 16];
+    const size_t size = lbk_pack(&table, packed, sizeof packed);
+    told("a table is packed into few bytes", size > 12 && size < sizeof packed && memcmp(packed, "lbk", 3) == 0 && packed[3] == LBK_LAYOUT);
+    told("what is packed is unpacked", lbk_unpack(&unpacked, packed, size) == LBK_CAUSE_NONE && memcmp(&unpacked, &table, sizeof table) == 0);
+    memset(again, 1, sizeof again);
+    told("without room: the size", lbk_pack(&table, NULL, 0) == size && lbk_pack(&table, again, size - 1) == size);
+    told("without room nothing is written", again[0] == 1 && memchr(again, packed[0], size) == NULL);
+    told("just enough room", lbk_pack(&table, again, size) == size && memcmp(packed, again, size) == 0 && again[size] == 1);
+    for (size_t cut = 0; cut < size; cut += cut < 16 ? 1 : 977)
+        told("packed bytes that were cut", is_refused(packed, cut, cut < 4 ? LBK_CAUSE_NOT_PACKED : LBK_CAUSE_DAMAGED));
+    for (size_t at = 0; at < size; at += at < 16 ? 1 : 977) {
+        packed[at] ^= 1;
+        told("packed bytes that were changed",
+             is_refused(packed, size, at < 3 ? LBK_CAUSE_NOT_PACKED : at == 3 ? LBK_CAUSE_OTHER_LAYOUT : LBK_CAUSE_DAMAGED));
+        packed[at] ^= 1;
+    }
+    told("more than the packed bytes", is_refused(packed, size + 1, LBK_CAUSE_DAMAGED));
+    told("a table is no packed table", is_refused((const char *)&table, sizeof table, LBK_CAUSE_NOT_PACKED));
+    unpacked.kinds[65] ^= 1;
+    told("a corrupt table is not packed", lbk_pack(&unpacked, again, sizeof again) == 0 && memcmp(packed, again, size) == 0);
+}
+
 static void try_classes(void)
 {
     static const struct {
@@ -362,6 +407,22 @@ static int is_text(lbk_text text, const char *wanted)
     return memcmp(text.text, other.text, sizeof other.text) == 0;
 }
 
+static void try_cut_files(void)
+{
+    static const struct {
+        const char *file;
+        bool is_cut;
+    } rows[] = {
+        {"", false}, {"0061;AL\n", false}, {"# EOF", false}, {"# LineBreak-15.0.0.txt", true}, {"# LineBreak-15.0.0.txt\n# EOF", false},
+        {"# LineBreak-15.0.0.txt\r\n# EOF \r\n\n", false}, {"# LineBreak-15.0.0.txt\n# EOF\n0061;AL\n", true},
+        {"# EastAsianWidth-14.0.0.txt\n#EOF\n", false}, {"# DerivedGeneralCategory-15.0.0.txt\n# EO", true}, {"# emoji-data.txt\n # EOF", true},
+        {"# Linebreak-15.0.0.txt\n", false}, {"\n# LineBreak-15.0.0.txt\n", false},
+    };
+    for (size_t k = 0; k < sizeof rows / sizeof rows[0]; k++)
+        told("a file was cut, or not", lbk_is_cut(rows[k].file, strlen(rows[k].file)) == rows[k].is_cut);
+    told("no file was not cut", !lbk_is_cut(NULL, 0));
+}
+
 static void try_texts(void)
 {
     static const char *const names[] = {"the four files", "LineBreak.txt", "EastAsianWidth.txt", "DerivedGeneralCategory.txt",
@@ -369,14 +430,14 @@ static void try_texts(void)
     told("the version", is_text(lbk_version(), LBK_VERSION));
     for (uint32_t k = 0; k < 5; k++)
         told("the name of a file", is_text(lbk_file_name(k), names[k]));
-    for (uint32_t k = 0; k <= LBK_CAUSE_NOT_PUBLISHED; k++)
+    for (uint32_t k = 0; k <= LBK_CAUSE_DAMAGED; k++)
         told("a cause has a text", (lbk_cause_text(k).text[0] == 0) == (k == 9) && lbk_cause_text(k).text[95] == 0);
     told("a cause's text", is_text(lbk_cause_text(LBK_CAUSE_OUT_OF_MEMORY), "out of memory"));
     for (uint32_t k = 1; k != 0; k <<= 1) {
         told("a number of no file", k < 5 || is_text(lbk_file_name(k), ""));
-        told("a number of no cause", k <= LBK_CAUSE_NOT_PUBLISHED || is_text(lbk_cause_text(k), ""));
+        told("a number of no cause", k <= LBK_CAUSE_DAMAGED || is_text(lbk_cause_text(k), ""));
     }
-    told("the numbers behind the last", is_text(lbk_file_name(5), "") && is_text(lbk_cause_text(11), ""));
+    told("the numbers behind the last", is_text(lbk_file_name(5), "") && is_text(lbk_cause_text(14), ""));
 }
 
 int main(void)
@@ -393,6 +454,9 @@ int main(void)
     try_sizes();
     try_tables();
     try_labels();
+    try_rule_texts();
+    try_cut_files();
+    try_packing();
     try_classes();
     try_words();
     try_texts();

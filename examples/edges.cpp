@@ -109,6 +109,7 @@ static void try_ranges(const lbk_table &table)
     told("the breaks of wide characters", unit_places(lbk::breaks_wide(table, L"a \x1F600\nb \x110000 ")) == these{2, 4, 6, 8});
     told("no break of no units", unit_places(lbk::breaks_utf16(table, u"")).empty() && unit_places(lbk::breaks_utf32(table, U"")).empty());
     told("labels", lbk::label(LBK_RULE_8A) == "8a" && lbk::label(255).empty());
+    told("what rules say", lbk::rule_text(LBK_RULE_18) == "A break is allowed after spaces." && lbk::rule_text(255).empty());
 }
 
 static void try_iterators(const lbk_table &table)
@@ -265,6 +266,12 @@ static void try_bytes(const lbk::table &table)
     told("a table from its bytes", copy && !why && places(*copy, "ab cd") == these{3, 5});
     told("bytes that are too few", !lbk::table::try_copy(table.bytes().substr(1), why) && refused(why, reason::not_a_table));
 
+    const std::string packed = table.pack();
+    std::optional<lbk::table> unpacked = lbk::table::try_unpack(packed, why);
+    told("a packed table", packed.size() < 200 && unpacked && !why && unpacked->bytes() == table.bytes());
+    told("a packed table that was cut", !lbk::table::try_unpack(packed.substr(1), why) && refused(why, reason::refused)
+                                            && why.message() == "these bytes are not a packed table");
+
     told("a table in its place", lbk::table_in(table.bytes()) == &table.get());
     told("no table in fewer bytes", lbk::table_in(table.bytes().substr(8)) == nullptr);
     auto room = std::make_unique<char[]>(sizeof(lbk_table) + 1);
@@ -346,7 +353,8 @@ static void try_exceptions(const lbk::table &table, const std::string &folder)
 {
     auto is_same = [&](const lbk::table &made) { return made.bytes() == table.bytes(); };
     told("a table by each way", is_same(lbk::table::read(LINE_BREAKS, "", CATEGORIES, ""))
-                                    && is_same(lbk::table::copy(table.bytes())) && is_same(lbk::table::map(folder + "/table")));
+                                    && is_same(lbk::table::copy(table.bytes())) && is_same(lbk::table::map(folder + "/table"))
+                                    && is_same(lbk::table::unpack(table.pack())));
     try {
         lbk::table::load(folder + "/none");
         told("no folder is thrown", false);

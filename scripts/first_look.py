@@ -7,9 +7,10 @@ import os
 from typing import NamedTuple
 
 TOP = os.path.dirname(os.path.dirname(os.path.abspath(__file__)))
-TASKS = ("mark", "show", "segment", "replay")
+TASKS = ("mark", "show", "segment", "chunk", "replay")
 FILES = {"line-break": "FILE", "east-asian": "FILE", "category": "FILE", "emoji": "FILE"}
 NUMBERS = {"limit": ("NUMBER", 1, 16_777_216), "from": ("BYTE", 0, 2**32 - 1), "to": ("BYTE", 0, 2**32 - 1)}
+SIZES = {name: ("NUMBER", least, 16_777_216) for name, least in (("most", 1), ("words", 1), ("least", 0), ("overlap", 0))}
 OF_FOLDER = {
     "line-break": "LineBreak.txt",
     "east-asian": "EastAsianWidth.txt",
@@ -20,6 +21,10 @@ MORE = "\nFor more information, try '--help'.\n"
 DIGITS = """
 Numbers are decimal digits: --limit 1 to 16777216, --from and --to 0 to
 4294967295, --profile 1 or 2.
+"""
+DIGITS_OF_CHUNKS = """
+Numbers are decimal digits: --most, --words and --limit 1 to 16777216, --least
+and --overlap 0 to 16777216, --from and --to 0 to 4294967295, --profile 1 or 2.
 """
 UNNAMED = """the property files are not named: give --ucd <FOLDER>, or each of
   --line-break <FILE>
@@ -73,8 +78,13 @@ def help_of(task=None):
 
 
 def refuse(text, task=None, has_usage=True, hint=""):
-    usage = f"\nUsage: lbk {task} --ucd <FOLDER> [OPTIONS] [FILE]...\n" if task else "\nUsage: lbk <COMMAND>\n"
+    most = " --most <NUMBER>" if task == "chunk" else ""
+    usage = f"\nUsage: lbk {task} --ucd <FOLDER>{most} [OPTIONS] [FILE]...\n" if task else "\nUsage: lbk <COMMAND>\n"
     raise Told(2, f"lbk: {text}\n{usage if has_usage else ''}{MORE}{hint}")
+
+
+def digits_of(task):
+    return DIGITS_OF_CHUNKS if task == "chunk" else DIGITS
 
 
 def options_of(task):
@@ -82,6 +92,8 @@ def options_of(task):
     named = {"ucd": "FOLDER", **FILES, "profile": "NUMBER"}
     if task == "replay":
         return named
+    if task == "chunk":
+        named |= {name: it[0] for name, it in SIZES.items()}
     limited = {**named, **{name: it[0] for name, it in NUMBERS.items()}}
     return {**limited, "sign": "TEXT"} if task == "mark" else limited
 
@@ -153,7 +165,7 @@ def read_task(task, words):
                     take_no_value(task, shown, rest)
                 value = rest.pop(0)
             add(given, task, name, shown, value)
-            look_at_number(name, shown, value)
+            look_at_number(task, name, shown, value)
         else:
             refuse_option(task, word, name, is_joined)
     look_at_whole(task, given)
@@ -183,14 +195,14 @@ def refuse_option(task, word, name, is_joined):
     alike = most_alike(name, known) if word.startswith("--") else None
     if alike:
         refuse(f"unexpected argument '{shown}' found\n\n  tip: a similar argument exists: '--{alike}'", task)
-    hint = DIGITS if word[1:2].isascii() and word[1:2].isdigit() else ""
+    hint = digits_of(task) if word[1:2].isascii() and word[1:2].isdigit() else ""
     refuse(f"unexpected argument '{shown}' found\n\n  tip: to pass '{shown}' as a value, use '-- {shown}'", task, hint=hint)
 
 
-def look_at_number(name, shown, value):
-    if name not in NUMBERS and name != "profile":
+def look_at_number(task, name, shown, value):
+    if name not in NUMBERS and name not in SIZES and name != "profile":
         return
-    _, least, most = NUMBERS.get(name, ("", 1, 2))
+    _, least, most = {**NUMBERS, **SIZES}.get(name, ("", 1, 2))
     digits = value[1:] if value.startswith("+") else value
     if not value:
         why = "cannot parse integer from empty string"
@@ -202,16 +214,22 @@ def look_at_number(name, shown, value):
         why = f"{int(digits)} is not in {least}..={most}"
     else:
         return
-    refuse(f"invalid value '{one_line(value)}' for '{shown}': {why}", has_usage=False, hint=DIGITS)
+    refuse(f"invalid value '{one_line(value)}' for '{shown}': {why}", has_usage=False, hint=digits_of(task))
 
 
 def look_at_whole(task, given):
+    if task == "chunk" and "most" not in given:
+        raise Unsure
     if not given.get("ucd") and not all(it in given for it in FILES):
         refuse(UNNAMED, task)
     if int(given.get("from", 0)) > int(given.get("to", 2**32 - 1)):
         refuse("--from <BYTE> is greater than --to <BYTE>", task)
     if not is_sign(given.get("sign", "÷")):
         refuse("--sign <TEXT> is 1 to 8 bytes of UTF-8 without a line end", task)
+    if int(given.get("least", 0)) > int(given.get("most", 2**24)):
+        refuse("--least <NUMBER> is greater than --most <NUMBER>", task)
+    if int(given.get("overlap", 0)) > int(given.get("most", 2**25)) // 2:
+        refuse("--overlap <NUMBER> is more than half of --most <NUMBER>", task)
 
 
 def is_sign(text):

@@ -140,6 +140,12 @@ static void try_others(void)
     size_t cut = lbk_cut(&table, text, size, 1), cut_before = lbk_cut_before(&table, text, size, size - 1);
     lbk_rule_label label = lbk_label(block[0].rule);
     lbk_class_label class = lbk_class(&table, 'a');
+    static char packed[12 + 2 * LBK_CODES];
+    static lbk_table other;
+    size_t packed_size = lbk_pack(&table, packed, sizeof packed);
+    uint32_t unpacked = lbk_unpack(&other, packed, packed_size);
+    lbk_text says = lbk_rule_text(block[0].rule);
+    bool is_cut = lbk_is_cut("# LineBreak-", 12);
     lbk_text cause = lbk_cause_text(LBK_CAUSE_RANGE), file = lbk_file_name(LBK_EMOJI), version = lbk_version();
     int whole = lbk_check(&table);
     is_counting = 0;
@@ -147,6 +153,7 @@ static void try_others(void)
     told("they give what they give", 0,
          count == 4 && fed.count == 4 && positions == 4 && in_units == 2 && in_scalars == 2 && at_units == 4 && at_scalars == 4 && places == size + 1
              && of_text == 4 && pieces == 1 && cut == 6 && cut_before == 6
+             && packed_size > 0 && unpacked == LBK_CAUSE_NONE && says.text[0] != 0 && is_cut
              && label.text[0] != 0 && class.text[0] != 0 && cause.text[0] != 0 && file.text[0] != 0 && version.text[0] != 0 && whole);
 }
 

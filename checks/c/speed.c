@@ -1,14 +1,16 @@
 /* Times the calls of the library over texts of letters of one, two and three bytes, and over others, against a loop that takes a
  * byte a step through a small table, as any machine does at its own speed.
  *
- *     speed LINE_BREAK EAST_ASIAN CATEGORY EMOJI TEXT..
+ *     speed CALLS LINE_BREAK EAST_ASIAN CATEGORY EMOJI TEXT..
  *
+ * CALLS are names of calls, each between two spaces, or `all`.
  * Writes for each text lines `TEXT CALL RATIO`: how many times as fast as the loop a call goes over its bytes, by the best of
  * several runs of each in processor time.
  */
 #define _DEFAULT_SOURCE
 #include "../../examples/example.h"
 
+#include <string.h>
 #include <time.h>
 
 enum { ROOM = 256, RUNS = 40, SHORT = 8, LINE = 60, PIECE = 4096, MOST_LINES = 1 << 20, MOST_UNITS = 1 << 20 };
@@ -268,6 +270,13 @@ static double ratio_of(uint64_t (*go)(const char *, size_t), const bytes *text)
     return loop / call;
 }
 
+static int is_named(const char *call, const char *names)
+{
+    char name[32];
+    snprintf(name, sizeof name, " %s ", call);
+    return strcmp(names, "all") == 0 || strstr(names, name) != NULL;
+}
+
 int main(int count, char **word)
 {
     static const struct {
@@ -281,19 +290,20 @@ int main(int count, char **word)
         {"lbk_breaks_utf16", go_breaks_16}, {"lbk_breaks_utf32", go_breaks_32},
         {"lbk_positions_utf16", go_positions_16}, {"lbk_positions_utf32", go_positions_32},
     };
-    if (count < 6) {
-        fprintf(stderr, "usage: speed LINE_BREAK EAST_ASIAN CATEGORY EMOJI TEXT..\n");
+    if (count < 7) {
+        fprintf(stderr, "usage: speed CALLS LINE_BREAK EAST_ASIAN CATEGORY EMOJI TEXT..\n");
         return 2;
     }
-    read_table(&table, word + 1);
+    read_table(&table, word + 2);
     for (unsigned k = 0; k < sizeof small; k++)
         small[k / 4][k % 4] = (uint8_t)((k * 7 + 1) % 4);
-    for (int k = 5; k < count; k++) {
+    for (int k = 6; k < count; k++) {
         bytes text = load(word[k]);
         find_lines(&text);
         find_units(&text);
         for (size_t call = 0; call < sizeof calls / sizeof *calls; call++)
-            printf("%s %s %.4f\n", word[k], calls[call].name, ratio_of(calls[call].go, &text));
+            if (is_named(calls[call].name, word[1]))
+                printf("%s %s %.4f\n", word[k], calls[call].name, ratio_of(calls[call].go, &text));
         free(text.at);
     }
     return 0;

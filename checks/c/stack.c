@@ -62,7 +62,7 @@ static void *do_read_published(void *none)
 static void *do_names(void *none)
 {
     for (uint32_t k = 0; k < 256; k++)
-        total += lbk_label((uint8_t)k).text[0] != 0;
+        total += (lbk_label((uint8_t)k).text[0] != 0) + (lbk_rule_text((uint8_t)k).text[0] != 0);
     for (uint32_t scalar = 0; scalar < LBK_CODES; scalar += 7)
         total += lbk_class(&table, scalar).text[0] != 0;
     for (uint32_t k = 0; k < 256; k++)
@@ -74,6 +74,15 @@ static void *do_names(void *none)
 static void *do_check(void *none)
 {
     total = lbk_check(&table) ? 1 : 0;
+    return none;
+}
+
+static void *do_pack(void *none)
+{
+    static char packed[12 + 2 * LBK_CODES];
+    static lbk_table other;
+    total = lbk_pack(&table, packed, sizeof packed);
+    total = total <= sizeof packed && lbk_unpack(&other, packed, total) == LBK_CAUSE_NONE && lbk_check(&other);
     return none;
 }
 
@@ -268,6 +277,8 @@ int main(int count, char **word)
     stack_size = small;
     run_in_thread("lbk_check", do_check);
     told("lbk_check holds of the table", total == 1);
+    run_in_thread("lbk_pack", do_pack);
+    told("a table is packed and unpacked", total == 1);
     run_in_thread("names", do_names);
     told("there are names", total > 38 + LBK_CODES / 8);
     for (int k = 7; k < count; k++) {

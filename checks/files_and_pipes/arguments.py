@@ -15,6 +15,10 @@ NUMBERS = """
 Numbers are decimal digits: --limit 1 to 16777216, --from and --to 0 to
 4294967295, --profile 1 or 2.
 """
+NUMBERS_OF_CHUNKS = """
+Numbers are decimal digits: --most, --words and --limit 1 to 16777216, --least
+and --overlap 0 to 16777216, --from and --to 0 to 4294967295, --profile 1 or 2.
+"""
 LIMIT_OPTION, FROM_OPTION = "--limit <NUMBER>", "--from <BYTE>"
 SIGN = "--sign <TEXT> is 1 to 8 bytes of UTF-8 without a line end"
 
@@ -48,14 +52,21 @@ MISTAKES = [
     ("mark", "--sign ninebytes", SIGN, True),
     ("mark", "--sign=", SIGN, True),
     ("segment", "--sign +", UNEXPECTED.format("--sign"), True),
+    ("chunk", "--most 64K", INVALID.format("64K", "--most <NUMBER>", "invalid digit found in string"), False),
+    ("chunk", "--most 0", INVALID.format("0", "--most <NUMBER>", "0 is not in 1..=16777216"), False),
+    ("chunk", "--words=1e6", INVALID.format("1e6", "--words <NUMBER>", "invalid digit found in string"), False),
+    ("chunk", "--most 4 --overlap -1", UNEXPECTED.format("-1"), True),
+    ("chunk", "--most 4 --least 5", "--least <NUMBER> is greater than --most <NUMBER>", True),
+    ("chunk", "--most 5 --overlap 3", "--overlap <NUMBER> is more than half of --most <NUMBER>", True),
 ]
 
 
 def mistakes(place):
     """Each kind of mistake, and operands that look like options, which are none behind `--`."""
     for task, more, told, has_usage in MISTAKES:
-        usage = f"\nUsage: lbk {task} --ucd <FOLDER> [OPTIONS] [FILE]...\n" if has_usage else ""
-        hint = NUMBERS if told.startswith("invalid value") or "'-1'" in told else ""
+        most = " --most <NUMBER>" if task == "chunk" else ""
+        usage = f"\nUsage: lbk {task} --ucd <FOLDER>{most} [OPTIONS] [FILE]...\n" if has_usage else ""
+        hint = (NUMBERS_OF_CHUNKS if most else NUMBERS) if told.startswith("invalid value") or "'-1'" in told else ""
         err = f"lbk: {told}\n{usage}\nFor more information, try '--help'.\n{hint}".encode()
         place.row(f"{task} {more}", words_of(task, more=more.split()), b"ab", 2, b"", err)
     place.write("--limit", b"a a")

@@ -4,7 +4,7 @@ import os
 import sys
 
 from checks import c_programs
-from checks.files_and_pipes.place import words_of
+from checks.files_and_pipes.place import REQUIRED, words_of
 from checks.harness import has
 from checks.program import run as run_program
 
@@ -29,13 +29,14 @@ def run(place):
     for what, call in (("read", "os.read(0, 0)"), ("write", "os.write(1, b'')")):
         status = run_program([sys.executable, "-c", f"import os; {call}"], env=env).status
         place.tally.tell(f"a {what} of no bytes is seen", None if status == STATUS else f"status {status}")
-    for task in ("mark", "show", "segment", "replay"):
+    for task in ("mark", "show", "segment", "chunk", "replay"):
+        own = REQUIRED.get(task, [])
         for what, text in TEXTS.items():
             place.write("text", text)
-            try_each(place, env, f"{task}: {what}", words_of(task), text)
-            try_each(place, env, f"{task}: {what}, as a file between others", words_of(task, more=["none", "text", "-"]), text)
+            try_each(place, env, f"{task}: {what}", words_of(task, more=own), text)
+            try_each(place, env, f"{task}: {what}, as a file between others", words_of(task, more=[*own, "none", "text", "-"]), text)
             if task != "replay":
-                words = words_of(task, more=["--from", "1", "--to", "9000"])
+                words = words_of(task, more=[*own, "--from", "1", "--to", "9000"])
                 try_each(place, env, f"{task}: a range of {what}", words, text)
 
 

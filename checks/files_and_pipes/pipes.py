@@ -7,7 +7,7 @@ import subprocess
 import threading
 
 from checks.files_and_pipes.files import DECIDES
-from checks.files_and_pipes.place import NAMES, long_file, with_name, words_of
+from checks.files_and_pipes.place import NAMES, REQUIRED, long_file, with_name, words_of
 from checks.harness import shown
 from checks.program import run as run_program
 from checks.unicode_files import MISSING, OPTIONS, published
@@ -101,9 +101,9 @@ def opened_once(place):
     place.write("text", b"a a")
     place.write("bad", b"0061;AK\n")
     (place.folder / "folder").mkdir()
-    for task in ("mark", "show", "segment", "replay"):
+    for task in ("mark", "show", "segment", "chunk", "replay"):
         for what, names, wanted in OPENED_OF:
-            place.tally.equal(f"{task}, {what}: what is opened", opened(place, words_of(task, names, ["text"]), ["."]), wanted)
+            place.tally.equal(f"{task}, {what}: what is opened", opened(place, words_of(task, names, [*REQUIRED.get(task, []), "text"]), ["."]), wanted)
     folder = place.folder / "made-up"
     for name in OF_FOLDER:
         (folder / name).parent.mkdir(parents=True, exist_ok=True)

@@ -9,6 +9,8 @@ from checks.unicode_files import OPTIONS
 
 LIMIT = 16_777_216
 NAMES = ("L", "E", "C", "M")
+# What a subcommand requires beside the files.
+REQUIRED = {"chunk": ["--most", "1"]}
 
 LINE_BREAK = b"""\
 000A;LF
