@@ -5,7 +5,7 @@
  *
  * CALLS are names of calls, each between two spaces, or `all`.
  * Writes for each text lines `TEXT CALL RATIO`: how many times as fast as the loop a call goes over its bytes, by the best of
- * several runs of each in processor time.
+ * RUNS runs of each in processor time.
  */
 #define _DEFAULT_SOURCE
 #include "../../examples/example.h"
@@ -13,7 +13,11 @@
 #include <string.h>
 #include <time.h>
 
-enum { ROOM = 256, RUNS = 40, SHORT = 8, LINE = 60, PIECE = 4096, MOST_LINES = 1 << 20, MOST_UNITS = 1 << 20 };
+#ifndef RUNS
+#define RUNS 40
+#endif
+
+enum { ROOM = 256, SHORT = 8, LINE = 60, PIECE = 4096, MOST_LINES = 1 << 20, MOST_UNITS = 1 << 20 };
 
 static lbk_table table;
 static lbk_break block[ROOM];
@@ -33,7 +37,8 @@ static double now(void)
     return (double)at.tv_sec + (double)at.tv_nsec * 1e-9;
 }
 
-static uint64_t go_byte_by_byte(const char *text, size_t size)
+/* (not inlined: valgrind tells the instructions of a call from those before it by this name) */
+static __attribute__((noinline)) uint64_t go_byte_by_byte(const char *text, size_t size)
 {
     unsigned state = 0;
     uint64_t sum = 0;
