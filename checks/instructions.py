@@ -48,9 +48,10 @@ def drawn(letters):
 
 
 def texts():
-    """Texts of letters of one, two and three bytes."""
+    """Texts of letters of one, two and three bytes. A scalar that the size would cut is left out."""
     firsts = {"one byte": "a", "two bytes": "\u0430", "three bytes": "\u6587"}
-    return {name: drawn([chr(ord(first) + k) for k in range(16)]).encode()[:SIZE] for name, first in firsts.items()}
+    of_all = {name: drawn([chr(ord(first) + k) for k in range(16)]) for name, first in firsts.items()}
+    return {name: text.encode()[:SIZE].decode(errors="ignore").encode() for name, text in of_all.items()}
 
 
 def filled(of_all):
