@@ -1,4 +1,4 @@
-"""The rows of steps of lbk_steps are what scripts/row-steps writes from the rules."""
+"""The rows of steps of lbk_rules are what scripts/row-steps writes from the rules."""
 
 from checks.harness import TOP, run_script
 

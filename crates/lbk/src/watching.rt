@@ -6,8 +6,8 @@ ghost use Rattle.lbk_files.specs.Store.{IsFront, IsLoadFault, refusals_after};
 
 use super::hints;
 use lbk_args::{FileName, FileNames};
-use lbk_database::is_cut;
 use lbk_files::{LoadFault, Store};
+use lbk_ucd::is_cut;
 use std::alloc::Global;
 use std::cell::Cell;
 

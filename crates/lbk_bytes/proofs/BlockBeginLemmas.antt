@@ -4,14 +4,14 @@ use Rattle.std.specs.Int.Bits.{bit_or}
 use Rattle.std.proofs.lemmas.Bool.{and_from, and_parts, cases_lt, eq-eqb, le-leb, leb-true, lt-leb, lt-ltb, ltb-true, not_from_true, or_parts}
 use Rattle.std.proofs.lemmas.List.{get_or_past, length-drop}
 use Rattle.std.proofs.lemmas.Nat.{and_le_r}
-use Rattle.lbk_masks.specs.Letters.{StandsForAll}
+use Rattle.lbk_rules.specs.Letters.{StandsForAll}
 use Rattle.lbk_masks.proofs.BitLemmas.{set-or}
 use Rattle.lbk_masks.proofs.FoundLemmas.{rest-byte}
 use Rattle.lbk_masks.specs.Sets.{is_set, left_before, left_in, meets, right_in}
 use Rattle.lbk_masks.specs.Strays.{is_pair, is_second, is_stray}
 use Rattle.lbk_rules.specs.declared.Cell.{Cell}
-use Rattle.lbk_rules.specs.declared.Step.{Step}
-use Rattle.lbk_rules.specs.declared.Neighbours.{Neighbours}
+use Rattle.lbk_rules.specs.declared.steps.Step.{Step}
+use Rattle.lbk_rules.specs.declared.neighbours.Neighbours.{Neighbours}
 use Rattle.lbk_values.specs.declared.profile.Profile.{Profile}
 use Rattle.lbk_rules.specs.FlatTable.{AreFlatKinds}
 use Rattle.lbk_rules.proofs.FlatLemmas.{place-any}

@@ -7,10 +7,10 @@ use Rattle.std.proofs.lemmas.Bool.Decides.{nat_tests}
 use Rattle.std.proofs.lemmas.List.{get_or-drop, length-append, length-drop}
 use Rattle.bstr.specs.Utf8.{code_of_2, decoded, good, second}
 use Rattle.bstr.proofs.lemmas.PieceLemmas.{value-1, value-6}
-use Rattle.lbk_masks.specs.Letters.{StandsFor, StandsForAll}
+use Rattle.lbk_rules.specs.Letters.{StandsFor, StandsForAll}
 use Rattle.lbk_rules.specs.declared.Cell.{Cell}
-use Rattle.lbk_rules.specs.declared.Step.{Step}
-use Rattle.lbk_rules.specs.declared.Neighbours.{Neighbours}
+use Rattle.lbk_rules.specs.declared.steps.Step.{Step}
+use Rattle.lbk_rules.specs.declared.neighbours.Neighbours.{Neighbours}
 use Rattle.lbk_values.specs.declared.profile.Profile.{Profile}
 use Rattle.lbk_rules.specs.FlatTable.{AreFlatKinds}
 use Rattle.lbk_rules.specs.Neighbours.{row_behind, step_behind}

@@ -5,10 +5,10 @@ use Rattle.std.proofs.lemmas.List.{length-append}
 use Rattle.std.proofs.Math.Seq.{drop-length}
 use Rattle.bstr.proofs.lemmas.PieceLemmas.{pieces-nil}
 use Rattle.bstr.specs.Utf8.{Decoded, code_of_2, decoded, pieces}
-use Rattle.lbk_masks.specs.Letters.{StandsForAll}
+use Rattle.lbk_rules.specs.Letters.{StandsForAll}
 use Rattle.lbk_rules.specs.declared.Cell.{Cell}
-use Rattle.lbk_rules.specs.declared.Step.{Step}
-use Rattle.lbk_rules.specs.declared.Neighbours.{Neighbours}
+use Rattle.lbk_rules.specs.declared.steps.Step.{Step}
+use Rattle.lbk_rules.specs.declared.neighbours.Neighbours.{Neighbours}
 use Rattle.lbk_values.specs.declared.profile.Profile.{Profile}
 use Rattle.lbk_bytes.specs.Blocks.{IsBlock, byte_at, end_at}
 use Rattle.lbk_bytes.specs.Marks.{boundary_among, boundary_from}

@@ -11,7 +11,7 @@ use Rattle.lbk_rules.specs.declared.Kind.TheVariants.{No, May, Must}
 use Rattle.lbk_rules.specs.declared.Verdict.{Verdict}
 use Rattle.lbk_values.specs.declared.profile.Profile.{Profile}
 use Rattle.lbk_values.specs.declared.profile.Profile.TheVariants.{First, Second}
-use Rattle.lbk_rules.specs.declared.Step.{Step}
+use Rattle.lbk_rules.specs.declared.steps.Step.{Step}
 use Rattle.lbk_rules.specs.Breaks.{break_by}
 use Rattle.lbk_rules.specs.Classes.{CR, is}
 use Rattle.lbk_rules.specs.Codes.{kind_number, kind_numbered}

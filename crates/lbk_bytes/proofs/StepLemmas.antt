@@ -3,8 +3,8 @@ use Rattle.std.proofs.Common.{◌≡◌, ℕ, true, false, List, [], ◌∷◌, 
 use Rattle.std.specs.Char.{IsScalar}
 use Rattle.lbk_rules.specs.declared.Cell.{Cell}
 use Rattle.lbk_rules.specs.declared.Left.{Left}
-use Rattle.lbk_rules.specs.declared.Step.{Step}
-use Rattle.lbk_rules.specs.declared.FlatTable.{FlatTable}
+use Rattle.lbk_rules.specs.declared.steps.Step.{Step}
+use Rattle.lbk_rules.specs.declared.flat_table.FlatTable.{FlatTable}
 use Rattle.lbk_values.specs.declared.profile.Profile.{Profile}
 use Rattle.lbk_values.specs.declared.profile.Profile.TheVariants.{First, Second}
 use Rattle.lbk_rules.specs.Chain.{from_cells}
@@ -20,7 +20,7 @@ use Rattle.lbk_rules.specs.Verdict.{verdict_between_in}
 use Rattle.lbk_rules.proofs.AheadLemmas.{ahead-normal}
 use Rattle.lbk_rules.proofs.FlatLemmas.{flat-step}
 use Rattle.lbk_rules.proofs.RowMachineLemmas.{normals-back}
-use Rattle.lbk_rules.specs.steps.TheConstants.{HELD}
+use Rattle.lbk_rules.specs.declared.steps.TheConstants.{HELD}
 use Rattle.lbk_rules.specs.Neighbours.{AreTold}
 use Rattle.lbk_rules.specs.Rows.{IsPlace, left_at, step_by, steps_in, verdict_shown}
 

@@ -3,7 +3,7 @@
 ghost use Rattle.std.specs.Prelude.{◌≡◌, ℕ, ◌+◌, ◌*◌, ◌<◌, ◌≤◌, ◌++◌, List, length};
 ghost use Rattle.lbk_rules.specs.declared.Cell.{Cell};
 ghost use Rattle.lbk_values.specs.declared.profile.Profile.{Profile};
-ghost use Rattle.lbk_rules.specs.declared.Step.{Step};
+ghost use Rattle.lbk_rules.specs.declared.steps.Step.{Step};
 ghost use Rattle.lbk_rules.specs.FlatTable.{AreFlatKinds};
 ghost use Rattle.lbk_rules.specs.Neighbours.{AreTold};
 ghost use Rattle.lbk_rules.specs.Rows.{AreSteps, IsPlace, steps_in};

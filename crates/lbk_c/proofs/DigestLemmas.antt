@@ -3,8 +3,8 @@ use Rattle.std.proofs.Common.{◌≡◌, ℕ, ◌*◌, ◌%◌, ◌^◌, ◌<◌
 use Rattle.std.specs.List.{AllByRecursion, flat_map, fold}
 use Rattle.std.proofs.lemmas.List.Sums.{fold-append}
 use lib.Bits.{bit_xor, xor_assoc, xor_comm, xor_lt, xor_self, xor_zero_r}
-use Rattle.lbk_rules.specs.declared.FlatTable.{FlatTable}
-use Rattle.lbk_rules.specs.declared.Neighbours.{Neighbours}
+use Rattle.lbk_rules.specs.declared.flat_table.FlatTable.{FlatTable}
+use Rattle.lbk_rules.specs.declared.neighbours.Neighbours.{Neighbours}
 use Rattle.lbk_rules.specs.FlatTable.{IsWhole, digest_of, digest_with}
 use Rattle.lbk_rules.specs.Neighbours.{digest_of_neighbours}
 use Rattle.lbk_c.specs.Checked.{DifferInOne, numbers_of, numbers_of_neighbours}

@@ -9,7 +9,7 @@ use Rattle.lbk_ucd.specs.declared.tables.Files.{Files}
 use Rattle.lbk_ucd.specs.declared.which.Which.{Which}
 use Rattle.lbk_ucd.specs.declared.which.Which.TheVariants.{LineBreak, EastAsianWidth, Category, Emoji}
 use Rattle.lbk_ucd.specs.Files.{AreLawful, IsRefused}
-use Rattle.lbk_database.specs.Digests.{ArePublished, IsFirstUnpublished}
+use Rattle.lbk_ucd.specs.Digests.{ArePublished, IsFirstUnpublished}
 use Rattle.lbk_c.specs.declared.interface.Fault.{Fault}
 
 -- the number of a property file

@@ -3,9 +3,9 @@ use Rattle.std.specs.Prelude.{ℕ, ◌==◌, List, [], codes, if◌then◌else�
 use Rattle.lbk_ucd.specs.declared.faults.UcdCause.TheVariants.{FileTooLong, LineTooLong, RowSyntax, Range}
 use Rattle.lbk_ucd.specs.declared.faults.UcdCause.TheVariants.{UnknownValue, Overlap, TooManyRows, Memory}
 use Rattle.lbk_ucd.specs.declared.which.Which.TheVariants.{LineBreak, EastAsianWidth, Category, Emoji}
-use Rattle.lbk_database.specs.Causes.{cause_text}
-use Rattle.lbk_database.specs.Names.{file_name}
-use Rattle.lbk_packing.specs.declared.unpacking.Refusal.TheVariants.{Foreign, Version, Damaged}
+use Rattle.lbk_ucd.specs.Causes.{cause_text}
+use Rattle.lbk_ucd.specs.FileNames.{file_name}
+use Rattle.lbk_calls.specs.declared.unpacking.Refusal.TheVariants.{Foreign, Version, Damaged}
 use Rattle.lbk_calls.specs.Refused.{refusal_number}
 use Rattle.lbk_c.specs.Faults.{cause_number, file_number}
 

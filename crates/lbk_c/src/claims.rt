@@ -1,6 +1,6 @@
 //! What a file claims to be.
 
-ghost use Rattle.lbk_database.specs.Claims.{TellsCut};
+ghost use Rattle.lbk_ucd.specs.Claims.{TellsCut};
 
 /// Whether a file was cut: its first line claims a name that Unicode published, as `# LineBreak-15.0.0.txt`, and its
 /// last line, without white space at the end, is not `# EOF`.
@@ -8,5 +8,5 @@ ghost use Rattle.lbk_database.specs.Claims.{TellsCut};
 pub extern "C" fn lbk_is_cut(file: &[u8]) -> bool
     ensures { TellsCut file.now result }
 {
-    lbk_database::is_cut(file)
+    lbk_ucd::is_cut(file)
 }

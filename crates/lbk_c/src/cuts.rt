@@ -4,10 +4,10 @@ ghost use Rattle.std.specs.Prelude.{◌≡◌, ℕ, ◌<◌, ◌≤◌, length};
 ghost use Rattle.lbk_rules.specs.declared.Cell.{Cell};
 ghost use Rattle.lbk_values.specs.declared.profile.Profile.{Profile};
 ghost use Rattle.lbk_rules.specs.FlatTable.{IsFlatOf};
-ghost use Rattle.lbk_cuts.specs.Cuts.{IsCutAfter, IsCutBefore, IsPieceStart, JoinsAt};
+ghost use Rattle.lbk_streams.specs.Cuts.{IsCutAfter, IsCutBefore, IsPieceStart, JoinsAt};
 
-use lbk_cuts::{cut, cut_before};
 use lbk_rules::FlatTable;
+use lbk_streams::{cut, cut_before};
 
 /// The first byte at or after `at` at which a part of a text may begin: one before which a line must end (UAX #14,
 /// section 6.1, rules LB4 and LB5), or the end of the text. A place past the text counts as its end, and 0 is its

@@ -4,7 +4,7 @@
 ghost use Rattle.std.specs.Prelude.{◌≡◌, ℕ, ◌^◌, ◌<◌, ◌≤◌, List, [], drop, length};
 ghost use Rattle.lbk_rules.specs.declared.Break.{Break};
 ghost use Rattle.lbk_rules.specs.declared.Cell.{Cell};
-ghost use Rattle.lbk_rules.specs.declared.FlatTable.{FlatTable};
+ghost use Rattle.lbk_rules.specs.declared.flat_table.FlatTable.{FlatTable};
 ghost use Rattle.lbk_calls.specs.declared.interface.State.{State};
 ghost use Rattle.bstr.specs.Utf8.{Decoded};
 ghost use Rattle.lbk_ucd.specs.File.{Format, IsLawful, property_of};

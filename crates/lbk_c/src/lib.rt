@@ -40,8 +40,7 @@ pub use laws::{
 pub use lbk_bytes::RawBreak;
 pub use lbk_calls::{ClassLabel, RuleLabel, State, Text};
 pub use lbk_chunks::{Chunk, ChunkState, Limits, Place, chunks_of_cuts};
-pub use lbk_cuts::{joined_parts, only_bytes_near_a_cut};
-pub use lbk_streams::{Fed, Stream, bytes_that_could_go_on};
+pub use lbk_streams::{Fed, Stream, bytes_that_could_go_on, joined_parts, only_bytes_near_a_cut};
 pub use lbk_units::same_in_each_encoding;
 pub use lbk_words::WordState;
 pub use marking::lbk_marks;

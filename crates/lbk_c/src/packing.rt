@@ -1,7 +1,7 @@
 //! A table in a few kilobytes.
 
 ghost use Rattle.std.specs.Prelude.{◌≡◌, ◌+◌, ◌<◌, ◌≤◌, ◌++◌, ◌⊎◌, ℕ, List, drop, length};
-ghost use Rattle.lbk_packing.specs.Packing.{packed};
+ghost use Rattle.lbk_calls.specs.Packing.{packed};
 ghost use Rattle.lbk_rules.specs.declared.Cell.{Cell};
 ghost use Rattle.lbk_rules.specs.FlatTable.{AreFlatKinds, AreKinds, IsFlatOf, IsWhole};
 ghost use Rattle.lbk_calls.specs.Refused.{IsCause};

@@ -6,14 +6,13 @@ ghost use Rattle.lbk_rules.specs.Cells.{AreCellsOf, cell_of_files};
 ghost use Rattle.lbk_rules.specs.declared.Cell.{Cell};
 ghost use Rattle.lbk_rules.specs.FlatTable.{AreKindsAlone, IsFlatOf, IsWhole};
 ghost use Rattle.lbk_rules.specs.Neighbours.{AreNeighboursOf};
-ghost use Rattle.lbk_database.specs.Digests.{ArePublished};
+ghost use Rattle.lbk_ucd.specs.Digests.{ArePublished};
 ghost use Rattle.lbk_c.specs.Faults.{IsFaultOf, IsFaultOfPublished, files_of, no_fault};
 
 use crate::faults::{NO_FAULT, UNMADE_FAULT, given_fault, unpublished_fault};
 use crate::interface::Fault;
-use lbk_database::first_unpublished;
 use lbk_rules::FlatTable;
-use lbk_ucd::{Files, Tables};
+use lbk_ucd::{Files, Tables, first_unpublished};
 use std::alloc::Global;
 
 /// Fills the table by the four property files LineBreak.txt, EastAsianWidth.txt, DerivedGeneralCategory.txt and

@@ -6,8 +6,7 @@ ghost use Rattle.lbk_calls.specs.RuleTexts.{rule_text_numbered};
 ghost use Rattle.lbk_c.specs.Texts.{cause_numbered, file_numbered, version};
 
 use lbk_calls::{Text, padded};
-use lbk_database::{cause_text, file_name};
-use lbk_ucd::{UcdCause, Which};
+use lbk_ucd::{UcdCause, Which, cause_text, file_name};
 
 /// What the cause of a number says: ASCII, filled up by zeros. For a number that no cause has it is zeros.
 #[unsafe(no_mangle)]

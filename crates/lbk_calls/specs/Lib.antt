@@ -5,6 +5,9 @@ pub mod Padding
 pub mod Refused
 pub mod RuleTexts
 pub mod State
+pub mod Packing
+pub mod Refusals
+pub mod Runs
 -- What only carries proofs.
 pub mod Coming
 pub mod UnitsComing

@@ -1,10 +1,10 @@
 -- Why bytes are not unpacked, as numbers: causes of lbk.h.
 use Rattle.std.specs.Prelude.{◌≡◌, ◌⊎◌, ℕ, List}
-use Rattle.lbk_packing.specs.Packing.{packed}
-use Rattle.lbk_packing.specs.Refusals.{IsRefusal}
-use Rattle.lbk_packing.specs.declared.unpacking.Refusal.{Refusal}
-use Rattle.lbk_packing.specs.declared.unpacking.Refusal.TheVariants.{Foreign, Version, Damaged}
-use Rattle.lbk_rules.specs.flat_table.TheConstants.{LAYOUT}
+use Rattle.lbk_calls.specs.Packing.{packed}
+use Rattle.lbk_calls.specs.Refusals.{IsRefusal}
+use Rattle.lbk_calls.specs.declared.unpacking.Refusal.{Refusal}
+use Rattle.lbk_calls.specs.declared.unpacking.Refusal.TheVariants.{Foreign, Version, Damaged}
+use Rattle.lbk_rules.specs.declared.flat_table.TheConstants.{LAYOUT}
 use Rattle.lbk_rules.specs.FlatTable.{AreKinds}
 
 abbrev pub refusal_number : Refusal → ℕ

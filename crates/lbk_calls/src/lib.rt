@@ -1,5 +1,7 @@
 //! The calls that take no memory, for a caller in another language: the breaks and the positions of a text, a block
-//! at a time, the names of rules and classes, what rules say, whether a table is whole, and breaks as columns.
+//! at a time, the names of rules and classes, what rules say, whether a table is whole, and breaks as columns. And the
+//! kinds of all codes in a few kilobytes: [`pack`] writes a head, and a record for each run of codes of one kind;
+//! [`unpack`] takes this form and nothing else. What a table has besides its kinds follows from them.
 //!
 //! The functions under `no_mangle` are the exports of the module for JavaScript, which `scripts/module` builds: this
 //! very crate for WebAssembly. Their loops go without masks, since that target has no vectors. The library for C
@@ -12,11 +14,15 @@ mod class_labels;
 mod columns;
 mod interface;
 mod labels;
+mod packed_tables;
 mod packing;
 mod padding;
 mod positions;
+mod records;
 mod rule_texts;
+mod runs;
 mod unit_breaking;
+mod unpacking;
 
 pub use breaking::{give_breaks, going_profile, lbk_breaks, plain};
 pub use checking::lbk_check;
@@ -24,8 +30,11 @@ pub use class_labels::lbk_class;
 pub use columns::lbk_columns;
 pub use interface::{ClassLabel, RuleLabel, State, Text};
 pub use labels::lbk_label;
-pub use packing::{lbk_pack, lbk_unpack};
+pub use packed_tables::{lbk_pack, lbk_unpack};
+pub use packing::pack;
 pub use padding::padded;
 pub use positions::{lbk_positions, next_positions};
 pub use rule_texts::lbk_rule_text;
+pub use runs::{KINDS_SIZE, Run};
 pub use unit_breaking::{lbk_breaks_utf16, next_breaks};
+pub use unpacking::{Refusal, unpack};

@@ -1,62 +1,70 @@
-//! A table in a few kilobytes.
+//! Kinds in few bytes.
 
-ghost use Rattle.std.specs.Prelude.{◌≡◌, ◌+◌, ◌<◌, ◌≤◌, ◌++◌, ◌⊎◌, ℕ, List, drop, length};
-ghost use Rattle.lbk_packing.specs.Packing.{packed};
-ghost use Rattle.lbk_rules.specs.declared.Cell.{Cell};
-ghost use Rattle.lbk_rules.specs.FlatTable.{AreFlatKinds, AreKinds, IsFlatOf, IsWhole};
-ghost use Rattle.lbk_calls.specs.Refused.{IsCause};
+ghost use Rattle.std.specs.Prelude.{◌≡◌, ◌+◌, ◌≤◌, ◌<◌, ◌++◌, ◌∷◌, codes, drop, length, take};
+ghost use Rattle.std.specs.Int.{to_le_bytes, w64};
+ghost use Rattle.lbk_calls.specs.Packing.{packed, records_of};
 
-use lbk_packing::{Refusal, pack, unpack};
-use lbk_rules::{FlatTable, LAYOUT};
+use crate::records::Record;
+use crate::runs::{KINDS_SIZE, run_at};
+use lbk_rules::digest_of_bytes;
 
-/// The version of the packed form.
-const VERSION: u8 = LAYOUT as u8;
+/// How many bytes the head has.
+pub(crate) const HEAD: usize = 12;
 
-/// Writes a table to the front of the bytes, packed, and returns how many bytes it has then. Where these are more than
-/// there is room for nothing is written, nor for a table that is not whole, of which 0 is returned.
-#[unsafe(no_mangle)]
-pub extern "C" fn lbk_pack(table: &FlatTable, bytes: &mut [u8]) -> usize
-    ensures corrupt { ¬ (IsWhole table.now) → result ≡ 0 }
-    ensures size { IsWhole table.now → result ≡ length (packed LAYOUT table.now.kinds) }
-    ensures form { IsWhole table.now → result ≤ length bytes.old
-        → bytes.new ≡ packed LAYOUT table.now.kinds ++ drop result bytes.old }
-    ensures untouched { (result ≡ 0) ⊎ (length bytes.old < result) → bytes.new ≡ bytes.old }
+/// Writes the packed form of kinds to the front of the bytes, and returns how many bytes it has. Where these are more
+/// than there is room for nothing is written.
+pub fn pack(version: u8, kinds: &[u8; KINDS_SIZE], bytes: &mut [u8]) -> usize
+    ensures size { result ≡ length (packed version kinds.now) }
+    ensures form { result ≤ length bytes.old → bytes.new ≡ packed version kinds.now ++ drop result bytes.old }
+    ensures small { length bytes.old < result → bytes.new ≡ bytes.old }
 {
-    if !table.is_whole() {
-        return 0;
+    let size = HEAD + put_records(kinds, &mut []);
+    if size <= bytes.len() {
+        put_records(kinds, &mut bytes[HEAD..]);
+        let digest = digest_of_bytes(&bytes[HEAD..size]);
+        put_head(version, digest, bytes);
     }
-    pack(VERSION, &table.kinds, bytes)
+    size
 }
 
-/// Makes it the table that is packed in the bytes: 0. Bytes in which no table of this version is packed are refused, by
-/// the number of a cause.
-///
-/// After cause 11 or 12 the table is as it was, after cause 13 its layout is 0.
-#[unsafe(no_mangle)]
-pub extern "C" fn lbk_unpack(table: &mut FlatTable, bytes: &[u8]) -> u32
-    ensures form { result ≡ 0 → bytes.now ≡ packed LAYOUT table.new.kinds }
-    ensures whole { result ≡ 0 → IsWhole table.new }
-    ensures table { result ≡ 0 → (cell : ℕ → Cell) → AreFlatKinds table.new.kinds cell → IsFlatOf table.new cell }
-    ensures each { (kinds : List ℕ) → length kinds ≡ 0x11_0000 → AreKinds kinds → bytes.now ≡ packed LAYOUT kinds
-        → (result ≡ 0) × (table.new.kinds ≡ kinds) }
-    ensures refused { 0 < result → IsCause bytes.now result }
-    ensures untouched { (result ≡ 11) ⊎ (result ≡ 12) → table.new ≡ table.old }
-    ensures spoilt { result ≡ 13 → table.new.layout ≡ 0 }
+/// Writes what stands before the records.
+fn put_head(version: u8, digest: u64, bytes: &mut [u8])
+    requires { 12 ≤ length bytes.old }
+    ensures { bytes.new ≡ codes "lbk" ++ (version ∷ (to_le_bytes w64 digest ++ drop 12 bytes.old)) }
 {
-    match unpack(VERSION, bytes, &mut table.kinds) {
-        Ok(()) if table.complete() => 0,
-        Ok(()) => spoilt(table),
-        Err(Refusal::Foreign) => 11,
-        Err(Refusal::Version) => 12,
-        Err(Refusal::Damaged) => spoilt(table),
-    }
+    let [a, b, c, d, e, f, g, h] = digest.to_le_bytes();
+    let head = [b'l', b'b', b'k', version, a, b, c, d, e, f, g, h];
+    bytes[..HEAD].copy_from_slice(&head);
 }
 
-/// Has `lbk_check` refuse the table, and returns the cause.
-fn spoilt(table: &mut FlatTable) -> u32
-    ensures cause { result ≡ 13 }
-    ensures layout { table.new.layout ≡ 0 }
+/// Writes the records of kinds to the front of the bytes where there is room for all of them, and returns how many
+/// bytes they have.
+fn put_records(kinds: &[u8], bytes: &mut [u8]) -> usize
+    requires { length kinds.now ≤ 0x11_0000 }
+    ensures size { result ≡ length (records_of kinds.now) }
+    ensures records { result ≤ length bytes.old → bytes.new ≡ records_of kinds.now ++ drop result bytes.old }
+    ensures few { result ≤ 0x44_0000 }
 {
-    table.layout = 0;
-    13
+    let mut at = 0;
+    let mut size = 0;
+    while at < kinds.len() {
+        let run = run_at(kinds, at);
+        size = put(bytes, size, Record::of(run).as_slice());
+        at += run.length;
+    }
+    size
+}
+
+/// Writes some bytes at a place where there is room for them, and returns the place after them.
+fn put(bytes: &mut [u8], at: usize, part: &[u8]) -> usize
+    requires place { at ≤ 0x44_0000 }
+    requires few { length part.now ≤ 4 }
+    ensures end { result ≡ at + length part.now }
+    ensures written { result ≤ length bytes.old → bytes.new ≡ take at bytes.old ++ (part.now ++ drop result bytes.old) }
+{
+    let end = at + part.len();
+    if end <= bytes.len() {
+        bytes[at..end].copy_from_slice(part);
+    }
+    end
 }

@@ -14,7 +14,7 @@ use Rattle.lbk_passage.specs.Marks.{Marked, text_of}
 use Rattle.lbk_passage.specs.Pieces.{pieces_of}
 use Rattle.lbk_passage.specs.Segments.{segment_by, segments_from, segments_of}
 use Rattle.lbk_passage.specs.declared.passage.Segment.{Segment}
-use Rattle.lbk_word_laws.specs.PassageWords.{words_in_pieces}
+use Rattle.lbk_chunk_reader.specs.PassageWords.{words_in_pieces}
 use Rattle.lbk_words.specs.declared.word.Word.{Word}
 use Rattle.lbk_chunks.specs.declared.chunk.Limits.{Limits}
 use Rattle.lbk_chunks.specs.declared.cut.Cut.{Cut}

@@ -7,3 +7,7 @@ pub mod WholeLemmas
 pub mod WindowLemmas
 pub mod CallLemmas
 pub mod SettledLemmas
+pub mod PieceWords
+pub mod Seams
+pub mod Whole
+pub mod WordsInParts

@@ -26,10 +26,10 @@ use Rattle.lbk_passage.proofs.Together.{passages-breaks, passages-scalars}
 use Rattle.lbk_words.specs.declared.word.Word.{Word}
 use Rattle.lbk_words.specs.Words.{words_of}
 use Rattle.lbk_words.proofs.WellFormedLemmas.{good_of, pieces-encode, scalars-split}
-use Rattle.lbk_word_laws.specs.Agreement.{AgreeOnLetters, AgreeOnLines}
-use Rattle.lbk_word_laws.specs.PassageWords.{words_in_pieces, words_of_passages}
-use Rattle.lbk_word_laws.proofs.PieceWords.{bytes-of-parts}
-use Rattle.lbk_word_laws.proofs.Whole.{words-whole}
+use Rattle.lbk_chunk_reader.specs.Agreement.{AgreeOnLetters, AgreeOnLines}
+use Rattle.lbk_chunk_reader.specs.PassageWords.{words_in_pieces, words_of_passages}
+use Rattle.lbk_chunk_reader.proofs.PieceWords.{bytes-of-parts}
+use Rattle.lbk_chunk_reader.proofs.Whole.{words-whole}
 use Rattle.lbk_chunks.specs.declared.cut.Cut.{Cut}
 use Rattle.lbk_chunks.specs.Coming.{AreBreaksPast}
 use Rattle.lbk_chunks.specs.Cuts.{cuts_among, cuts_of, is_within, words_before}

@@ -13,8 +13,8 @@ use Rattle.lbk_passage.specs.Pieces.{is_word, pieces_from, pieces_of}
 use Rattle.lbk_passage.specs.declared.passage.Piece.{Piece}
 use Rattle.lbk_words.specs.Words.{parts_of}
 use Rattle.lbk_words.specs.declared.word.Word.{Word}
-use Rattle.lbk_word_laws.specs.PassageWords.{words_in_pieces}
-use Rattle.lbk_word_laws.proofs.PieceWords.{bytes-of-parts}
+use Rattle.lbk_chunk_reader.specs.PassageWords.{words_in_pieces}
+use Rattle.lbk_chunk_reader.proofs.PieceWords.{bytes-of-parts}
 use Rattle.lbk_chunks.specs.Coming.{AreBreaksPast, AreOnward}
 use Rattle.lbk_chunks.specs.Cuts.{cuts_among, is_within, words_before}
 use Rattle.lbk_chunks.proofs.WordLemmas.{cut_by, cuts-passed-first, first-behind, none-before, onward-from}

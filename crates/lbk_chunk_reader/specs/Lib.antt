@@ -5,6 +5,8 @@ pub mod Reader
 pub mod Shown
 pub mod Settled
 pub mod Window
+pub mod Agreement
+pub mod PassageWords
 -- What only carries proofs.
 pub mod Between
 pub mod Choosing

@@ -6,7 +6,7 @@ use Rattle.lbk_passage.specs.declared.passage.Piece.{Piece}
 use Rattle.lbk_passage.specs.declared.passage.Segment.{Segment}
 use Rattle.lbk_chunks.specs.Coming.{AreBreaksPast}
 use Rattle.lbk_chunks.specs.Cuts.{cuts_among}
-use Rattle.lbk_word_laws.specs.PassageWords.{words_in_pieces}
+use Rattle.lbk_chunk_reader.specs.PassageWords.{words_in_pieces}
 
 -- each begins where the one before it ends, the first at this byte
 abbrev pub AreJoined : ℕ → List Piece → Type 0

@@ -3,7 +3,7 @@ use Rattle.std.specs.Prelude.{◌≡◌, ℕ, ◌+◌, List, [], ◌++◌, drop,
 use Rattle.lbk_chunks.specs.declared.chunk.Limits.{Limits}
 use Rattle.lbk_chunks.specs.declared.cut.Cut.{Cut}
 use Rattle.lbk_passage.specs.declared.passage.Passage.{Passage}
-use Rattle.lbk_word_laws.specs.PassageWords.{words_in_pieces}
+use Rattle.lbk_chunk_reader.specs.PassageWords.{words_in_pieces}
 use Rattle.lbk_chunk_reader.specs.declared.window.Window.{Window}
 use Rattle.lbk_chunk_reader.specs.Cuts.{cuts_between}
 use Rattle.lbk_chunks.specs.Chunks.{Here}

@@ -2,7 +2,7 @@
 
 ghost use Rattle.std.specs.Prelude.{◌≡◌, ◌≤◌, ◌<◌, ◌+◌, ◌^◌, ◌++◌, ℕ, IfOk, OnOk, length, map, vec_len};
 ghost use Rattle.lbk_chunks.specs.Cuts.{is_within, words_before};
-ghost use Rattle.lbk_word_laws.specs.PassageWords.{words_in_pieces};
+ghost use Rattle.lbk_chunk_reader.specs.PassageWords.{words_in_pieces};
 ghost use Rattle.lbk_chunk_reader.specs.Cuts.{cuts_between};
 ghost use Rattle.lbk_chunk_reader.specs.Numbered.{numbered};
 ghost use Rattle.lbk_chunk_reader.specs.Pieces.{AreJoined, ArePassed, EndsPast, IsRegular};

@@ -11,7 +11,7 @@ ghost use Rattle.lbk_chunks.specs.declared.cut.Cut.{Cut};
 ghost use Rattle.lbk_chunks.specs.Cuts.{AreCutsPast, cuts_of};
 ghost use Rattle.lbk_passage.specs.Next.{IsDone};
 ghost use Rattle.lbk_passage.specs.Passages.{passages};
-ghost use Rattle.lbk_word_laws.specs.Agreement.{AgreeOnLetters, AgreeOnLines};
+ghost use Rattle.lbk_chunk_reader.specs.Agreement.{AgreeOnLetters, AgreeOnLines};
 ghost use Rattle.lbk_chunk_reader.specs.Cuts.{cuts_of_passages};
 ghost use Rattle.lbk_chunk_reader.specs.Reader.{ChunksCome, HasGiven, View, new_view};
 ghost use Rattle.lbk_chunk_reader.specs.Settled.{AreSettled};

@@ -8,9 +8,11 @@ mod faults;
 mod gathering;
 mod laws;
 mod window;
+mod word_laws;
 
 pub use chunker::Chunker;
 pub use cut::Chunk;
 pub use faults::ChunkFault;
 pub use laws::{cuts_of_all_passages, run_ends, run_goes_on, settled_chunks_come_first};
 pub use window::Window;
+pub use word_laws::{words_of_a_passage, words_of_all_passages, words_of_parts};

@@ -1,7 +1,7 @@
 -- Chunks given, one after another.
 use Rattle.std.proofs.Common.{◌≡◌, ℕ, zero, suc, ◌+◌, ◌-◌, Bool, true, not, ◌<◌, ◌≤◌, List, [], ◌∷◌, ◌++◌, length, take, drop, refl, sym, ap, ap₂, subst, ◌∙◌, arith}
 use Rattle.lbk_rules.specs.declared.Cell.{Cell}
-use Rattle.lbk_rules.specs.declared.FlatTable.{FlatTable}
+use Rattle.lbk_rules.specs.declared.flat_table.FlatTable.{FlatTable}
 use Rattle.lbk_chunks.specs.declared.chunk.Chunk.{Chunk}
 use Rattle.lbk_chunks.specs.declared.chunk.ChunkState.{ChunkState}
 use Rattle.lbk_chunks.specs.declared.chunk.Limits.{Limits}

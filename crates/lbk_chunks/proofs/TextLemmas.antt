@@ -4,7 +4,7 @@ use Rattle.bstr.specs.Utf8.{Decoded, decoded, pieces, lossy_chars}
 use Rattle.bstr.proofs.lemmas.PieceLemmas.{piece-bounds, pieces-nil, pieces-step}
 use Rattle.lbk_rules.specs.declared.Break.{Break}
 use Rattle.lbk_rules.specs.declared.Cell.{Cell}
-use Rattle.lbk_rules.specs.declared.FlatTable.{FlatTable}
+use Rattle.lbk_rules.specs.declared.flat_table.FlatTable.{FlatTable}
 use Rattle.lbk_values.specs.declared.profile.Profile.{Profile}
 use Rattle.lbk_rules.specs.Breaks.{break_by, is_no}
 use Rattle.lbk_rules.specs.FlatTable.{IsFlatOf}

@@ -2,7 +2,7 @@
 use Rattle.std.proofs.Common.{◌≡◌, ℕ, ◌-◌, ◌++◌, ◌<◌, ◌≤◌, ⊎_elim, List, [], ◌∷◌, length, take, slice_index_or, refl, sym, ap, subst, ◌∙◌, arith}
 use Rattle.std.proofs.lemmas.Bool.{cases_lt}
 use Rattle.lbk_rules.specs.declared.Cell.{Cell}
-use Rattle.lbk_rules.specs.declared.FlatTable.{FlatTable}
+use Rattle.lbk_rules.specs.declared.flat_table.FlatTable.{FlatTable}
 use Rattle.lbk_chunks.specs.declared.cut.Cut.{Cut}
 use Rattle.lbk_chunks.specs.declared.cursor.Filled.{Filled}
 use Rattle.lbk_chunks.specs.declared.cut_block.Mark.{Mark}

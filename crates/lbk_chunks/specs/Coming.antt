@@ -4,7 +4,7 @@ use Rattle.std.specs.Prelude.{take, slice_index_or, Option, Some, None, if◌the
 use Rattle.std.specs.List.{list_all}
 use Rattle.lbk_rules.specs.declared.Break.{Break}
 use Rattle.lbk_rules.specs.declared.Cell.{Cell}
-use Rattle.lbk_rules.specs.declared.FlatTable.{FlatTable}
+use Rattle.lbk_rules.specs.declared.flat_table.FlatTable.{FlatTable}
 use Rattle.lbk_bytes.specs.declared.raw_break.RawBreak.{RawBreak}
 use Rattle.lbk_bytes.specs.Shown.{raw_of}
 use Rattle.lbk_calls.specs.declared.interface.State.{State}

@@ -12,7 +12,7 @@ use Rattle.lbk_passage.specs.Pieces.{pieces_of}
 use Rattle.lbk_passage.specs.Segments.{segments_of}
 use Rattle.lbk_passage.specs.State.{State, new_state}
 use Rattle.lbk_passage.specs.declared.passage.Passage.{Passage}
-use Rattle.lbk_word_laws.specs.PassageWords.{words_in_pieces}
+use Rattle.lbk_chunk_reader.specs.PassageWords.{words_in_pieces}
 use Rattle.lbk_chunks.specs.declared.chunk.Chunk.{Chunk}
 use Rattle.lbk_chunks.specs.declared.chunk.Limits.{Limits}
 use Rattle.lbk_chunks.specs.declared.cut.Cut.{Cut}

@@ -9,7 +9,7 @@ use Rattle.std.specs.declared.io.ErrorKind.TheVariants.{NotFound, Other, Uncateg
 use Rattle.lbk_feed.specs.Text.{greatest_limit, longest_text}
 use Rattle.lbk_ucd.specs.declared.which.Which.{Which}
 use Rattle.lbk_ucd.specs.declared.which.Which.TheVariants.{LineBreak, EastAsianWidth, Category, Emoji}
-use Rattle.lbk_files.specs.Names.{file_name}
+use Rattle.lbk_files.specs.FileNames.{file_name}
 use Rattle.lbk_passage.specs.declared.faults.PassageFault.{PassageFault}
 use Rattle.lbk_passage.specs.declared.faults.PassageFault.TheVariants as passage
 use Rattle.lbk_notation.specs.declared.findings.ReplayFault.TheVariants as replay

@@ -25,9 +25,8 @@ use super::segmented::push_segmented;
 use super::shown::{decide, push_shown};
 use super::signed::{BLOCK, NO_BREAKS, push_signed};
 use lbk_args::Part;
-use lbk_breaks::Break;
 use lbk_feed::{Failed, Sink, Source, write_all};
-use lbk_passage::Segmenter;
+use lbk_passage::{Break, Segmenter};
 use lbk_rules::{CellSource, Profile, Verdict};
 use std::alloc::{AllocError, Global};
 

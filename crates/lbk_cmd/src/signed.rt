@@ -10,7 +10,7 @@ ghost use Rattle.lbk_rules.specs.declared.Break.{Break};
 ghost use Rattle.lbk_cmd.specs.Mark.{is_line_end, missing_line_end, sign};
 ghost use Rattle.lbk_cmd.specs.Signing.{IsCut, signed_from};
 
-use lbk_breaks::{Break, Breaks};
+use lbk_passage::{Break, Breaks};
 use lbk_rules::{Cell, CellSource, Kind, Profile, Rule};
 use std::alloc::AllocError;
 

@@ -4,7 +4,7 @@ use Rattle.std.specs.Prelude.{⊤}
 use Rattle.std.specs.Result.{IsErrAnd}
 use Rattle.lbk_ucd.specs.declared.which.Which.{Which}
 use Rattle.lbk_ucd.specs.declared.which.Which.TheVariants.{LineBreak, EastAsianWidth, Category, Emoji}
-use Rattle.lbk_rules.specs.declared.CellPages.{CellPages}
+use Rattle.lbk_rules.specs.declared.pages.CellPages.{CellPages}
 use Rattle.lbk_files.specs.Store.{IsUnreadable}
 use Rattle.lbk_files.specs.FileFault.{FourFiles, IsFileFault, IsFirst, IsLoaded, IsUnlikeItsClaim, LoadCounts, LoadsTo, Told}
 use Rattle.lbk_files.specs.Named.{IsOneFault}

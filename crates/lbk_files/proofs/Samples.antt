@@ -6,7 +6,7 @@ use Rattle.lbk_ucd.proofs.SampleLemmas.{samples_lawful, lawful_refused}
 use Rattle.lbk_files.specs.declared.faults.CellsFault.{CellsFault}
 use Rattle.lbk_files.specs.declared.faults.CellsFault.TheVariants.{Load, Claim, Tables, Memory}
 use Rattle.lbk_rules.specs.CellPages.{page_cell}
-use Rattle.lbk_rules.specs.declared.CellPages.{CellPages}
+use Rattle.lbk_rules.specs.declared.pages.CellPages.{CellPages}
 use Rattle.lbk_files.specs.Cells.{AreCellsOf}
 use Rattle.lbk_files.specs.CellsRefusal.{IsCellsRefusal}
 use Rattle.lbk_files.specs.SampleFiles.{AreSampleCells, IsSampleFault, IsWantOfMemory}

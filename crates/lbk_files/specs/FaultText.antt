@@ -2,8 +2,8 @@
 use Rattle.std.specs.Prelude.{ℕ, ◌==◌, List, [], ◌∷◌, ◌++◌, codes, decimal, if◌then◌else◌}
 use Rattle.lbk_ucd.specs.declared.which.Which.{Which}
 use Rattle.lbk_ucd.specs.declared.which.Which.TheVariants.{Emoji}
-use Rattle.lbk_database.specs.Causes.{cause_text}
-use Rattle.lbk_database.specs.Names.{file_name}
+use Rattle.lbk_ucd.specs.Causes.{cause_text}
+use Rattle.lbk_ucd.specs.FileNames.{file_name}
 use Rattle.lbk_files.specs.declared.published.Version.{Version as Numbers}
 use Rattle.lbk_files.specs.declared.published.ClaimCause.{ClaimCause}
 use Rattle.lbk_files.specs.declared.published.ClaimCause.TheVariants.{Title, Version, Changed}

@@ -1,6 +1,6 @@
 -- What a reader has to believe.
 pub use Rattle.lbk_rules.specs.Cells
-pub use Rattle.lbk_database.specs.Names
+pub use Rattle.lbk_ucd.specs.FileNames
 pub mod CellsRefusal
 pub mod Store
 pub mod MemoryStore

@@ -5,7 +5,7 @@ use Rattle.std.specs.Str.Parse.{IsNumeral, digits_value}
 use Rattle.bstr.specs.Find.{FindsNeedle, OccursAt}
 use Rattle.lbk_ucd.specs.declared.which.Which.{Which}
 use Rattle.lbk_ucd.specs.declared.which.Which.TheVariants.{LineBreak, EastAsianWidth, Category, Emoji}
-use Rattle.lbk_database.specs.Digests.{IsPublished}
+use Rattle.lbk_ucd.specs.Digests.{IsPublished}
 use Rattle.lbk_files.specs.declared.published.Version.{Version as Numbers}
 use Rattle.lbk_files.specs.declared.published.ClaimCause.{ClaimCause}
 use Rattle.lbk_files.specs.declared.published.ClaimCause.TheVariants.{Title, Version, Changed}

@@ -2,8 +2,7 @@
 
 use super::named_fault::NamedFault;
 use super::published::ClaimCause;
-use lbk_database::file_name;
-use lbk_ucd::{UcdFault, Which};
+use lbk_ucd::{UcdFault, Which, file_name};
 use thiserror::Error;
 
 /// Why there are no cells to decide by.

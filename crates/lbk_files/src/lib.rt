@@ -20,7 +20,7 @@ pub use database::name_in_database;
 pub use faults::{CellsFault, Stop};
 pub use file_store::{FileStore, Opens};
 pub use front::read_front;
-pub use lbk_database::file_name;
+pub use lbk_ucd::file_name;
 pub use loading::load_cells;
 pub use memory_store::MemoryStore;
 pub use named_fault::NamedFault;

@@ -6,8 +6,7 @@ ghost use Rattle.lbk_files.specs.FaultText.{claim_fault, fault_text, version_fau
 
 use super::faults::CellsFault;
 use super::published::{ClaimCause, Version};
-use lbk_database::{cause_text, file_name};
-use lbk_ucd::{UcdFault, Which};
+use lbk_ucd::{UcdFault, Which, cause_text, file_name};
 use std::fmt;
 
 /// A fault of the property files after the name of its file: `NAME: cause`, or `NAME:LINE: cause` where a line is

@@ -2,14 +2,13 @@
 
 ghost use Rattle.std.specs.Prelude.{◌≡◌, ◌∷◌, ◌≤◌, ℕ, List, drop, length, take, MatchOption, MatchResult};
 ghost use Rattle.std.specs.Str.Parse.{AllDigits};
-ghost use Rattle.lbk_database.specs.Digests.{IsPublished};
+ghost use Rattle.lbk_ucd.specs.Digests.{IsPublished};
 ghost use Rattle.lbk_files.specs.declared.published.Version.{Version};
 ghost use Rattle.lbk_files.specs.Published.{BeginsWithNumber, BeginsWithVersion, BeginsWithoutDigit, EndsVersion};
 ghost use Rattle.lbk_files.specs.Published.{IsClaimCause, NamesVersion, name_before_version, words_before_version};
 
 use bstr::ByteSlice;
-use lbk_database::is_published;
-use lbk_ucd::Which;
+use lbk_ucd::{Which, is_published};
 
 /// A version of Unicode, or of its emoji.
 #[derive(Clone, Copy, Debug, PartialEq, Eq)]

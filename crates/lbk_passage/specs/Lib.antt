@@ -18,3 +18,4 @@ pub mod Stays
 pub mod Flags
 pub mod Gathering
 pub mod Cuts
+pub mod Onward

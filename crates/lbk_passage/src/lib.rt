@@ -2,9 +2,11 @@
 //!
 //! Segments end at line breaks (Unicode Standard Annex #14), and words are those of Annex #29.
 //!
-//! A [`Segmenter`] gives them one after another, of the bytes that a reader gives.
+//! [`Breaks`] gives the breaks of a text in memory, a block at a time or one by one. It takes any source of cells, and is
+//! fast over `CellPages` of the crate `lbk_rules`. A [`Segmenter`] gives passages them one after another, of the bytes that a reader gives.
 #![tactic(auto)]
 
+mod breaks;
 mod ends;
 mod faults;
 mod flags;
@@ -12,11 +14,15 @@ pub mod laws;
 mod paragraph;
 mod passage;
 mod pieces;
+mod putting;
 mod reach;
 mod segmenter;
 mod segments;
+mod walk;
 
+pub use breaks::Breaks;
 pub use faults::PassageFault;
 pub use lbk_feed::LIMIT_MAX;
+pub use lbk_rules::Break;
 pub use passage::{Passage, PassageText, Piece, Segment};
 pub use segmenter::Segmenter;

@@ -14,9 +14,8 @@ use crate::paragraph::Paragraph;
 use crate::passage::{Passage, PassageText, Piece, Segment};
 use crate::pieces::cut_words;
 use crate::segments::{BLOCK, NO_BREAKS, cut_lines};
-use lbk_breaks::Break;
 use lbk_feed::{LIMIT_MAX, Source};
-use lbk_rules::{CellSource, Profile, Verdict};
+use lbk_rules::{Break, CellSource, Profile, Verdict};
 use std::alloc::{AllocError, Global};
 
 /// Cuts a text of any length into passages, of which it holds one at a time.

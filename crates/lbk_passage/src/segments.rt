@@ -9,9 +9,9 @@ ghost use Rattle.lbk_passage.specs.Cuts.{cut_at, ending_by};
 ghost use Rattle.lbk_passage.specs.Marks.{marks, ended};
 ghost use Rattle.lbk_passage.specs.Segments.{segments_of};
 
+use crate::breaks::Breaks;
 use crate::passage::Segment;
-use lbk_breaks::{Break, Breaks};
-use lbk_rules::{CellSource, Kind, Profile, Rule, Verdict};
+use lbk_rules::{Break, CellSource, Kind, Profile, Rule, Verdict};
 use std::alloc::AllocError;
 
 /// How many breaks are found at a time.

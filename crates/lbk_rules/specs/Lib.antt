@@ -14,8 +14,8 @@ pub use Rattle.lbk_uax14.specs.Ends
 pub use Rattle.lbk_uax14.specs.Joins
 pub use Rattle.lbk_uax14.specs.Once
 pub use Rattle.lbk_uax14.specs.Normal
-pub use Rattle.lbk_steps.specs.Cells
-pub use Rattle.lbk_steps.specs.ClassLabels
+pub mod Cells
+pub mod ClassLabels
 -- What only carries proofs.
 pub use Rattle.lbk_uax14.specs.Answers
 pub use Rattle.lbk_uax14.specs.Asked
@@ -24,17 +24,15 @@ pub use Rattle.lbk_uax14.specs.Codes
 pub use Rattle.lbk_uax14.specs.Facts
 pub use Rattle.lbk_uax14.specs.Fits
 pub use Rattle.lbk_uax14.specs.LateFits
-pub use Rattle.lbk_steps.specs.CellOfTables
-pub use Rattle.lbk_steps.specs.CellPages
-pub use Rattle.lbk_steps.specs.FirstBytes
-pub use Rattle.lbk_steps.specs.FlatTable
--- (the constants of its layout and of steps)
-pub use Rattle.lbk_steps.specs.declared.flat_table
-pub use Rattle.lbk_steps.specs.declared.steps
-pub use Rattle.lbk_steps.specs.KindTable
-pub use Rattle.lbk_steps.specs.Kinds
-pub use Rattle.lbk_steps.specs.Neighbours
-pub use Rattle.lbk_steps.specs.Pages
-pub use Rattle.lbk_steps.specs.RowMachineFits
-pub use Rattle.lbk_steps.specs.Rows
-pub use Rattle.lbk_steps.specs.StepperFits
+pub mod CellOfTables
+pub mod CellPages
+pub mod FirstBytes
+pub mod FlatTable
+pub mod KindTable
+pub mod Kinds
+pub mod Letters
+pub mod Neighbours
+pub mod Pages
+pub mod RowMachineFits
+pub mod Rows
+pub mod StepperFits

@@ -3,26 +3,48 @@
 //! What callers need of the rules stands here: a text is seen as a list of [`Cell`]s, one a scalar, which a
 //! [`CellSource`] gives; [`decide`] returns for a position in it whether the line may break, must break or must not,
 //! and the rule that decided; [`Machine`] and [`LateMachine`] do so cell by cell, holding a few fields. The rules are
-//! written down in
-//! `lbk_uax14`, the tables of steps in `lbk_steps`. The crate `lbk_breaks` finds the breaks of a text in memory, and is
-//! faster.
+//! written down in `lbk_uax14`.
+//!
+//! A [`CellSource`] knows the cells of all scalars: the tables of the property files, or [`CellPages`] made of them,
+//! which is fast. [`Stepper`] decides a text scalar by scalar by such a source and by constant steps; the crate
+//! `lbk_passage` finds the breaks of a text in memory, and is faster.
 #![tactic(auto)]
 
+mod ahead;
+mod class_labels;
+mod first_bytes;
+mod flat_table;
+mod kind_table;
+mod kinds;
+mod neighbours;
+mod pages;
+mod row_machine;
+mod row_steps;
+mod runs;
+mod source;
+mod stepper;
+mod steps;
+
 // Cells, and the sources of them.
-pub use lbk_steps::{CellPages, CellSource, class_label};
+pub use class_labels::class_label;
 pub use lbk_uax14::{Cell, Class, Quote, resolve};
+pub use pages::CellPages;
+pub use source::CellSource;
 
 // Positions decided, at once or cell by cell.
-pub use lbk_steps::Stepper;
 pub use lbk_uax14::{
     Break, End, Kind, LateMachine, Machine, Out, Profile, Rule, Verdict, annex, decide, decide_all,
     decide_all_in, decide_in, laws,
 };
+pub use stepper::Stepper;
 
-// What `lbk_breaks` and `lbk_c` step by.
-pub use lbk_steps::{
-    FlatTable, HELD, KINDS, LAYOUT, Neighbours, RowMachine, Rows, Step, WIDTH, digest_of_bytes,
-    number_at, place_by, rows_of, shown_by, shows_break, step_at, step_in, steps_decide,
-    verdict_of,
+// What `lbk_passage` and `lbk_c` step by.
+pub use flat_table::{FlatTable, LAYOUT, digest_of_bytes};
+pub use kinds::KINDS;
+pub use lbk_uax14::{Before, Left, is_second, unless_held};
+pub use neighbours::Neighbours;
+pub use row_machine::RowMachine;
+pub use steps::{
+    HELD, Rows, Step, WIDTH, each_side_has_a_row, number_at, place_by, rows_of, shown_by,
+    shows_break, step_at, step_in, steps_decide, verdict_of,
 };
-pub use lbk_uax14::{Before, Left, RULES, VERDICTS, code_of, is_break, is_second, unless_held};

@@ -5,3 +5,7 @@ pub mod OpenLemmas
 pub mod StandsLemmas
 pub mod SkimLemmas
 pub mod StreamLemmas
+pub mod PieceStartLemmas
+pub mod JoinLemmas
+pub mod SafeLemmas
+pub mod NearLemmas

@@ -22,9 +22,9 @@ use Rattle.lbk_rules.specs.Units.{heads, unit, units_after}
 use Rattle.lbk_rules.specs.Verdict.{verdict_between_in}
 use Rattle.lbk_rules.proofs.EndLemmas.{heads-joins, joins_no_break}
 use Rattle.lbk_rules.proofs.HeldLemmas.{is_held-chain}
-use Rattle.lbk_rules.specs.declared.Step.{Step}
-use Rattle.lbk_rules.specs.declared.FlatTable.{FlatTable}
-use Rattle.lbk_rules.specs.steps.TheConstants.{HELD}
+use Rattle.lbk_rules.specs.declared.steps.Step.{Step}
+use Rattle.lbk_rules.specs.declared.flat_table.FlatTable.{FlatTable}
+use Rattle.lbk_rules.specs.declared.steps.TheConstants.{HELD}
 use Rattle.lbk_rules.specs.FlatTable.{IsFlatOf, KnowsTaken}
 use Rattle.lbk_rules.specs.Kinds.{kind_cell, real_kind}
 use Rattle.lbk_rules.specs.RowMachineFits.{normals}

@@ -18,7 +18,7 @@ use Rattle.lbk_rules.specs.Sides.{leaves_closed}
 use Rattle.lbk_rules.specs.Units.{units_after}
 use Rattle.lbk_rules.specs.Verdict.{verdict_between_in}
 use Rattle.lbk_rules.proofs.ParagraphLemmas.{or-true}
-use Rattle.lbk_rules.specs.declared.FlatTable.{FlatTable}
+use Rattle.lbk_rules.specs.declared.flat_table.FlatTable.{FlatTable}
 use Rattle.lbk_rules.specs.FlatTable.{IsFlatOf, KnowsTaken}
 use Rattle.lbk_rules.specs.Rows.{verdict_shown}
 use Rattle.lbk_rules.proofs.FlatLemmas.{left-start}

@@ -9,7 +9,7 @@ use Rattle.lbk_values.specs.declared.profile.Profile.TheVariants.{Second}
 use Rattle.lbk_rules.specs.Classes.{hard}
 use Rattle.lbk_rules.specs.Breaks.{is_no}
 use Rattle.lbk_rules.specs.Normal.{normal}
-use Rattle.lbk_rules.specs.declared.FlatTable.{FlatTable}
+use Rattle.lbk_rules.specs.declared.flat_table.FlatTable.{FlatTable}
 use Rattle.lbk_rules.specs.FlatTable.{IsFlatOf, KnowsTaken}
 use Rattle.lbk_rules.specs.Rows.{IsShown, verdict_shown}
 use Rattle.lbk_streams.specs.declared.stream.Cut.{Cut}

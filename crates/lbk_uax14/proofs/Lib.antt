@@ -15,4 +15,3 @@ pub mod StepLemmas
 pub mod NormalLemmas
 pub mod MarkLemmas
 pub mod JoinLemmas
-pub mod CodeLemmas

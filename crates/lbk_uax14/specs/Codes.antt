@@ -1,5 +1,5 @@
--- Kinds, rules and verdicts as numbers.
-use Rattle.std.specs.Prelude.{ℕ, ◌+◌, ◌*◌, ◌==◌, ◌<◌, ◌%◌, ◌/◌, List, [], ◌∷◌, find, slice_index_or, unwrap_or}
+-- Kinds and rules as numbers.
+use Rattle.std.specs.Prelude.{ℕ, ◌+◌, ◌*◌, ◌==◌, List, [], ◌∷◌, find, slice_index_or, unwrap_or}
 use Rattle.lbk_uax14.specs.declared.verdicts.Kind.{Kind}
 use Rattle.lbk_uax14.specs.declared.verdicts.Kind.TheVariants.{No, May, Must}
 use Rattle.lbk_uax14.specs.declared.verdicts.Rule.{Rule}
@@ -8,7 +8,6 @@ use Rattle.lbk_uax14.specs.declared.verdicts.Rule.TheVariants.{Lb12, Lb12a, Lb13
 use Rattle.lbk_uax14.specs.declared.verdicts.Rule.TheVariants.{Lb17, Lb18, Lb19, Lb20, Lb21, Lb21a, Lb21b, Lb22, Lb23}
 use Rattle.lbk_uax14.specs.declared.verdicts.Rule.TheVariants.{Lb23a, Lb24, Lb25, Lb26, Lb27, Lb28, Lb29, Lb30, Lb30a}
 use Rattle.lbk_uax14.specs.declared.verdicts.Rule.TheVariants.{Lb30b, Lb31}
-use Rattle.lbk_uax14.specs.declared.verdicts.Verdict.{Verdict}
 
 -- the number of a kind
 abbrev pub kind_number : Kind → ℕ
@@ -69,12 +68,3 @@ kind_numbered number = slice_index_or (No ∷ May ∷ Must ∷ []) number No
 -- the rule that has this number
 abbrev pub rule_numbered : ℕ → Rule
 rule_numbered number = unwrap_or (find (λ rule. rule_number rule == number) rules) Lb2
-
--- the number is that of a verdict
-abbrev pub IsCode : ℕ → Type 0
-IsCode code = code < 152
-
--- the verdict of a number, which counts verdicts by kind and then by rule. A verdict by which a line does not break
--- has two numbers: one below 38, and one from 114 on
-unfoldable pub verdict_coded : ℕ → Verdict
-verdict_coded code = record { kind = kind_numbered (code / 38); rule = slice_index_or rules (code % 38) Lb2 }

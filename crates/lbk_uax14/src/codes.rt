@@ -1,17 +1,9 @@
-//! Kinds, rules and verdicts as numbers.
+//! Rules as numbers.
 
-ghost use Rattle.std.specs.Prelude.{◌≡◌, ◌<◌, ◌==◌, find, not, slice_index_or};
-ghost use Rattle.lbk_uax14.specs.declared.verdicts.Rule.TheVariants.{Lb2};
-ghost use Rattle.lbk_uax14.specs.Breaks.{is_no};
-ghost use Rattle.lbk_uax14.specs.Codes.{IsCode, kind_numbered, rule_number, rules, verdict_coded};
+ghost use Rattle.std.specs.Prelude.{◌≡◌, ◌==◌, find};
+ghost use Rattle.lbk_uax14.specs.Codes.{rule_number, rules};
 
-use crate::verdicts::{Kind, Rule, Verdict};
-
-/// How many rules there are.
-pub const RULES: u16 = 38;
-
-/// How many verdicts there are: three kinds by each rule.
-pub const VERDICTS: u16 = 3 * RULES;
+use crate::verdicts::Rule;
 
 impl Rule {
     /// The rule of a number, which is 8 times its own and the place of its letter: 65 for rule 8a. None comes for a
@@ -62,38 +54,4 @@ impl Rule {
             _ => None,
         }
     }
-}
-
-/// The number of a verdict among all verdicts: 38 times the number of its kind, and the place of its rule among the
-/// rules.
-pub fn code_of(verdict: Verdict) -> u16
-    ensures verdict { verdict_coded result ≡ verdict }
-    ensures few { result < VERDICTS }
-    ensures coded { IsCode result }
-{
-    RULES * number_of_kind(verdict.kind) + place_of_rule(verdict.rule)
-}
-
-/// Whether a line may or must break by the verdict of a number. By that of a number from [`VERDICTS`] on it does not.
-#[inline(always)]
-pub fn is_break(code: u16) -> bool
-    ensures { result ≡ not (is_no (verdict_coded code).kind) }
-{
-    RULES <= code && code < VERDICTS
-}
-
-/// The number of a kind.
-fn number_of_kind(kind: Kind) -> u16
-    ensures numbered { kind_numbered result ≡ kind }
-    ensures few { result < 3 }
-{
-    kind as u16
-}
-
-/// The place of a rule among the rules.
-fn place_of_rule(rule: Rule) -> u16
-    ensures place { slice_index_or rules result Lb2 ≡ rule }
-    ensures few { result < 38 }
-{
-    rule as u16
 }

@@ -1,7 +1,7 @@
 //! The rules of line breaking: Unicode Standard Annex #14, Unicode 15.0, over cells.
 //!
 //! A text is seen as a list of [`Cell`]s, one a scalar. [`decide`] returns for a position in it whether the line may
-//! break, must break or must not, and the rule that decided. The crate `lbk_steps` decides texts, and is fast.
+//! break, must break or must not, and the rule that decided. The crate `lbk_rules` decides texts by constant steps, and is fast.
 #![tactic(auto)]
 
 pub mod annex;
@@ -28,8 +28,7 @@ pub use lbk_values::Profile;
 pub use resolution::resolve;
 pub use verdicts::{Kind, Rule, Verdict};
 
-// What `lbk_steps` is made of, and what tests compare it with.
-pub use codes::{RULES, VERDICTS, code_of, is_break};
+// What `lbk_rules` is made of, and what tests compare it with.
 pub use facts::{Before, Left};
 pub use late_machine::{End, LateMachine, Out, decide_all_in, unless_held};
 pub use machine::{Machine, decide_all};

@@ -6,3 +6,4 @@ pub mod RowLemmas
 pub mod SampleLemmas
 pub mod TakenLemmas
 pub mod Worked
+pub mod FeedLemmas

@@ -7,6 +7,10 @@ pub mod Files
 pub mod Samples
 pub mod Tables
 pub mod Grammar
+pub mod FileNames
+pub mod Digests
+pub mod Causes
+pub mod Claims
 -- What only carries proofs.
 pub mod Ranges
 pub mod Reading

@@ -1,12 +1,17 @@
-//! The property files of Unicode that line breaking reads, and the tables that are made of them.
+//! The property files of Unicode that line breaking reads, and the tables that are made of them; the four that Unicode
+//! 15.0.0 published: their names and digests, and in words what is wrong with one.
 #![tactic(auto)]
 
+mod causes;
+mod claims;
+mod digests;
 mod faults;
 mod file;
 mod format;
 mod four;
 mod gathered;
 pub mod laws;
+mod names;
 mod overlay;
 mod property_line;
 mod ranges;
@@ -15,9 +20,13 @@ mod tables;
 mod taken;
 mod which;
 
+pub use causes::cause_text;
+pub use claims::is_cut;
+pub use digests::{first_unpublished, is_published};
 pub use faults::{UcdCause, UcdFault};
 pub use file::LONGEST_FILE;
 pub use lbk_values::{Category, EastAsian, LineBreak};
+pub use names::file_name;
 pub use samples::{SAMPLE_CATEGORY, SAMPLE_EAST_ASIAN, SAMPLE_EMOJI, SAMPLE_LINE_BREAK};
 pub use tables::{Files, Places, Run, Tables};
 pub use which::Which;

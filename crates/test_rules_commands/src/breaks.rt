@@ -1,7 +1,7 @@
 //! The breaks of texts in memory over the sample files, in both profiles, from pages and from tables and in blocks
 //! of all sizes.
 
-use lbk_breaks::{Break, Breaks};
+use lbk_passage::{Break, Breaks};
 use lbk_rules::{CellSource, Kind, Profile, Rule, Verdict, decide_in};
 use std::alloc::{AllocError, Global};
 use std::fmt::Write;

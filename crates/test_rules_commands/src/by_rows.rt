@@ -1,6 +1,6 @@
 //! The breaks of texts say of every short list of cells what the evaluator says.
 
-use lbk_breaks::{Break, Breaks};
+use lbk_passage::{Break, Breaks};
 use lbk_rules::{CellPages, Kind, Profile, Verdict, decide_in};
 use std::alloc::{AllocError, Global};
 use std::process::Abort;

@@ -1,7 +1,7 @@
 //! The breaks of a text in memory.
 
-use lbk_breaks::Breaks;
 use lbk_cmd::{SAMPLE_FILES, read_cells};
+use lbk_passage::Breaks;
 use lbk_rules::{Kind, Profile};
 use std::test::Fail;
 

@@ -6,8 +6,8 @@ ghost use Rattle.lbk_rules.specs.Breaks.{breaks};
 ghost use Rattle.lbk_rules.specs.CellPages.{page_cell};
 ghost use Rattle.lbk_values.specs.declared.profile.Profile.TheVariants.{First};
 
-use lbk_breaks::Breaks;
 use lbk_cmd::{SAMPLE_FILES, read_cells};
+use lbk_passage::Breaks;
 use lbk_rules::{Break, CellPages, Kind, Profile, Rule};
 use std::alloc::{AllocError, Global};
 use std::test::Fail;

@@ -4,11 +4,10 @@ use crate::dropped::Dropped;
 use crate::material::Material;
 use crate::stepless::Stepless;
 use anyhow::{Result, bail};
-use lbk_breaks::Breaks;
 use lbk_cmd::{mark, segment, show};
 use lbk_feed::devices::MemorySource;
 use lbk_notation::{Form, replay};
-use lbk_passage::{LIMIT_MAX, Segment, Segmenter};
+use lbk_passage::{Breaks, LIMIT_MAX, Segment, Segmenter};
 use lbk_rules::{
     Break, CellPages, CellSource, Class, Kind, LateMachine, Machine, Profile, Rule, Stepper,
     Verdict,

@@ -1,5 +1,5 @@
 use Rattle.std.proofs.Common.{ap, arith, false, length, true}
-use Rattle.lbk_word_laws.specs.PassageWords.{words_in_pieces}
+use Rattle.lbk_chunk_reader.specs.PassageWords.{words_in_pieces}
 use Rattle.lbk_chunk_reader.proofs.WordLemmas.{counted-on, no-items}
 use Rattle.lbk_chunk_reader.proofs.gathering.words_behind.Goals as goal
 

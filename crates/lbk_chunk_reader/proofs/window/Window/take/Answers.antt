@@ -1,5 +1,5 @@
 use Rattle.std.proofs.Common.{◌+◌, ◌++◌, ap, arith, length, subst, sym, ◌∙◌}
-use Rattle.lbk_word_laws.specs.PassageWords.{words_in_pieces}
+use Rattle.lbk_chunk_reader.specs.PassageWords.{words_in_pieces}
 use Rattle.lbk_chunk_reader.specs.Cuts.{cuts_between}
 use Rattle.lbk_chunk_reader.specs.Pieces.{IsRegular}
 use Rattle.lbk_chunk_reader.specs.Window.{cuts_in}

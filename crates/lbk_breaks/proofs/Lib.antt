@@ -1,2 +1,0 @@
-pub mod FillingLemmas
-pub mod ComingLemmas

@@ -1,2 +1,0 @@
--- What only carries proofs.
-pub mod Onward

@@ -1,0 +1,63 @@
+//! A table in a few kilobytes.
+
+ghost use Rattle.std.specs.Prelude.{◌≡◌, ◌+◌, ◌<◌, ◌≤◌, ◌++◌, ◌⊎◌, ℕ, List, drop, length};
+ghost use Rattle.lbk_calls.specs.Packing.{packed};
+ghost use Rattle.lbk_rules.specs.declared.Cell.{Cell};
+ghost use Rattle.lbk_rules.specs.FlatTable.{AreFlatKinds, AreKinds, IsFlatOf, IsWhole};
+ghost use Rattle.lbk_calls.specs.Refused.{IsCause};
+
+use crate::packing::pack;
+use crate::unpacking::{Refusal, unpack};
+use lbk_rules::{FlatTable, LAYOUT};
+
+/// The version of the packed form.
+const VERSION: u8 = LAYOUT as u8;
+
+/// Writes a table to the front of the bytes, packed, and returns how many bytes it has then. Where these are more than
+/// there is room for nothing is written, nor for a table that is not whole, of which 0 is returned.
+#[unsafe(no_mangle)]
+pub extern "C" fn lbk_pack(table: &FlatTable, bytes: &mut [u8]) -> usize
+    ensures corrupt { ¬ (IsWhole table.now) → result ≡ 0 }
+    ensures size { IsWhole table.now → result ≡ length (packed LAYOUT table.now.kinds) }
+    ensures form { IsWhole table.now → result ≤ length bytes.old
+        → bytes.new ≡ packed LAYOUT table.now.kinds ++ drop result bytes.old }
+    ensures untouched { (result ≡ 0) ⊎ (length bytes.old < result) → bytes.new ≡ bytes.old }
+{
+    if !table.is_whole() {
+        return 0;
+    }
+    pack(VERSION, &table.kinds, bytes)
+}
+
+/// Makes it the table that is packed in the bytes: 0. Bytes in which no table of this version is packed are refused, by
+/// the number of a cause.
+///
+/// After cause 11 or 12 the table is as it was, after cause 13 its layout is 0.
+#[unsafe(no_mangle)]
+pub extern "C" fn lbk_unpack(table: &mut FlatTable, bytes: &[u8]) -> u32
+    ensures form { result ≡ 0 → bytes.now ≡ packed LAYOUT table.new.kinds }
+    ensures whole { result ≡ 0 → IsWhole table.new }
+    ensures table { result ≡ 0 → (cell : ℕ → Cell) → AreFlatKinds table.new.kinds cell → IsFlatOf table.new cell }
+    ensures each { (kinds : List ℕ) → length kinds ≡ 0x11_0000 → AreKinds kinds → bytes.now ≡ packed LAYOUT kinds
+        → (result ≡ 0) × (table.new.kinds ≡ kinds) }
+    ensures refused { 0 < result → IsCause bytes.now result }
+    ensures untouched { (result ≡ 11) ⊎ (result ≡ 12) → table.new ≡ table.old }
+    ensures spoilt { result ≡ 13 → table.new.layout ≡ 0 }
+{
+    match unpack(VERSION, bytes, &mut table.kinds) {
+        Ok(()) if table.complete() => 0,
+        Ok(()) => spoilt(table),
+        Err(Refusal::Foreign) => 11,
+        Err(Refusal::Version) => 12,
+        Err(Refusal::Damaged) => spoilt(table),
+    }
+}
+
+/// Has `lbk_check` refuse the table, and returns the cause.
+fn spoilt(table: &mut FlatTable) -> u32
+    ensures cause { result ≡ 13 }
+    ensures layout { table.new.layout ≡ 0 }
+{
+    table.layout = 0;
+    13
+}

@@ -1,4 +1,0 @@
-pub mod PieceStartLemmas
-pub mod JoinLemmas
-pub mod SafeLemmas
-pub mod NearLemmas

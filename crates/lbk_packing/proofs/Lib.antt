@@ -1,3 +1,0 @@
-mod FillingLemmas
-mod PackingLemmas
-mod RunsLemmas

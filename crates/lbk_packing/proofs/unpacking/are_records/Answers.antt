@@ -1,8 +1,0 @@
-use Rattle.std.proofs.Common.{rules}
-use Rattle.lbk_packing.proofs.PackingLemmas.{matching-all}
-use Rattle.lbk_packing.proofs.unpacking.are_records.Goals as goal
-
-pub returns : goal.returns
-returns c =
-    let all = matching-all c.args.kinds.now c.args.bytes.now c.loop-at.left.now c.loop-at.at c.loop-at.invariant c.loop-at-test.false in
-    (λ empty. all.0 (search rules), λ same. let none = all.1 same in search rules)

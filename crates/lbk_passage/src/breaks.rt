@@ -1,0 +1,107 @@
+//! The breaks of a text, a block at a time or one after another.
+
+ghost use Rattle.std.specs.Prelude.{◌≡◌, length, min, take, drop};
+ghost use Rattle.std.specs.Iterator.{YieldsFirst, item_count};
+ghost use Rattle.std.specs.Str.{chars};
+ghost use Rattle.lbk_rules.specs.Breaks.{breaks};
+
+use crate::walk::fill;
+use lbk_rules::{Break, CellSource, Kind, Profile, RowMachine, Rule};
+use std::marker::Model;
+
+/// The breaks of a text: its positions after the first where a line may or must end (UAX #14, section 3), the last
+/// being its end; an empty text has none. The text is one, whatever its paragraphs. No memory is taken, and time grows
+/// with the length of the text.
+///
+/// ```rust
+/// for found in Breaks::new(&cells, text, Profile::First) {
+///     lines.push_str(text.get(start..found.at).unwrap_or(""))?;
+///     lines.push(if found.kind == Kind::Must { '!' } else { '÷' })?;
+///     start = found.at;
+/// }
+/// ```
+#[derive(Drop)]
+pub struct Breaks<'a, C: CellSource> {
+    cells: &'a C,
+    profile: Profile,
+    text: &'a str,
+    /// How many bytes of the text were taken.
+    taken: usize,
+    machine: RowMachine<'a, C>,
+    /// How many were given.
+    given: usize,
+    /// Whether the end was given.
+    ended: bool,
+}
+
+// A value of it is the list of the breaks that are still to come.
+impl<'a, C: CellSource> Model for Breaks<'a, C> {
+    ghost use Rattle.std.specs.Prelude.{List, drop};
+    ghost use Rattle.std.specs.Str.{chars};
+    ghost use Rattle.lbk_rules.specs.declared.Break.{Break};
+    ghost use Rattle.lbk_rules.specs.RowMachineFits.{RowMachineFits};
+    ghost use Rattle.lbk_rules.specs.Breaks.{breaks};
+    ghost use Rattle.lbk_passage.specs.Onward.{IsKept};
+
+    ghost Value = { List Break };
+
+    ghost view = { λ b. drop b.given (breaks b.profile (C.cell_of b.cells.now) (chars b.text.now)) };
+
+    ghost invariant = { λ b. IsKept (RowMachineFits C.cell_of b.machine) b.profile (C.cell_of b.cells.now) b.text.now b.taken b.given b.ended };
+}
+
+impl<'a, C: CellSource> Breaks<'a, C> {
+    /// The breaks of a text by these cells and the rules of the profile (UAX #14, section 6), none of which was
+    /// returned yet.
+    pub fn new(cells: &'a C, text: &'a str, profile: Profile) -> Breaks<'a, C>
+        ensures { result ≡ breaks profile (C.cell_of cells.now) (chars text.now) }
+    {
+        Breaks {
+            cells,
+            profile,
+            text,
+            taken: 0,
+            machine: RowMachine::start(cells, profile),
+            given: 0,
+            ended: false,
+        }
+    }
+
+    /// Puts the next breaks into the front of the block, as many as it holds or all that are left, and returns how
+    /// many: 0 at the end, or where the block has no room. What stands in the block after them is unspecified.
+    pub fn fill(&mut self, block: &mut [Break]) -> usize
+        ensures count { result ≡ min (length block.old) (length self.old) }
+        ensures front { take result block.new ≡ take result self.old }
+        ensures rest { self.new ≡ drop result self.old }
+    {
+        if self.ended {
+            return 0;
+        }
+        let filling = fill(&mut self.machine, self.text, self.taken, block);
+        self.taken = filling.at;
+        self.ended = filling.ended;
+        self.given += filling.count;
+        filling.count
+    }
+}
+
+impl<'a, C: CellSource> Iterator for Breaks<'a, C> {
+    type Item = Break;
+
+    ghost next_gives = { YieldsFirst (λ to_come. to_come) };
+
+    ghost remaining = { item_count (λ to_come. to_come) };
+
+    /// The next break, or none at the end. Many are found faster by `fill`.
+    fn next(&mut self) -> Option<Break> {
+        let mut block = [Break {
+            at: 0,
+            kind: Kind::No,
+            rule: Rule::Lb31,
+        }];
+        if self.fill(&mut block) == 0 {
+            return None;
+        }
+        Some(block[0])
+    }
+}

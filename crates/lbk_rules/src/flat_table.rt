@@ -1,0 +1,148 @@
+//! A table as plain numbers in one block, which a caller may keep where it likes: what the property files say. What the
+//! rules say stands in the code.
+
+ghost use Rattle.std.specs.Prelude.{◌≡◌, ℕ, ◌↔◌, false, nat_lt, IsTrue, IfOk, OnErr, fold};
+ghost use Rattle.std.specs.List.{list_all};
+ghost use Rattle.lbk_rules.specs.declared.kinds.TheConstants.{KINDS};
+ghost use Rattle.lbk_uax14.specs.declared.cells.Cell.{Cell};
+ghost use Rattle.lbk_rules.specs.FlatTable.{AreFlatKinds, AreKinds, AreKindsAlone, IsFlatOf, IsWhole, digest_of};
+ghost use Rattle.lbk_rules.specs.FlatTable.{digest_of_bytes, digest_with};
+ghost use Rattle.lbk_rules.specs.Neighbours.{AreNeighboursOf};
+ghost use Rattle.lbk_uax14.specs.Normal.{normal};
+ghost use Rattle.lbk_rules.specs.CellOfTables.{cell_of_tables};
+
+use crate::kind_table::KindTable;
+use crate::kinds::{KINDS, cell_of_kind};
+use crate::neighbours::Neighbours;
+use crate::runs::CellRuns;
+use crate::steps::WIDTH;
+use lbk_uax14::Cell;
+use lbk_ucd::Tables;
+use std::alloc::{AllocError, Global};
+
+/// The number of this layout of a table. It changes with the layout, the rules and the numbers of kinds.
+pub const LAYOUT: u64 = 4;
+
+/// How many codes there are.
+pub(crate) const CODES: usize = 0x11_0000;
+
+/// What a digest begins with: the offset basis of FNV-1a for 64 bits.
+const DIGEST_START: u64 = 0xcbf2_9ce4_8422_2325;
+
+/// What a digest is multiplied by: the prime of FNV-1a for 64 bits.
+const DIGEST_PRIME: u64 = 0x100_0000_01b3;
+
+/// The kinds of all scalar values, and what the steps tell of bytes side by side: plain numbers,
+/// without pointers.
+#[repr(C)]
+pub struct FlatTable {
+    /// The number of the layout, [`LAYOUT`].
+    pub layout: u64,
+    /// The digest of all that follows.
+    pub digest: u64,
+    /// What the steps tell of bytes side by side, in either profile.
+    pub pairs: Neighbours,
+    /// The kind of each code.
+    pub kinds: [u8; CODES],
+}
+
+impl FlatTable {
+    /// Makes it the table of the cells that these property tables give (UAX #14, section 6), whole. An error comes only
+    /// where memory was refused; the table then stays as it was.
+    pub fn fill(&mut self, alloc: Global, tables: &Tables) -> Result<(), AllocError>
+        ensures table { IfOk result (λ _. IsFlatOf self.new (cell_of_tables tables.now)) }
+        ensures whole { IfOk result (λ _. IsWhole self.new) }
+        ensures kinds { IfOk result (λ _. AreKindsAlone self.new (cell_of_tables tables.now)) }
+        ensures neighbours { IfOk result (λ _. AreNeighboursOf self.new.kinds self.new.pairs) }
+        ensures untouched { OnErr result (self.new ≡ self.old) }
+    {
+        self.fill_over(alloc, tables)
+    }
+
+    /// The same over any source.
+    fn fill_over<C: CellRuns>(&mut self, alloc: Global, source: &C) -> Result<(), AllocError>
+        ensures table { IfOk result (λ _. IsFlatOf self.new (C.cell_at source.now)) }
+        ensures whole { IfOk result (λ _. IsWhole self.new) }
+        ensures kinds { IfOk result (λ _. AreKindsAlone self.new (C.cell_at source.now)) }
+        ensures neighbours { IfOk result (λ _. AreNeighboursOf self.new.kinds self.new.pairs) }
+        ensures untouched { OnErr result (self.new ≡ self.old) }
+    {
+        let kinds = KindTable::build(alloc, source)?;
+        self.kinds.copy_from_slice(&kinds.kinds);
+        self.complete();
+        Ok(())
+    }
+
+    /// Makes it the whole table of the kinds that it has, whatever else it had, and returns whether they are kinds. If
+    /// one of them is none the table stays as it was.
+    pub fn complete(&mut self) -> bool
+        ensures kinds { IsTrue result ↔ AreKinds self.old.kinds }
+        ensures table { IsTrue result → (cell : ℕ → Cell) → AreFlatKinds self.old.kinds cell → IsFlatOf self.new cell }
+        ensures whole { IsTrue result → IsWhole self.new }
+        ensures neighbours { IsTrue result → AreNeighboursOf self.new.kinds self.new.pairs }
+        ensures same { self.new.kinds ≡ self.old.kinds }
+        ensures untouched { result ≡ false → self.new ≡ self.old }
+    {
+        if !are_kinds(&self.kinds) {
+            return false;
+        }
+        self.pairs = Neighbours::of_kinds(&self.kinds);
+        self.layout = LAYOUT;
+        self.digest = self.digest_now();
+        true
+    }
+
+    /// Whether its layout is that of this version and its digest is that of its numbers. So it is of each table that
+    /// `fill` made, and of none of them in which one number was changed since.
+    pub fn is_whole(&self) -> bool
+        ensures { IsTrue result ↔ IsWhole self.now }
+    {
+        self.layout == LAYOUT && self.digest == self.digest_now()
+    }
+
+    /// The digest of its neighbours and kinds as they are now.
+    #[tactic(auto, unfolding(crate::specs::FlatTable::digest_of))]
+    fn digest_now(&self) -> u64
+        ensures { result ≡ digest_of self.now }
+    {
+        let neighbours = self.pairs.digest(DIGEST_START);
+        digest_kinds(neighbours, &self.kinds)
+    }
+
+    /// The cell of the kind of `c`, with nothing that no rule asks of it. A number that is no kind's is masked, as
+    /// steps mask it.
+    pub fn cell(&self, c: char) -> Cell
+        ensures { (cell : ℕ → Cell) → AreFlatKinds self.now.kinds cell → result ≡ normal (cell c) }
+    {
+        cell_of_kind(self.kinds[c as usize] % WIDTH as u8 % KINDS as u8)
+    }
+}
+
+/// Whether each number is that of a kind.
+fn are_kinds(kinds: &[u8]) -> bool
+    ensures { result ≡ list_all (λ kind. nat_lt kind KINDS) kinds.now }
+{
+    kinds.iter().all(|kind| (*kind as usize) < KINDS)
+}
+
+/// The digest of some bytes: FNV-1a, by which no two bytes lead from one digest to the same.
+#[tactic(auto, unfolding(crate::specs::FlatTable::digest_of_bytes))]
+pub fn digest_of_bytes(bytes: &[u8]) -> u64
+    ensures { result ≡ digest_of_bytes bytes.now }
+{
+    digest_kinds(DIGEST_START, bytes)
+}
+
+/// A digest after some kinds more.
+pub(crate) fn digest_kinds(digest: u64, kinds: &[u8]) -> u64
+    ensures { result ≡ fold digest_with digest kinds.now }
+{
+    kinds.iter().fold(digest, |digest, kind| digest_with(digest, u64::from(*kind)))
+}
+
+/// A digest after one number more.
+pub(crate) fn digest_with(digest: u64, number: u64) -> u64
+    ensures { result ≡ digest_with digest number }
+{
+    (digest ^ number).wrapping_mul(DIGEST_PRIME)
+}

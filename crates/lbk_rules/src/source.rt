@@ -1,0 +1,62 @@
+//! Sources of cells: what knows the cell of each scalar value.
+
+ghost use Rattle.std.specs.Prelude.{◌≡◌, ℕ};
+
+use crate::kinds::kind_of;
+use lbk_uax14::{Cell, resolve};
+use lbk_ucd::Tables;
+
+/// Something that knows the cell of each scalar value.
+pub trait CellSource {
+    ghost use Rattle.lbk_uax14.specs.declared.cells.Cell.{Cell};
+    ghost use Rattle.lbk_rules.specs.FirstBytes.{AreQuiet};
+    ghost use Rattle.lbk_rules.specs.Kinds.{AreKindsOf, kind_of};
+
+    ghost cell_of: { Self → ℕ → Cell };
+
+    /// The cell of `c` (UAX #14, section 6.1, rule LB1).
+    fn cell(&self, c: char) -> Cell
+        ensures { result ≡ cell_of self.now c };
+
+    /// The kind of `c`: a number for all that the rules ask of its cell.
+    #[inline]
+    fn kind(&self, c: char) -> u8
+        ensures { result ≡ kind_of (cell_of self.now c) }
+    {
+        kind_of(self.cell(c))
+    }
+
+    /// The kinds of the first codes, where the source keeps them: by those of all codes a loop finds a kind by one
+    /// read.
+    #[inline]
+    fn kinds(&self) -> &[u8]
+        ensures { AreKindsOf (cell_of self.now) result.now }
+    {
+        &[]
+    }
+
+    /// For each byte whether it is known that a line must end after no scalar that begins with it (UAX #14, rules LB4
+    /// and LB5). A text is cut into paragraphs without it too, only slower.
+    fn quiet_first_bytes(&self) -> [bool; 256]
+        ensures { AreQuiet (cell_of self.now) result }
+    {
+        [false; 256]
+    }
+}
+
+impl CellSource for Tables {
+    ghost use Rattle.lbk_rules.specs.CellOfTables.{cell_of_tables};
+
+    ghost cell_of = { cell_of_tables };
+
+    #[tactic(auto, unfolding(crate::specs::CellOfTables::cell_of_tables))]
+    fn cell(&self, c: char) -> Cell {
+        let code = u32::from(c);
+        resolve(
+            self.line_break(code),
+            self.east_asian(code),
+            self.category(code),
+            self.is_pictographic(code),
+        )
+    }
+}

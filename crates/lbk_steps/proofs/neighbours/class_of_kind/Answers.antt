@@ -1,5 +1,0 @@
-use Rattle.lbk_steps.proofs.NeighboursLemmas.{class-few}
-use Rattle.lbk_steps.proofs.neighbours.class_of_kind.Goals as goal
-
-pub returns-clause-few : goal.returns-clause-few
-returns-clause-few c = class-few c.args.kind c.requires

@@ -1,7 +1,0 @@
-use Rattle.std.proofs.Common.{refl}
-use Rattle.lbk_steps.specs.Rows.{left_at, row_left}
-use Rattle.lbk_steps.proofs.row_machine.RowMachine.start.Goals as goal
-
-pub returns : goal.returns
-unfolding left_at row_left
-returns g c = record { cell_same = refl; kinds_same = c.kinds.ensures; profile_same = refl; row_same = refl }

@@ -1,6 +1,0 @@
-use Rattle.lbk_steps.specs.Rows.{left_at, row_left}
-use Rattle.lbk_steps.proofs.steps.left_of.Goals as goal
-
-pub returns : goal.returns
-unfolding left_at row_left
-returns c = c.known_of.ensures

@@ -1,9 +1,0 @@
-use Rattle.std.proofs.Common.{ap, ◌∙◌}
-use Rattle.lbk_steps.specs.Rows.{step_by}
-use Rattle.lbk_steps.proofs.steps.step_in.Goals as goal
-
-pub step_at-requires-clause-steps : goal.step_at-requires-clause-steps
-step_at-requires-clause-steps c = (c.args.profile, c.rows_of.ensures)
-
-pub returns-clause-read : goal.returns-clause-read
-returns-clause-read c = c.step_at.ensures.read ∙ ap (λ rows. step_by rows c.args.place c.args.kind) c.rows_of.ensures

@@ -1,0 +1,76 @@
+use Rattle.std.proofs.Common.{◌≡◌, ◌+◌, ℕ, subst, sym, ◌∙◌, ⊎_elim, arith}
+use Rattle.std.proofs.lemmas.Bool.{cases_lt}
+use Rattle.lbk_streams.specs.Cuts.{IsPieceStart, IsSafeCut}
+use Rattle.lbk_streams.specs.Looking.{LastIs}
+use Rattle.lbk_streams.proofs.PieceStartLemmas.{starts_next}
+use Rattle.lbk_bytes.proofs.PieceLemmas.{piece-within}
+use Rattle.lbk_streams.proofs.SafeLemmas.{last-next, safe, unsafe-between, unsafe-within}
+use Rattle.lbk_streams.proofs.safe_cuts.first_cut.Goals as goal
+
+pub overflow_add-place : goal.overflow_add-place
+overflow_add-place c =
+    let bounds = piece-within c.args.text.now c.args.start c.requires.within in
+    omega (arith, bounds.1, c.class_at-last.ensures.size)
+
+pub loop-place-init : goal.loop-place-init
+loop-place-init c =
+    let text = c.args.text.now in
+    let start = c.args.start in
+    let class = c.class_at-last.result.0 in
+    let size = c.class_at-last.ensures.size in
+    let bounds = piece-within text start c.requires.within in
+    let next = starts_next text start c.requires.within c.requires.begins in
+    record {
+      within = omega (arith, bounds.1, size);
+      later = omega (arith, bounds.0, size);
+      behind = omega (arith, size);
+      begins = subst (λ (n : ℕ). IsPieceStart text (start + n)) (sym size) next.begins;
+      last = λ cell are_kinds. subst (λ (n : ℕ). LastIs cell text (start + n) class) (sym size) (last-next cell text start class next (c.class_at-last.ensures.class cell are_kinds));
+      none = λ cell place are_kinds later before.
+          unsafe-within cell text start place later (omega (arith, bounds.1, size)) (omega (arith, size)) c.requires.begins;
+    }
+
+pub returns-then-must_end-clause-safe : goal.returns-then-must_end-clause-safe
+returns-then-must_end-clause-safe c = λ cell are_kinds.
+    let l = c.loop-place in
+    safe cell c.args.text.now l.place l.last c.class_at-next.result.0 c.loop-place-test.true l.invariant.begins
+    (l.invariant.last cell are_kinds) (c.class_at-next.ensures.class cell are_kinds) (sym c.must_end.ensures ∙ c.if-must_end.true)
+
+pub overflow_add-place-in-loop-place : goal.overflow_add-place-in-loop-place
+overflow_add-place-in-loop-place c =
+    let bounds = piece-within c.args.text.now c.loop-place.place c.loop-place-test.true in
+    omega (arith, bounds.1, c.class_at-next.ensures.size)
+
+pub loop-place-smaller : goal.loop-place-smaller
+loop-place-smaller c =
+    let bounds = piece-within c.args.text.now c.loop-place.place c.loop-place-test.true in
+    omega (arith, bounds.0, bounds.1, c.class_at-next.ensures.size)
+
+pub loop-place-preserved : goal.loop-place-preserved
+loop-place-preserved c =
+    let text = c.args.text.now in
+    let l = c.loop-place in
+    let at = l.place in
+    let inside = c.loop-place-test.true in
+    let class = c.class_at-next.result.0 in
+    let size = c.class_at-next.ensures.size in
+    let bounds = piece-within text at inside in
+    let next = starts_next text at inside l.invariant.begins in
+    record {
+      within = omega (arith, bounds.1, size);
+      later = omega (arith, l.invariant.later);
+      behind = omega (arith, l.invariant.behind);
+      begins = subst (λ (n : ℕ). IsPieceStart text (at + n)) (sym size) next.begins;
+      last = λ cell are_kinds. subst (λ (n : ℕ). LastIs cell text (at + n) class) (sym size) (last-next cell text at class next (c.class_at-next.ensures.class cell are_kinds));
+      none = λ cell place are_kinds later before.
+          ⊎_elim (λ earlier. l.invariant.none cell place are_kinds later earlier)
+          (λ not_earlier. ⊎_elim
+          (λ behind. unsafe-within cell text at place behind (omega (arith, bounds.1, size)) (omega (arith, size)) l.invariant.begins)
+          (λ not_behind.
+          let is : place ≡ at = omega arith in
+          subst (λ (n : ℕ). ¬ (IsSafeCut cell text n)) (sym is)
+          (unsafe-between cell text at l.last class (omega (arith, l.invariant.later)) inside (l.invariant.last cell are_kinds) (c.class_at-next.ensures.class cell are_kinds)
+          (sym c.must_end.ensures ∙ c.if-must_end.false)))
+          (cases_lt at place))
+          (cases_lt place at);
+    }

@@ -1,0 +1,18 @@
+use Rattle.std.proofs.Common.{◌<◌, ◌≤◌, ℕ}
+use Rattle.lbk_rules.specs.declared.Cell.{Cell}
+use Rattle.lbk_rules.specs.FlatTable.{AreFlatKinds}
+use Rattle.lbk_streams.specs.Cuts.{IsPieceStart, IsSafeCut}
+use Rattle.lbk_streams.specs.Looking.{NextIs}
+use Rattle.lbk_streams.proofs.safe_cuts.last_cut.Given as goal
+
+-- from here on up to the start no part may begin
+abbrev pub invariant-loop-place : goal.invariant-loop-place
+invariant-loop-place l = record {
+  within : l.place ≤ l.fn.start;
+  begins : IsPieceStart l.text l.place;
+  next : (cell : ℕ → Cell) → AreFlatKinds l.table.kinds cell → NextIs cell l.text l.place l.next;
+  none : (cell : ℕ → Cell) (place : ℕ) → AreFlatKinds l.table.kinds cell → l.place < place → place ≤ l.fn.start → ¬ (IsSafeCut cell l.text place);
+}
+
+abbrev pub decreases-loop-place : goal.decreases-loop-place
+decreases-loop-place l = l.place

@@ -1,0 +1,24 @@
+//! What is wrong with a property file, in words.
+
+ghost use Rattle.std.specs.Prelude.{◌≡◌, ◌≤◌, length};
+ghost use Rattle.lbk_ucd.specs.Causes.{cause_text};
+
+use crate::faults::UcdCause;
+
+/// What is wrong with a file or with one of its lines (UAX #44, section 4.2), in at most 80 bytes of ASCII.
+pub fn cause_text(cause: UcdCause) -> &'static str
+    ensures text { result.now ≡ cause_text cause }
+    ensures short { length result.now ≤ 80 }
+{
+    match cause {
+        UcdCause::FileTooLong => "the file has more than 8388608 bytes",
+        UcdCause::LineTooLong => "the line has more than 1024 bytes",
+        UcdCause::RowSyntax => "the line is neither a row `code; value` nor a comment nor blank",
+        UcdCause::Range => "a range whose first code is past its last, or a code past 10FFFF",
+        UcdCause::UnknownValue =>
+            "no value of the property has this name; lbk knows the names up to Unicode 15.0",
+        UcdCause::Overlap => "a row before this one holds a code of this row",
+        UcdCause::TooManyRows => "the file has more than 65536 rows and default lines",
+        UcdCause::Memory => "out of memory",
+    }
+}

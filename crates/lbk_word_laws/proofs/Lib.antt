@@ -1,4 +1,0 @@
-pub mod PieceWords
-pub mod Seams
-pub mod Whole
-pub mod WordsInParts
