@@ -151,7 +151,7 @@ enum {
     LBK_CAUSE_DAMAGED = 13       /* the packed table was changed or cut */
 };
 
-/* What a table knows of bytes that stand side by side: numbers of the library's own. */
+/* What a table knows of pairs of adjacent bytes, in internal numbers. */
 typedef struct lbk_neighbours {
     uint8_t classes[8][16], left[16], right[16];
     uint16_t rows[256];
@@ -436,7 +436,7 @@ size_t lbk_positions_utf32(const lbk_table *table, lbk_state *state, const uint3
  *     } while (count == 64);
  *
  * A word is the text between two neighbouring word boundaries (UAX #29, section 4, no tailorings), if it has a letter
- * or a number: a character whose General_Category is one of L or N. The properties are those of
+ * or a number: a character with a General_Category of L or N. The properties are those of
  * LBK_WORDS_UNICODE_VERSION.
  *
  * Pass the whole text to each call. The state is always at a word boundary, and at `size` after the last word. All

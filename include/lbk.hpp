@@ -45,10 +45,10 @@
 
 namespace lbk {
 
-/// Which rules stand for quotation marks.
+/// Which rules decide at quotation marks.
 enum class profile : std::uint8_t { first = LBK_FIRST, second = LBK_SECOND };
 
-/// What follows the text that breaks are asked of: nothing, or more of a text of which it is a part.
+/// What follows the given text: nothing, or more of a longer text.
 enum class follows : std::uint8_t { nothing = 0, more = LBK_GOES_ON };
 
 /// Why there is no table. It converts to false where nothing is wrong.
@@ -96,7 +96,7 @@ struct error {
 /// There is no table, and the error says why.
 class table_error : public std::runtime_error {
 public:
-    /// `before` stands before the error's message, as the name of a folder does, and `after` after it.
+    /// `before` is put before the error's message, for example a folder's name, and `after` after it.
     explicit table_error(const lbk::error &why, const std::string &before = {}, const std::string &after = {})
         : std::runtime_error(before + why.message() + after), why_(why)
     {
