@@ -7,3 +7,4 @@ pub mod SampleLemmas
 pub mod TakenLemmas
 pub mod Worked
 pub mod FeedLemmas
+pub mod OrderLemmas

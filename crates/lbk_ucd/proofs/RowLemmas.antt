@@ -1,11 +1,12 @@
 -- Rows in the order of their codes: where one that holds a code can stand, and what a search by halves finds.
-use Rattle.std.proofs.Common.{◌≡◌, ℕ, suc, ◌<◌, ◌≤◌, Bool, true, false, List, [], ◌∷◌, length, get_or, Some, None, sym, ap, refl, ◌∙◌, arith, inl, inr}
+use Rattle.std.proofs.Common.{◌≡◌, ℕ, suc, ◌<◌, ◌≤◌, Bool, true, false, List, [], ◌∷◌, leb, length, get_or, Some, None, sym, ap, refl, ◌∙◌, arith, inl, inr}
 use Rattle.std.specs.List.{All, AllWithin, find, list_any, position_or_len, slice_get}
 use Rattle.std.specs.List.Sorted.{IsNonDecreasingBy}
 use Rattle.std.specs.Option.{option_map}
-use Rattle.std.proofs.lemmas.Bool.{cases_lt, false≢true}
+use Rattle.std.proofs.lemmas.Bool.{cases_lt, false≢true, le-leb, lt-leb}
 use Rattle.std.proofs.lemmas.List.Sums.{position_or_len_is}
-use Rattle.std.proofs.lemmas.List.Folds.{find_at, list_any_at}
+use Rattle.std.proofs.lemmas.List.{get_or_default}
+use Rattle.std.proofs.lemmas.List.Folds.{find_at, list_any_at, list_any_none}
 use Rattle.std.proofs.lemmas.Option.{slice_get-get_or}
 use Rattle.std.proofs.lemmas.Bool.Decides.{nat_tests}
 use Rattle.lbk_ucd.specs.declared.ranges.Row.{Row}
@@ -79,6 +80,20 @@ module _ {V : Type 0} where
       go : (passes : Bool) → p (get_or rows k d) ≡ passes → p (get_or rows k d) ≡ false
       go true is = absurd (false≢true (sym none ∙ list_any_at p rows k d lt is))
       go false is = is
+
+  -- whether a row shares a code is told by the one at the first place where none ends before the codes
+  pub told_in_order : (rows : List (Row V)) (first last at : ℕ) (d : Row V) → IsInOrder rows
+      → AllWithin (λ row. row.last < first) rows 0 at → AllWithin (λ row. first ≤ row.last) rows at (length rows) → at < length rows
+      → leb (get_or rows at d).first last ≡ list_any (shares first last) rows
+  told_in_order rows first last at d h before after lt =
+      elim (cases_lt last (get_or rows at d).first) [
+        | inl ahead ↦
+            lt-leb (get_or rows at d).first last ahead
+            ∙ sym (list_any_none (shares first last) rows (none_shares rows first last at h before (λ e _. rw (get_or_default rows at e d lt) ahead)))
+        | inr meets ↦
+            le-leb (get_or rows at d).first last meets
+            ∙ sym (list_any_at (shares first last) rows at d lt (meets_within first last (get_or rows at d) meets (after at d (omega arith) lt)))
+      ]
 
   -- a code of a row is in none that shares none with it
   pub elsewhere : (code : ℕ) (new other : Row V) → holds code new ≡ true → shares new.first new.last other ≡ false → holds code other ≡ false

@@ -2,12 +2,12 @@
 ghost use Rattle.std.specs.Prelude.{◌≡◌, ◌+◌, ◌<◌, ◌≤◌, ℕ, false, [], ◌∷◌, ◌++◌, length, not, nat_lt, IfOk, OnOk};
 ghost use Rattle.std.specs.Prelude.{OnErr};
 ghost use Rattle.std.specs.List.{All, AllPairs, list_any};
-ghost use Rattle.lbk_ucd.specs.Ranges.{AreMarked, IsRange};
+ghost use Rattle.lbk_ucd.specs.Ranges.{AreMarked, IsInOrder, IsRange};
 ghost use Rattle.lbk_ucd.specs.Rows.{shares, AreApart, value_at};
 ghost use Rattle.lbk_ucd.specs.declared.gathered.TheConstants.{MOST_ROWS};
 
-use crate::overlay::{flatten, overlay};
-use crate::ranges::{Assigned, Row};
+use crate::overlay::{flatten, overlay, sorted};
+use crate::ranges::{Assigned, Row, shares_in_order, stand_before};
 use crate::taken::Taken;
 use std::alloc::{AllocError, Global};
 
@@ -15,7 +15,7 @@ use std::alloc::{AllocError, Global};
 pub(crate) const MOST_ROWS: usize = 65_536;
 
 /// The kept rows and the default lines so far, in the order of the file, and the value of the codes that neither
-/// holds. `taken` has the codes that rows hold.
+/// holds. `taken` has the codes that rows hold, from the first row on that does not stand behind all before it.
 #[derive(Drop)]
 pub(crate) struct Gathered<V> {
     pub(crate) rows: Vec<Row<V>>,
@@ -25,7 +25,8 @@ pub(crate) struct Gathered<V> {
     ghost ranges: { All IsRange rows.items },
     ghost default_ranges: { All IsRange defaults.items },
     ghost apart: { AllPairs AreApart rows.items },
-    ghost marked: { AreMarked rows.items taken.words.items },
+    ghost ordered: { taken.words.items ≡ [] → IsInOrder rows.items },
+    ghost marked: { 0 < length taken.words.items → AreMarked rows.items taken.words.items },
     ghost few: { length rows.items + length defaults.items ≤ MOST_ROWS },
 }
 
@@ -68,7 +69,11 @@ impl<V: Copy> Gathered<V> {
         requires last { last ≤ 0x10FFFF }
         ensures { result ≡ list_any (shares first last) self.now.rows.items }
     {
-        self.taken.any(first, last)
+        if self.taken.is_unused() {
+            shares_in_order(&self.rows, first, last)
+        } else {
+            self.taken.any(first, last)
+        }
     }
 
     /// Keeps a row that shares no code with those kept.
@@ -80,9 +85,27 @@ impl<V: Copy> Gathered<V> {
         ensures defaults { self.new.defaults.items ≡ self.old.defaults.items }
         ensures unlisted { self.new.unlisted ≡ self.old.unlisted }
     {
-        self.taken.reserve()?;
+        if self.taken.is_unused() && !stand_before(&self.rows, row.first) {
+            self.taken.add_rows(&self.rows)?;
+        }
+        self.push_row(row)
+    }
+
+    /// Keeps a row that stands behind all those kept, or beside them where their codes are taken.
+    fn push_row(&mut self, row: Row<V>) -> Result<(), AllocError>
+        requires range { IsRange row }
+        requires apart { list_any (shares row.first row.last) self.old.rows.items ≡ false }
+        requires room { count_of self.old < MOST_ROWS }
+        requires behind { self.old.taken.words.items ≡ []
+            → All (λ other. other.last < row.first) self.old.rows.items }
+        ensures ok { OnOk result (self.new.rows.items ≡ self.old.rows.items ++ row ∷ []) }
+        ensures defaults { self.new.defaults.items ≡ self.old.defaults.items }
+        ensures unlisted { self.new.unlisted ≡ self.old.unlisted }
+    {
         self.rows.push(row)?;
-        self.taken.add(row.first, row.last);
+        if !self.taken.is_unused() {
+            self.taken.add(row.first, row.last);
+        }
         Ok(())
     }
 
@@ -99,23 +122,26 @@ impl<V: Copy> Gathered<V> {
     }
 
     /// What the rows and defaults assign to codes. Where there are none, no memory is taken.
-    pub(crate) fn assigned(&self, alloc: Global) -> Result<Assigned<V>, AllocError>
+    pub(crate) fn assigned(self, alloc: Global) -> Result<Assigned<V>, AllocError>
         ensures values { IfOk result
             (λ assigned. (code : ℕ) → value_of assigned code
-            ≡ value_at self.now.rows.items self.now.defaults.items self.now.unlisted code) }
-        ensures refused { OnErr result (0 < count_of self.now) }
+            ≡ value_at self.rows.items self.defaults.items self.unlisted code) }
+        ensures refused { OnErr result (0 < count_of self) }
     {
-        if self.count() == 0 {
-            return Ok(Assigned {
-                rows: Vec::new(alloc),
-                unlisted: self.unlisted,
-            });
+        let Gathered {
+            rows,
+            defaults,
+            unlisted,
+            taken: _,
+        } = self;
+        let rows = sorted(rows)?;
+        if defaults.is_empty() {
+            return Ok(Assigned { rows, unlisted });
         }
-        let defaults = flatten(alloc, &self.defaults)?;
-        let rows = flatten(alloc, &self.rows)?;
+        let defaults = flatten(alloc, &defaults)?;
         Ok(Assigned {
             rows: overlay(alloc, &defaults, &rows)?,
-            unlisted: self.unlisted,
+            unlisted,
         })
     }
 }

@@ -1,11 +1,25 @@
 //! Ranges of codes that may share codes, made into ranges that share none.
-ghost use Rattle.std.specs.Prelude.{◌≡◌, ◌≤◌, ℕ, true, false, length, reverse, IfOk};
-ghost use Rattle.std.specs.List.{All};
+ghost use Rattle.std.specs.Prelude.{◌≡◌, ◌<◌, ◌≤◌, ℕ, true, false, length, reverse, IfOk, OnErr};
+ghost use Rattle.std.specs.List.{All, AllPairs};
 ghost use Rattle.lbk_ucd.specs.Ranges.{IsInOrder, IsOverlay, IsRange};
-ghost use Rattle.lbk_ucd.specs.Rows.{first_value};
+ghost use Rattle.lbk_ucd.specs.Rows.{AreApart, first_value};
 
 use crate::ranges::{LAST_CODE, Row, next_from, stretch_from};
 use std::alloc::{AllocError, Global};
+
+/// Rows of which no two share a code, in the order of their codes.
+pub(crate) fn sorted<V: Copy>(rows: Vec<Row<V>>) -> Result<Vec<Row<V>>, AllocError>
+    requires ranges { All IsRange rows.items }
+    requires apart { AllPairs AreApart rows.items }
+    ensures ordered { IfOk result (λ sorted. IsInOrder sorted.items) }
+    ensures values { IfOk result (λ sorted. (code : ℕ) → first_value code sorted.items
+        ≡ first_value code rows.items) }
+    ensures refused { OnErr result (0 < length rows.items) }
+{
+    let mut sorted = rows;
+    sorted.sort_by_key(|row| row.first)?;
+    Ok(sorted)
+}
 
 /// Rows that share no code, sorted by their codes, in which a code has the value of the last of these rows that holds
 /// it.

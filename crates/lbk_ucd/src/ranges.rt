@@ -1,9 +1,9 @@
 //! Ranges of codes with a value, and look-ups in them.
 
-ghost use Rattle.std.specs.Prelude.{◌≡◌, ◌≤◌, ◌<◌, ℕ, length, unwrap_or};
-ghost use Rattle.std.specs.List.{AllWithin};
+ghost use Rattle.std.specs.Prelude.{◌≡◌, ◌≤◌, ◌<◌, ℕ, true, length, unwrap_or};
+ghost use Rattle.std.specs.List.{All, AllWithin, list_any};
 ghost use Rattle.lbk_ucd.specs.Ranges.{IsInOrder};
-ghost use Rattle.lbk_ucd.specs.Rows.{first_value};
+ghost use Rattle.lbk_ucd.specs.Rows.{first_value, shares};
 
 /// The greatest code.
 pub(crate) const LAST_CODE: u32 = 0x10_FFFF;
@@ -57,6 +57,24 @@ impl<V: Copy> Assigned<V> {
             at: found.at,
         }
     }
+}
+
+/// Whether one of sorted rows shares a code with the codes from `first` to `last`.
+pub(crate) fn shares_in_order<V: Copy>(rows: &[Row<V>], first: u32, last: u32) -> bool
+    requires ordered { IsInOrder rows.now }
+    requires rises { first ≤ last }
+    ensures { result ≡ list_any (shares first last) rows.now }
+{
+    let at = first_near(rows, first, rows.len());
+    at < rows.len() && rows[at].first <= last
+}
+
+/// Whether all of sorted rows end before a code.
+pub(crate) fn stand_before<V: Copy>(rows: &[Row<V>], code: u32) -> bool
+    requires { IsInOrder rows.now }
+    ensures { result ≡ true → All (λ row. row.last < code) rows.now }
+{
+    first_near(rows, code, rows.len()) == rows.len()
 }
 
 /// The value of the row that holds a code, by a binary search.

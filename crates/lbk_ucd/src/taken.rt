@@ -1,9 +1,12 @@
 //! Which codes rows hold.
-ghost use Rattle.std.specs.Prelude.{◌≡◌, ◌+◌, ◌*◌, ◌^◌, ◌<◌, ◌≤◌, ◌⊎◌, ◌&&◌, ℕ, true, false, [], length, nat_le, OnOk};
+ghost use Rattle.std.specs.Prelude.{◌≡◌, ◌+◌, ◌*◌, ◌^◌, ◌<◌, ◌≤◌, ◌⊎◌, ◌&&◌, ℕ, true, false, [], length, nat_le, OnErr, OnOk};
+ghost use Rattle.std.specs.List.{All};
 ghost use Rattle.lbk_masks.specs.Bits.{is_marked};
 ghost use Rattle.lbk_masks.specs.Sets.{is_set};
+ghost use Rattle.lbk_ucd.specs.Ranges.{AreMarked, IsRange};
 ghost use Rattle.lbk_ucd.specs.declared.taken.TheConstants.{WORDS};
 
+use crate::ranges::Row;
 use lbk_masks::{join, kept_from};
 use std::alloc::{AllocError, Global};
 
@@ -30,6 +33,14 @@ impl Taken {
         }
     }
 
+    /// Whether no code was taken yet.
+    pub(crate) fn is_unused(&self) -> bool
+        ensures yes { result ≡ true → self.now.words.items ≡ [] }
+        ensures no { result ≡ false → 0 < length self.now.words.items }
+    {
+        self.words.is_empty()
+    }
+
     /// Whether a code from `first` to `last` is taken.
     pub(crate) fn any(&self, first: u32, last: u32) -> bool
         requires rises { first ≤ last }
@@ -40,27 +51,42 @@ impl Taken {
         !self.words.is_empty() && any_marked(&self.words, first as usize, last as usize)
     }
 
-    /// Makes room for the bits. Which codes are taken stays.
-    pub(crate) fn reserve(&mut self) -> Result<(), AllocError>
-        ensures same { (k : ℕ) → is_marked self.new.words.items k ≡ is_marked self.old.words.items k }
-        ensures room { OnOk result (length self.new.words.items ≡ WORDS) }
+    /// Takes the codes of some rows, as the first ones. On an error none is taken.
+    pub(crate) fn add_rows<V: Copy>(&mut self, rows: &[Row<V>]) -> Result<(), AllocError>
+        requires unused { self.old.words.items ≡ [] }
+        requires ranges { All IsRange rows.now }
+        ensures marked { OnOk result (AreMarked rows.now self.new.words.items) }
+        ensures room { OnOk result (0 < length self.new.words.items) }
+        ensures untouched { OnErr result (self.new.words.items ≡ []) }
     {
-        if self.words.is_empty() {
-            self.words.resize(WORDS, 0)?;
-        }
+        self.words.resize(WORDS, 0)?;
+        mark_rows(&mut self.words, rows);
         Ok(())
     }
 
-    /// Takes the codes from `first` to `last`, for which there is room.
+    /// Takes the codes from `first` to `last` beside others.
     pub(crate) fn add(&mut self, first: u32, last: u32)
         requires rises { first ≤ last }
         requires within { last ≤ 0x10FFFF }
-        requires room { length self.old.words.items ≡ WORDS }
+        requires room { 0 < length self.old.words.items }
+        ensures used { length self.new.words.items ≡ length self.old.words.items }
         ensures inside { (k : ℕ) → first ≤ k → k ≤ last → is_marked self.new.words.items k ≡ true }
         ensures outside { (k : ℕ) → (k < first) ⊎ (last < k) → is_marked self.new.words.items k
             ≡ is_marked self.old.words.items k }
     {
         mark_all(&mut self.words, first as usize, last as usize);
+    }
+}
+
+/// Sets the bits of the codes of these rows, where none is set.
+fn mark_rows<V: Copy>(words: &mut [u64], rows: &[Row<V>])
+    requires room { length words.old ≡ WORDS }
+    requires unset { (k : ℕ) → is_marked words.old k ≡ false }
+    requires ranges { All IsRange rows.now }
+    ensures { AreMarked rows.now words.new }
+{
+    for row in rows {
+        mark_all(words, row.first as usize, row.last as usize);
     }
 }
 

@@ -61,8 +61,8 @@ returns-in-Ok-clause-properties g c = λ code.
     c.in-Ok.ensures.values code
     ∙ read_value (shown_format c.args.format.now) c.args.bytes.now c.loop-rest.line c.loop-rest.gathered c.loop-rest.grown code to
 
-pub returns-clause-refused : goal.returns-clause-refused
-returns-clause-refused g c = inr (
+pub returns-in-Err-assigned-clause-refused : goal.returns-in-Err-assigned-clause-refused
+returns-in-Err-assigned-clause-refused g c = inr (
   refl,
   elim c.loop-rest.invariant.grows [
     | inl none ↦ absurd (omega (arith, none, c.in-Err-assigned.ensures.refused))

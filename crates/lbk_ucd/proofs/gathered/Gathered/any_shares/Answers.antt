@@ -17,7 +17,7 @@ told rows words first last true ranges marked rises one other =
     sym (shares_marked rows words first last here.0 marked here.1 here.2 here.3)
 told rows words first last false ranges marked rises one other = sym (shares_unmarked rows words first last ranges marked rises (other refl))
 
-pub returns : goal.returns
-returns g c =
+pub returns-else-is_unused : goal.returns-else-is_unused
+returns-else-is_unused g c =
     let self = c.args.self.now in
-    told self.rows.items self.taken.words.items c.args.first c.args.last c.any.result self.ranges self.marked c.requires.rises c.any.ensures.yes c.any.ensures.no
+    told self.rows.items self.taken.words.items c.args.first c.args.last c.any.result self.ranges (self.marked (c.is_unused.ensures.no c.if-is_unused.false)) c.requires.rises c.any.ensures.yes c.any.ensures.no
