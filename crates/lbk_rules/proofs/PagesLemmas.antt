@@ -76,29 +76,23 @@ pub next_page-same : (cell_of : ℕ → Cell) (k first last : ℕ) (cell : Cell)
 next_page-same cell_of k first last cell page same begins ends here i below =
     here i below ∙ (same (256 * (k - 1) + i) (omega arith) (omega arith) ∙ sym (same (256 * k + i) (omega arith) (omega arith)))
 
--- the first k pages are kept, and a range goes on from one of their codes or from the next
-pub record IsFilledTo (cell_of : ℕ → Cell) (numbers : List ℕ) (pages : List (List Cell)) (k first last : ℕ) (cell : Cell) : Type 0 where
+-- the first k pages are kept
+pub record IsFilledTo (cell_of : ℕ → Cell) (numbers : List ℕ) (pages : List (List Cell)) (k : ℕ) : Type 0 where
   pub counted : length numbers ≡ k
   pub few : length pages ≤ k
   pub numbered : (i : ℕ) → i < k → get_or numbers i 0 < length pages
   pub filled : (i : ℕ) → i < k → IsPageOf cell_of (256 * i) (page_at numbers pages i)
-  pub begins : first ≤ 256 * k
-  pub ends : last ≤ 0x10FFFF
-  pub same : AreSame cell_of first last cell
 
 -- one page more
-pub filled_more : (cell_of : ℕ → Cell) (numbers : List ℕ) (before after : List (List Cell)) (k n first last : ℕ) (cell : Cell) (first' last' : ℕ) (cell' : Cell)
-    → IsFilledTo cell_of numbers before k first last cell
+pub filled_more : (cell_of : ℕ → Cell) (numbers : List ℕ) (before after : List (List Cell)) (k n : ℕ)
+    → IsFilledTo cell_of numbers before k
     → n < length after
     → ((j : ℕ) → j < length before → get_or after j [] ≡ get_or before j [])
     → length before ≤ length after
     → length after ≤ length before + 1
     → IsPageOf cell_of (256 * k) (get_or after n [])
-    → first' ≤ 256 * (k + 1)
-    → last' ≤ 0x10FFFF
-    → AreSame cell_of first' last' cell'
-    → IsFilledTo cell_of (numbers ++ n ∷ []) after (k + 1) first' last' cell'
-filled_more cell_of numbers before after k n first last cell first' last' cell' to here stay less more page begins ends same = record {
+    → IsFilledTo cell_of (numbers ++ n ∷ []) after (k + 1)
+filled_more cell_of numbers before after k n to here stay less more page = record {
   counted = length_push numbers n ∙ (let counted = to.counted in omega arith);
   few = omega (arith, to.few);
   numbered = below_more _ _
@@ -107,7 +101,4 @@ filled_more cell_of numbers before after k n first last cell first' last' cell' 
   filled = below_more _ _
       (λ i h. rw (page_at-earlier numbers n before after i (let counted = to.counted in omega arith) (to.numbered i h) stay) (to.filled i h))
       (rw (page_at-last numbers n k after to.counted) page);
-  begins = begins;
-  ends = ends;
-  same = same;
 }

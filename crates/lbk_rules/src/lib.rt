@@ -24,6 +24,7 @@ mod runs;
 mod source;
 mod stepper;
 mod steps;
+mod walk;
 
 // Cells, and the sources of them.
 pub use class_labels::class_label;

@@ -2,20 +2,21 @@
 
 ghost use Rattle.std.specs.Prelude.{◌≡◌, ℕ, ◌+◌, ◌*◌, ◌<◌, ◌≤◌, length, slice_index, IfOk};
 ghost use Rattle.std.specs.Char.{IsScalar};
-ghost use Rattle.lbk_rules.specs.Pages.{AreDistinct, AreSame, IsPageOf, cell_in};
+ghost use Rattle.lbk_rules.specs.Pages.{AreDistinct, IsPageOf, cell_in, digest_of};
 ghost use Rattle.lbk_rules.specs.FirstBytes.{AreQuiet};
 ghost use Rattle.lbk_rules.specs.KindTable.{kind_at};
 ghost use Rattle.lbk_rules.specs.Kinds.{kind_of};
 
 mod kept;
 
-use crate::first_bytes::quiet_first_bytes;
 use crate::kind_table::KindTable;
-use crate::runs::{CellRun, CellRuns};
+use crate::kinds::kind_of;
+use crate::runs::CellRuns;
 use crate::source::CellSource;
-use kept::Kept;
+use crate::walk::Walk;
+use kept::{Kept, NO_CELLS, cell_number, digest_with, with_run};
 use lbk_uax14::Cell;
-use lbk_ucd::{Places, Tables};
+use lbk_ucd::Tables;
 use std::alloc::{AllocError, Global};
 
 /// How many codes have their cells in one page.
@@ -24,11 +25,14 @@ const PAGE_LENGTH: usize = 256;
 /// How many pages all codes up to 10FFFF make.
 const PAGE_COUNT: u32 = 4352;
 
+/// How many codes have their kinds side by side: those of four planes, in which nearly all text lies.
+const MOST_KINDS: usize = 0x4_0000;
+
 /// The cells of 256 codes that follow one another.
 type Page = [Cell; PAGE_LENGTH];
 
 /// The cells of all scalar values, for a look-up of two reads: the number of a page, and a cell in
-/// it. Equal pages are kept once. Beside them the kinds of these cells, by which positions are decided
+/// it. Equal pages are kept once. Beside them the kinds of the first cells, by which positions are decided
 /// fast.
 #[derive(Debug, Drop)]
 pub struct CellPages {
@@ -40,7 +44,8 @@ pub struct CellPages {
     ghost complete: { length numbers.items ≡ 4352 },
     ghost numbered: { (k : ℕ) → k < 4352 → slice_index numbers.items k < length pages.items },
     ghost distinct: { AreDistinct pages.items },
-    ghost same: { (code : ℕ) → IsScalar code → kind_at kinds code ≡ kind_of (cell_in numbers.items pages.items code) },
+    ghost same: { (code : ℕ) → IsScalar code → code < length kinds.kinds.items
+        → kind_at kinds code ≡ kind_of (cell_in numbers.items pages.items code) },
     ghost quiet: { AreQuiet (cell_in numbers.items pages.items) quiet_first_bytes },
 }
 
@@ -62,27 +67,26 @@ impl CellPages {
         ensures { IfOk result (λ pages. (code : ℕ) → IsScalar code
             → page_cell pages code ≡ C.cell_at source.now code) }
     {
+        let mut walk = Walk::begin(alloc, source, MOST_KINDS)?;
         let mut kept = Kept::new(alloc);
         let mut numbers = Vec::with_capacity(alloc, PAGE_COUNT as usize)?;
-        let mut run = source.cell_run(0, Places::START);
-        let mut page = [run.cell; PAGE_LENGTH];
+        let mut page = [walk.run.cell; PAGE_LENGTH];
         for k in 0..PAGE_COUNT {
             let first = 256 * k;
             // This page and the one before lie in one range of equal cells.
-            if run.first + 256 <= first && first + 255 <= run.last {
+            if walk.run.first + 256 <= first && first + 255 <= walk.run.last {
                 let number = numbers[k as usize - 1];
                 numbers.push(number)?;
             } else {
-                run = fill(&mut page, source, run, first);
-                numbers.push(kept.number_of(&page)?)?;
+                let digest = fill(&mut page, &mut walk, first)?;
+                numbers.push(kept.number_of(&page, digest)?)?;
             }
         }
-        let kinds = KindTable::build(alloc, source)?;
         Ok(CellPages {
             numbers,
             pages: kept.into_pages(),
-            kinds,
-            quiet_first_bytes: quiet_first_bytes(source),
+            kinds: walk.kinds,
+            quiet_first_bytes: walk.quiet_first_bytes,
         })
     }
 }
@@ -102,7 +106,10 @@ impl CellSource for CellPages {
     #[inline(always)]
     #[tactic(auto, unfolding(crate::specs::CellPages::page_cell))]
     fn kind(&self, c: char) -> u8 {
-        self.kinds.of(c)
+        match self.kinds.of(c) {
+            Some(kind) => kind,
+            None => kind_of(self.cell(c)),
+        }
     }
 
     #[inline]
@@ -117,23 +124,28 @@ impl CellSource for CellPages {
     }
 }
 
-/// Puts the cells of the codes from `first` on into the page. `run` is a range that begins there or before, and the
-/// result the one of the last code.
-fn fill<C: CellRuns>(page: &mut Page, source: &C, run: CellRun, first: u32) -> CellRun
+/// Puts the cells of the codes from `first` on into the page, and returns its digest. The walk is at a range that
+/// begins there or before, or at the one before, and goes on to that of the last code. An error comes only where memory
+/// was refused.
+fn fill<C: CellRuns>(page: &mut Page, walk: &mut Walk<'_, C>, first: u32) -> Result<u64, AllocError>
     requires first { first + 256 ≤ 0x11_0000 }
-    requires begins { run.first ≤ first }
-    requires run { (run.last ≤ 0x10FFFF) × AreSame (C.cell_at source.now) run.first run.last run.cell }
-    ensures page { IsPageOf (C.cell_at source.now) first page.new }
-    ensures begins { result.first < first + 256 }
-    ensures run { (result.last ≤ 0x10FFFF) × AreSame (C.cell_at source.now) result.first result.last result.cell }
+    requires begins { walk.old.run.first ≤ first }
+    requires reaches { first ≤ walk.old.run.last + 1 }
+    ensures source { walk.new.source.now ≡ walk.old.source.now }
+    ensures page { IfOk result (λ _. IsPageOf (C.cell_at walk.old.source.now) first page.new) }
+    ensures digest { IfOk result (λ digest. digest ≡ digest_of page.new) }
+    ensures begins { IfOk result (λ _. walk.new.run.first < first + 256) }
+    ensures reaches { IfOk result (λ _. first + 256 ≤ walk.new.run.last + 1) }
 {
-    let mut run = run;
+    let mut digest = NO_CELLS;
+    let mut number = cell_number(walk.run.cell);
     for (k, cell) in page.iter_mut().enumerate() {
-        let code = first + k as u32;
-        if run.last < code {
-            run = source.cell_run(code, run.places);
+        if walk.run.last < first + k as u32 {
+            walk.go_on()?;
+            number = cell_number(walk.run.cell);
         }
-        *cell = run.cell;
+        *cell = walk.run.cell;
+        digest = digest_with(digest, number);
     }
-    run
+    Ok(with_run(digest))
 }

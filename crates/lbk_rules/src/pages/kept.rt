@@ -28,8 +28,9 @@ impl Kept {
     }
 
     /// The number of this page, which is kept if it is new.
-    pub(super) fn number_of(&mut self, page: &Page) -> Result<u16, AllocError>
-        requires { length self.old.pages.items < 2 ^ 16 }
+    pub(super) fn number_of(&mut self, page: &Page, digest: u64) -> Result<u16, AllocError>
+        requires few { length self.old.pages.items < 2 ^ 16 }
+        requires digest { digest ≡ digest_of page.now }
         ensures number { IfOk result (λ n. (n < length self.new.pages.items)
             × (slice_index_or self.new.pages.items n [] ≡ page.now)) }
         ensures stay { IfOk result (λ _. (k : ℕ) → k < length self.old.pages.items
@@ -37,7 +38,6 @@ impl Kept {
         ensures more { IfOk result (λ _. (length self.old.pages.items ≤ length self.new.pages.items)
             × (length self.new.pages.items ≤ length self.old.pages.items + 1)) }
     {
-        let digest = digest(page);
         if let Some(number) = self.find(page, digest) {
             return Ok(number as u16);
         }
@@ -92,35 +92,24 @@ const MULTIPLIER: u64 = 0x5851_f42d_4c95_7f2d;
 
 /// A number for the cells of a page so far, and how many of the last are equal.
 #[derive(Clone, Copy)]
-struct CellSum {
+pub(super) struct CellSum {
     sum: u64,
     number: u64,
     count: u64,
 }
 
 /// Before all cells.
-const NO_CELLS: CellSum = CellSum {
+pub(super) const NO_CELLS: CellSum = CellSum {
     sum: 0,
     number: 0,
     count: 0,
 };
 
-/// A number of the page, the same for equal pages, so that pages are seldom compared cell by cell.
-#[tactic(auto, unfolding(crate::specs::Pages::digest_of))]
-fn digest(page: &Page) -> u64
-    ensures { result ≡ digest_of page.now }
+/// The digest after one more cell, of this number. Only a cell that differs from the one before takes a multiplication.
+#[inline]
+pub(super) fn digest_with(digest: CellSum, number: u64) -> CellSum
+    ensures { (cell : Cell) → number ≡ cell_number cell → result ≡ digest_with digest cell }
 {
-    with_run(
-        page.iter()
-            .fold(NO_CELLS, |digest, cell| digest_with(digest, *cell)),
-    )
-}
-
-/// The digest after one more cell. Only a cell that differs from the one before takes a multiplication.
-fn digest_with(digest: CellSum, cell: Cell) -> CellSum
-    ensures { result ≡ digest_with digest cell }
-{
-    let number = number(cell);
     if number == digest.number {
         return CellSum {
             count: digest.count.wrapping_add(1),
@@ -134,8 +123,9 @@ fn digest_with(digest: CellSum, cell: Cell) -> CellSum
     }
 }
 
-/// The number with the run of equal cells at the end.
-fn with_run(digest: CellSum) -> u64
+/// The number with the run of equal cells at the end. Behind the last cell it is that of the page, the same for equal
+/// pages, so that pages are seldom compared cell by cell.
+pub(super) fn with_run(digest: CellSum) -> u64
     ensures { result ≡ with_run digest }
 {
     mixed(
@@ -155,7 +145,7 @@ fn mixed(sum: u64, number: u64) -> u64
 }
 
 /// A number of its own for each cell.
-fn number(cell: Cell) -> u64
+pub(super) fn cell_number(cell: Cell) -> u64
     ensures { result ≡ cell_number cell }
 {
     let flags = u64::from(cell.wide) + 2 * u64::from(cell.pict_cn) + 4 * u64::from(cell.letter);

@@ -16,7 +16,7 @@ returns-clause-table g c = c.complete.ensures.table (copied g c) (g.C.CellRuns.c
     (rw (c.copy_from_slice.ensures.after ∙ c.deref.ensures.value)
     (λ code scalar.
     ap kind_cell (real-kind _ (c.in_ok-kinds.kinds.few code))
-    ∙ ap kind_cell (c.in_ok-kinds.ensures code (let below = scalar_below code scalar in omega arith))
+    ∙ ap kind_cell (c.in_ok-kinds.ensures.kinds code (let below = scalar_below code scalar in omega arith))
     ∙ kind-cell (g.C.CellRuns.cell_at c.args.source.now code)))
 
 pub returns-clause-whole : goal.returns-clause-whole
@@ -27,4 +27,4 @@ returns-clause-neighbours g c = c.complete.ensures.neighbours (copied g c)
 
 pub returns-clause-kinds : goal.returns-clause-kinds
 unfolding kind_at
-returns-clause-kinds g c = rw (c.complete.ensures.same ∙ c.copy_from_slice.ensures.after ∙ c.deref.ensures.value) (λ code below. c.in_ok-kinds.ensures code below)
+returns-clause-kinds g c = rw (c.complete.ensures.same ∙ c.copy_from_slice.ensures.after ∙ c.deref.ensures.value) (λ code below. c.in_ok-kinds.ensures.kinds code below)

@@ -1,0 +1,86 @@
+//! A walk over the cells of all codes, range by range.
+
+ghost use Rattle.std.specs.Prelude.{◌≡◌, ℕ, ◌+◌, ◌<◌, ◌≤◌, length, IfOk};
+ghost use Rattle.lbk_rules.specs.FirstBytes.{AreQuietTo};
+ghost use Rattle.lbk_rules.specs.KindTable.{kind_at};
+ghost use Rattle.lbk_rules.specs.Kinds.{kind_of};
+ghost use Rattle.lbk_rules.specs.Pages.{AreSame};
+ghost use Rattle.lbk_uax14.specs.declared.cells.Cell.{Cell};
+
+use crate::first_bytes::leave_out;
+use crate::kind_table::KindTable;
+use crate::kinds::kind_of;
+use crate::runs::{CellRun, CellRuns};
+use lbk_ucd::Places;
+use std::alloc::{AllocError, Global};
+
+/// The range that a walk is at, and what is known by kind alone of the codes up to its end.
+#[derive(Drop)]
+pub(crate) struct Walk<'a, C: CellRuns> {
+    source: &'a C,
+    /// How many codes have their kinds told at most.
+    most: usize,
+    pub(crate) run: CellRun,
+    pub(crate) kinds: KindTable,
+    /// For each byte whether a line must end after no scalar that begins with it (UAX #14, rules LB4 and LB5).
+    pub(crate) quiet_first_bytes: [bool; 256],
+    ghost rises: { (run.first ≤ run.last) × (run.last ≤ 0x10FFFF) },
+    ghost same: { AreSame (C.cell_at source.now) run.first run.last run.cell },
+    ghost counted: { (length kinds.kinds.items ≤ run.last + 1) × (length kinds.kinds.items ≤ most) },
+    ghost complete: { length kinds.kinds.items < most → length kinds.kinds.items ≡ run.last + 1 },
+    ghost of_cells: { (code : ℕ) → code < length kinds.kinds.items
+        → kind_at kinds code ≡ kind_of (C.cell_at source.now code) },
+    ghost quiet: { AreQuietTo (C.cell_at source.now) quiet_first_bytes (run.last + 1) },
+}
+
+impl<'a, C: CellRuns> Walk<'a, C> {
+    /// At the first range. The kinds of `most` codes are told.
+    pub(crate) fn begin(
+        alloc: Global,
+        source: &'a C,
+        most: usize,
+    ) -> Result<Walk<'a, C>, AllocError>
+        ensures source { IfOk result (λ walk. walk.source.now ≡ source.now) }
+        ensures most { IfOk result (λ walk. walk.most ≡ most) }
+        ensures first { IfOk result (λ walk. walk.run.first ≡ 0) }
+    {
+        let mut kinds = KindTable::with_room(alloc, most)?;
+        let run = source.cell_run(0, Places::START);
+        kinds.fill_to(most.min(run.last as usize + 1), kind_of(run.cell))?;
+        let mut quiet_first_bytes = [true; 256];
+        leave_out_ends(&mut quiet_first_bytes, &run);
+        Ok(Walk {
+            source,
+            most,
+            run,
+            kinds,
+            quiet_first_bytes,
+        })
+    }
+
+    /// Goes on to the next range. On an error it stays where it is.
+    pub(crate) fn go_on(&mut self) -> Result<(), AllocError>
+        requires { self.old.run.last < 0x10FFFF }
+        ensures source { self.new.source.now ≡ self.old.source.now }
+        ensures most { self.new.most ≡ self.old.most }
+        ensures next { IfOk result (λ _. self.new.run.first ≡ self.old.run.last + 1) }
+    {
+        let run = self.source.cell_run(self.run.last + 1, self.run.places);
+        let end = self.most.min(run.last as usize + 1);
+        self.kinds.fill_to(end, kind_of(run.cell))?;
+        leave_out_ends(&mut self.quiet_first_bytes, &run);
+        self.run = run;
+        Ok(())
+    }
+}
+
+/// Leaves out the first bytes of the scalars of a range, where lines must end after them.
+fn leave_out_ends(quiet: &mut [bool; 256], run: &CellRun)
+    requires { run.now.last ≤ 0x10FFFF }
+    ensures { (cell : ℕ → Cell) → AreSame cell run.now.first run.now.last run.now.cell
+        → AreQuietTo cell quiet.old run.now.first → AreQuietTo cell quiet.new (run.now.last + 1) }
+{
+    if run.cell.class.ends_line() {
+        leave_out(quiet, run.first, run.last);
+    }
+}
