@@ -1,6 +1,6 @@
 //! Offsets as decimal text. Most share all digits but the last four with the one before.
 
-ghost use Rattle.std.specs.Prelude.{◌≡◌, ◌+◌, ◌<◌, ◌≤◌, ◌^◌, decimal, length, take};
+ghost use Rattle.std.specs.Prelude.{◌≡◌, ◌+◌, ◌/◌, ◌%◌, ◌<◌, ◌≤◌, ◌^◌, decimal, length, take};
 ghost use Rattle.lbk_cmd.specs.Placing.{Placed};
 
 use super::placing::{place_four, place_front};
@@ -8,6 +8,9 @@ use itoa::write_digits;
 
 /// The most digits that are kept.
 const MOST: usize = 16;
+
+/// How many offsets share all digits but the last four.
+const RANGE: u64 = 10_000;
 
 /// The digits of a number, in the front of some bytes.
 #[derive(Clone, Copy)]
@@ -34,20 +37,22 @@ fn digits_of(number: u64) -> Digits
     }
 }
 
-/// The offset that was placed last but for its last four digits, and what of it is shown.
+/// The digits of the offset that was placed last but for its last four, and the offsets that have these.
 #[derive(Clone, Copy)]
 pub struct Offsets {
-    high: u64,
+    /// The least of the 10,000 offsets.
+    base: u64,
     digits: Digits,
-    ghost kept: { (take digits.len digits.bytes ≡ decimal high) × (digits.len ≤ 16) },
+    ghost kept: { (take digits.len digits.bytes ≡ decimal (base / 10000)) × (digits.len ≤ 16) },
+    ghost range: { (base % 10000 ≡ 0) × (0 < base) × (base < 2 ^ 63) },
 }
 
 impl Offsets {
     /// Before any offset.
     pub fn new() -> Offsets {
         Offsets {
-            high: 0,
-            digits: digits_of(0),
+            base: RANGE,
+            digits: digits_of(1),
         }
     }
 
@@ -58,18 +63,41 @@ impl Offsets {
         ensures placed { Placed buf.old buf.new at (decimal offset) result }
         ensures short { result ≤ at + 20 }
     {
-        let high = offset / 10_000;
+        if offset.wrapping_sub(self.base) < RANGE {
+            return self.place_known(buf, at, offset);
+        }
+        self.place_other(buf, at, offset)
+    }
+
+    /// Places one of the offsets whose digits are kept.
+    #[inline(always)]
+    fn place_known(&self, buf: &mut [u8], at: usize, offset: u64) -> usize
+        requires known { (self.now.base ≤ offset) × (offset < self.now.base + 10000) }
+        requires room { at + 20 ≤ length buf.old }
+        ensures placed { Placed buf.old buf.new at (decimal offset) result }
+        ensures short { result ≤ at + 20 }
+    {
+        let next = place_front(buf, at, self.digits.bytes, self.digits.len);
+        place_four(buf, next, offset - self.base)
+    }
+
+    /// Places any offset, and keeps its digits if it has more than four.
+    #[cold]
+    #[inline(never)]
+    fn place_other(&mut self, buf: &mut [u8], at: usize, offset: u64) -> usize
+        requires { (offset < 2 ^ 63) × (at + 20 ≤ length buf.old) }
+        ensures placed { Placed buf.old buf.new at (decimal offset) result }
+        ensures short { result ≤ at + 20 }
+    {
+        let high = offset / RANGE;
         if high == 0 {
             let digits = digits_of(offset);
             return place_front(buf, at, digits.bytes, digits.len);
         }
-        if high != self.high {
-            *self = Offsets {
-                high,
-                digits: digits_of(high),
-            };
-        }
-        let next = place_front(buf, at, self.digits.bytes, self.digits.len);
-        place_four(buf, next, offset % 10_000)
+        *self = Offsets {
+            base: high * RANGE,
+            digits: digits_of(high),
+        };
+        self.place_known(buf, at, offset)
     }
 }

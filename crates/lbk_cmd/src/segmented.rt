@@ -1,18 +1,25 @@
 //! The lines that `segment` writes of a passage.
 
-ghost use Rattle.std.specs.Prelude.{◌≡◌, ◌+◌, ◌<◌, ◌≤◌, ◌^◌, ◌++◌, ◌∷◌, [], length, take, OnOk, OnErr};
+ghost use Rattle.std.specs.Prelude.{◌≡◌, ◌+◌, ◌*◌, ◌<◌, ◌≤◌, ◌^◌, ◌++◌, ◌∷◌, [], length, take, OnOk, OnErr};
 ghost use Rattle.std.specs.List.{flat_map};
+ghost use Rattle.lbk_rules.specs.Labels.{label_of};
 ghost use Rattle.lbk_cmd.specs.Placing.{Placed};
 ghost use Rattle.lbk_cmd.specs.Segment.{kind_name, part, passage_lines, segment_line, word_line};
 
 use super::offsets::Offsets;
-use super::placing::{place_byte, place_few, place_front};
+use super::placing::{place_byte, place_front};
 use lbk_passage::{Passage, Piece, Segment};
-use lbk_rules::Kind;
+use lbk_rules::{Kind, Rule};
 use std::alloc::AllocError;
 
 /// Room for a line, and for what its parts write past its end.
-const ROOM: [u8; 64] = [b'\n'; 64];
+const LINE: usize = 64;
+
+/// How many parts of a passage get room together.
+const PARTS: usize = 64;
+
+/// Room for so many lines.
+static ROOM: [u8; LINE * PARTS] = [b'\n'; LINE * PARTS];
 
 /// Puts the lines of a passage at the end of `out`: `P` and its bytes, `S` for each segment with the kind and the rule
 /// at its end, `W` for each word. Offsets count bytes of the whole text. After an error some of them may stand there.
@@ -28,9 +35,27 @@ pub fn push_segmented(
     ensures kept { take (length out.old.items) out.new.items ≡ out.old.items }
 {
     let start = passage.start;
-    push_part(out, offsets, b'P', start, start + passage.text.len() as u64)?;
+    push_passage(out, offsets, start, start + passage.text.len() as u64)?;
     push_segments(out, offsets, start, passage.segments)?;
     push_words(out, offsets, start, passage.pieces)
+}
+
+/// Puts the line of a passage itself at the end of `out`.
+fn push_passage(
+    out: &mut Vec<u8>,
+    offsets: &mut Offsets,
+    start: u64,
+    end: u64,
+) -> Result<(), AllocError>
+    requires { (start < 2 ^ 63) × (end < 2 ^ 63) }
+    ensures line { OnOk result (out.new.items ≡ out.old.items ++ (part (80 ∷ []) start end ++ 10 ∷ [])) }
+    ensures kept { OnErr result (out.new.items ≡ out.old.items) }
+{
+    let at = out.len();
+    out.extend_from_slice(&ROOM[..LINE])?;
+    let behind = place_line(out.as_mut_slice(), at, offsets, b'P', start, end);
+    out.truncate(behind);
+    Ok(())
 }
 
 fn push_segments(
@@ -43,10 +68,48 @@ fn push_segments(
     ensures lines { OnOk result (out.new.items ≡ out.old.items ++ flat_map (segment_line start) segments.now) }
     ensures kept { take (length out.old.items) out.new.items ≡ out.old.items }
 {
-    for segment in segments {
-        push_segment(out, offsets, start, segment)?;
+    for some in segments.chunks(PARTS) {
+        push_some_segments(out, offsets, start, some)?;
     }
     Ok(())
+}
+
+/// Puts the lines of a few segments at the end of `out`.
+fn push_some_segments(
+    out: &mut Vec<u8>,
+    offsets: &mut Offsets,
+    start: u64,
+    segments: &[Segment],
+) -> Result<(), AllocError>
+    requires start { start ≤ 2 ^ 62 }
+    requires few { length segments.now ≤ 64 }
+    ensures lines { OnOk result (out.new.items ≡ out.old.items ++ flat_map (segment_line start) segments.now) }
+    ensures kept { OnErr result (out.new.items ≡ out.old.items) }
+{
+    let at = out.len();
+    out.extend_from_slice(&ROOM[..LINE * segments.len()])?;
+    let behind = place_segments(out.as_mut_slice(), at, offsets, start, segments);
+    out.truncate(behind);
+    Ok(())
+}
+
+/// Places the lines of some segments.
+fn place_segments(
+    buf: &mut [u8],
+    at: usize,
+    offsets: &mut Offsets,
+    start: u64,
+    segments: &[Segment],
+) -> usize
+    requires start { start ≤ 2 ^ 62 }
+    requires room { at + 64 * length segments.now ≤ length buf.old }
+    ensures { Placed buf.old buf.new at (flat_map (segment_line start) segments.now) result }
+{
+    let mut behind = at;
+    for segment in segments {
+        behind = place_segment(buf, behind, offsets, start, segment);
+    }
+    behind
 }
 
 fn push_words(
@@ -59,69 +122,62 @@ fn push_words(
     ensures lines { OnOk result (out.new.items ≡ out.old.items ++ flat_map (word_line start) pieces.now) }
     ensures kept { take (length out.old.items) out.new.items ≡ out.old.items }
 {
-    for piece in pieces {
-        push_word(out, offsets, start, piece)?;
+    for some in pieces.chunks(PARTS) {
+        push_some_words(out, offsets, start, some)?;
     }
     Ok(())
 }
 
-/// A piece that is no word has no line.
-#[inline(always)]
-fn push_word(
+/// Puts the lines of those of a few pieces that are words at the end of `out`.
+fn push_some_words(
     out: &mut Vec<u8>,
     offsets: &mut Offsets,
     start: u64,
-    piece: &Piece,
+    pieces: &[Piece],
 ) -> Result<(), AllocError>
-    requires { start ≤ 2 ^ 62 }
-    ensures line { OnOk result (out.new.items ≡ out.old.items ++ word_line start piece.now) }
+    requires start { start ≤ 2 ^ 62 }
+    requires few { length pieces.now ≤ 64 }
+    ensures lines { OnOk result (out.new.items ≡ out.old.items ++ flat_map (word_line start) pieces.now) }
     ensures kept { OnErr result (out.new.items ≡ out.old.items) }
+{
+    let at = out.len();
+    out.extend_from_slice(&ROOM[..LINE * pieces.len()])?;
+    let behind = place_words(out.as_mut_slice(), at, offsets, start, pieces);
+    out.truncate(behind);
+    Ok(())
+}
+
+/// Places the lines of those of some pieces that are words.
+fn place_words(
+    buf: &mut [u8],
+    at: usize,
+    offsets: &mut Offsets,
+    start: u64,
+    pieces: &[Piece],
+) -> usize
+    requires start { start ≤ 2 ^ 62 }
+    requires room { at + 64 * length pieces.now ≤ length buf.old }
+    ensures { Placed buf.old buf.new at (flat_map (word_line start) pieces.now) result }
+{
+    let mut behind = at;
+    for piece in pieces {
+        behind = place_word(buf, behind, offsets, start, piece);
+    }
+    behind
+}
+
+/// Places the line of a piece, if it is a word.
+#[inline(always)]
+fn place_word(line: &mut [u8], at: usize, offsets: &mut Offsets, start: u64, piece: &Piece) -> usize
+    requires { (start ≤ 2 ^ 62) × (at + 64 ≤ length line.old) }
+    ensures placed { Placed line.old line.new at (word_line start piece.now) result }
+    ensures short { result ≤ at + 64 }
 {
     if !piece.word {
-        return Ok(());
+        return at;
     }
     let from = start + u64::from(piece.start);
-    push_part(out, offsets, b'W', from, start + u64::from(piece.end))
-}
-
-/// Puts a line of a letter and two offsets at the end of `out`.
-#[inline(always)]
-fn push_part(
-    out: &mut Vec<u8>,
-    offsets: &mut Offsets,
-    letter: u8,
-    start: u64,
-    end: u64,
-) -> Result<(), AllocError>
-    requires { (start < 2 ^ 63) × (end < 2 ^ 63) }
-    ensures line { OnOk result (out.new.items ≡ out.old.items ++ (part (letter ∷ []) start end ++ 10 ∷ [])) }
-    ensures kept { OnErr result (out.new.items ≡ out.old.items) }
-{
-    let at = out.len();
-    out.extend_from_slice(&ROOM)?;
-    let line = out.as_mut_slice();
-    let next = place_part(line, at, offsets, letter, start, end);
-    let behind = place_byte(line, next, b'\n');
-    out.truncate(behind);
-    Ok(())
-}
-
-#[inline(always)]
-fn push_segment(
-    out: &mut Vec<u8>,
-    offsets: &mut Offsets,
-    start: u64,
-    segment: &Segment,
-) -> Result<(), AllocError>
-    requires { start ≤ 2 ^ 62 }
-    ensures line { OnOk result (out.new.items ≡ out.old.items ++ segment_line start segment.now) }
-    ensures kept { OnErr result (out.new.items ≡ out.old.items) }
-{
-    let at = out.len();
-    out.extend_from_slice(&ROOM)?;
-    let behind = place_segment(out.as_mut_slice(), at, offsets, start, segment);
-    out.truncate(behind);
-    Ok(())
+    place_line(line, at, offsets, b'W', from, start + u64::from(piece.end))
 }
 
 /// Places the line of a segment.
@@ -134,13 +190,32 @@ fn place_segment(
     segment: &Segment,
 ) -> usize
     requires { (start ≤ 2 ^ 62) × (at + 64 ≤ length line.old) }
-    ensures { Placed line.old line.new at (segment_line start segment.now) result }
+    ensures placed { Placed line.old line.new at (segment_line start segment.now) result }
+    ensures short { result ≤ at + 64 }
 {
     let from = start + u64::from(segment.start);
     let to = start + u64::from(segment.end);
     let next = place_part(line, at, offsets, b'S', from, to);
     let next = place_kind(line, next, segment.kind);
-    let next = place_few(line, next, segment.rule.label().as_bytes());
+    let end = line_end_of(segment.rule);
+    place_front(line, next, end.bytes, end.len)
+}
+
+/// Places a line of a letter and two offsets.
+#[inline(always)]
+fn place_line(
+    line: &mut [u8],
+    at: usize,
+    offsets: &mut Offsets,
+    letter: u8,
+    start: u64,
+    end: u64,
+) -> usize
+    requires { (start < 2 ^ 63) × (end < 2 ^ 63) × (at + 64 ≤ length line.old) }
+    ensures placed { Placed line.old line.new at (part (letter ∷ []) start end ++ 10 ∷ []) result }
+    ensures short { result ≤ at + 64 }
+{
+    let next = place_part(line, at, offsets, letter, start, end);
     place_byte(line, next, b'\n')
 }
 
@@ -176,4 +251,63 @@ pub(crate) fn place_kind(line: &mut [u8], at: usize, kind: Kind) -> usize
         Kind::May => place_front(line, at, *b" May    ", 5),
         Kind::Must => place_front(line, at, *b" Must   ", 6),
     }
+}
+
+/// The label of a rule and a line end.
+#[derive(Clone, Copy)]
+struct LineEnd {
+    bytes: [u8; 4],
+    len: usize,
+}
+
+/// Those of the rules, by their places.
+#[rattlefmt::skip]
+static LINE_ENDS: [LineEnd; 38] = [
+    LineEnd { bytes: *b"2\n  ", len: 2 },
+    LineEnd { bytes: *b"3\n  ", len: 2 },
+    LineEnd { bytes: *b"4\n  ", len: 2 },
+    LineEnd { bytes: *b"5\n  ", len: 2 },
+    LineEnd { bytes: *b"6\n  ", len: 2 },
+    LineEnd { bytes: *b"7\n  ", len: 2 },
+    LineEnd { bytes: *b"8\n  ", len: 2 },
+    LineEnd { bytes: *b"8a\n ", len: 3 },
+    LineEnd { bytes: *b"9\n  ", len: 2 },
+    LineEnd { bytes: *b"11\n ", len: 3 },
+    LineEnd { bytes: *b"12\n ", len: 3 },
+    LineEnd { bytes: *b"12a\n", len: 4 },
+    LineEnd { bytes: *b"13\n ", len: 3 },
+    LineEnd { bytes: *b"14\n ", len: 3 },
+    LineEnd { bytes: *b"15\n ", len: 3 },
+    LineEnd { bytes: *b"15a\n", len: 4 },
+    LineEnd { bytes: *b"15b\n", len: 4 },
+    LineEnd { bytes: *b"16\n ", len: 3 },
+    LineEnd { bytes: *b"17\n ", len: 3 },
+    LineEnd { bytes: *b"18\n ", len: 3 },
+    LineEnd { bytes: *b"19\n ", len: 3 },
+    LineEnd { bytes: *b"20\n ", len: 3 },
+    LineEnd { bytes: *b"21\n ", len: 3 },
+    LineEnd { bytes: *b"21a\n", len: 4 },
+    LineEnd { bytes: *b"21b\n", len: 4 },
+    LineEnd { bytes: *b"22\n ", len: 3 },
+    LineEnd { bytes: *b"23\n ", len: 3 },
+    LineEnd { bytes: *b"23a\n", len: 4 },
+    LineEnd { bytes: *b"24\n ", len: 3 },
+    LineEnd { bytes: *b"25\n ", len: 3 },
+    LineEnd { bytes: *b"26\n ", len: 3 },
+    LineEnd { bytes: *b"27\n ", len: 3 },
+    LineEnd { bytes: *b"28\n ", len: 3 },
+    LineEnd { bytes: *b"29\n ", len: 3 },
+    LineEnd { bytes: *b"30\n ", len: 3 },
+    LineEnd { bytes: *b"30a\n", len: 4 },
+    LineEnd { bytes: *b"30b\n", len: 4 },
+    LineEnd { bytes: *b"31\n ", len: 3 },
+];
+
+/// The end of the line of a segment that ends by this rule.
+#[inline(always)]
+fn line_end_of(rule: Rule) -> LineEnd
+    ensures text { take result.len result.bytes ≡ label_of rule ++ 10 ∷ [] }
+    ensures few { result.len ≤ 4 }
+{
+    LINE_ENDS[rule as usize]
 }

@@ -1,8 +1,14 @@
-use Rattle.std.proofs.Common.{◌≡◌, ◌++◌, take}
+use Rattle.std.proofs.Common.{◌≡◌, ◌++◌, length, take}
 use Rattle.std.specs.List.{flat_map}
+use Rattle.std.specs.Slice.Iter.{chunks_rest, chunks_size}
 use Rattle.lbk_cmd.specs.Segment.{segment_line}
 use Rattle.lbk_cmd.proofs.segmented.push_segments.Given as goal
 
--- the lines so far stand behind what was there
-abbrev pub invariant-loop-segment : goal.invariant-loop-segment
-invariant-loop-segment l = l.out.items ≡ l.initial.out.items ++ flat_map (segment_line l.start) (take l.segment-index l.segments)
+-- the lines of the segments that are left belong behind those so far
+abbrev pub invariant-loop-some : goal.invariant-loop-some
+invariant-loop-some l = record {
+  lines : l.out.items ++ flat_map (segment_line l.start) (chunks_rest l.some-iterator)
+      ≡ l.initial.out.items ++ flat_map (segment_line l.start) l.segments;
+  size : chunks_size l.some-iterator ≡ 64;
+  kept : take (length l.initial.out.items) l.out.items ≡ l.initial.out.items;
+}
