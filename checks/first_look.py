@@ -30,6 +30,9 @@ WORDS = [
     ["chunk", "--most", "64K"], ["chunk", "--most", "0"], ["chunk", "--words=0"], ["chunk", "--least", "-1"], ["chunk", "--overlap", "1e6"],
     ["chunk", *FILES, "--most", "4", "--least", "5"], ["chunk", *FILES, "--most", "5", "--overlap", "3"], ["chunk", "--most", "5"],
     ["chunk", *FILES, "--most", "5", "--most", "6"], ["mark", *FILES, "--most", "5"],
+    ["chunk", *FILES], ["show", "--least=9"], ["show", "--to", "x", "--bogus"], ["show", "--to=x", "--bogus"], ["mark", "--limit", "-h"],
+    ["segment", "--from", "--sign=|"], ["segment", "--from", "--names"], ["segment", "--from", "--help=1"], ["mark", "--limit", "--", "-1"],
+    ["mark", *FILES, "--bogus", "-1"], ["mark", *FILES, "--ucd", "u", "--ucd", "v", "--bogus"], ["--bogus", "-1"],
     ["mark", *FILES, "--sign", "|", "--sign", "+"], ["mark", *FILES, "--sign"], ["show", *FILES, "--name", "x"], ["replay", "--kind"],
 ]  # fmt: skip
 SECONDS = 1  # of processor time

@@ -117,7 +117,7 @@ def read(words):
     if first == "help":
         look_at_help(rest[:-1] if rest and rest[-1] in ("-h", "--help") else rest)
     if first.startswith("-"):
-        refuse_first_option(first)
+        refuse_first_option(first, rest)
     hint = f"\nTo mark a file: lbk mark --ucd FOLDER {one_line(first)}\n" if "." in first or "/" in first else ""
     refuse(f"unrecognized subcommand '{one_line(first)}'{tip('subcommand', first, [*TASKS, 'help'])}", hint=hint)
 
@@ -132,44 +132,60 @@ def look_at_help(names):
     refuse(f"unrecognized subcommand '{one_line(names[0])}'")
 
 
-def refuse_first_option(word):
+def refuse_first_option(word, rest):
     """A word before any subcommand that looks like an option, and is none."""
     is_long, name = word.startswith("--"), word[2:]
-    if is_long and (not name or "=" in name) or not is_long and len(word) != 2:
+    if any(it in TASKS for it in rest) or is_long and (not name or "=" in name) or not is_long and len(word) != 2:
         raise Unsure
     alike = most_alike(name, ["help", "version"]) if is_long else None
     said = f"unexpected argument '{one_line(word)}' found"
     if alike:
         raise Told(2, f"lbk: {said}\n\n  tip: a similar argument exists: '--{alike}'\n\nUsage: lbk --{alike} <COMMAND>\n{MORE}")
-    refuse(said, hint=DIGITS if word[1].isascii() and word[1].isdigit() else "")
+    refuse(said, hint=DIGITS if any(map(is_negative, (word, *rest))) else "")
 
 
 def read_task(task, words):
     options, flags, given, texts, rest = options_of(task), flags_of(task), {}, [], list(words)
+    hint = digits_of(task) if any(map(is_negative, words)) else ""
+    # An option whose value is a word of its own, at which the program looks behind the next word.
+    pending = []
     while rest:
         word = rest.pop(0)
         name, is_joined, value = word[2:].partition("=")
+        is_option = word.startswith("--") and name in options
+        is_flag = word.startswith("--") and name in flags and not is_joined
+        is_text = word == "-" or not word.startswith("-")
+        if not (is_option or is_flag or is_text or word in ("--", "-h", "--help")):
+            refuse_option(task, word, name, is_joined, hint)
+        settle(task, given, pending)
         if word == "--":
             texts += rest
             break
-        if word == "-" or not word.startswith("-"):
+        if is_text:
             texts.append(word)
         elif word in ("-h", "--help"):
             help_of(task)
-        elif word.startswith("--") and name in flags and not is_joined:
+        elif is_flag:
             add(given, task, name, word, "")
-        elif word.startswith("--") and name in options:
+        else:
             shown = f"--{name} <{options[name]}>"
             if not is_joined:
                 if not rest or rest[0].startswith("-") and rest[0] != "-":
-                    take_no_value(task, shown, rest)
+                    take_no_value(task, shown, rest, hint)
                 value = rest.pop(0)
-            add(given, task, name, shown, value)
-            look_at_number(task, name, shown, value)
-        else:
-            refuse_option(task, word, name, is_joined)
+            pending.append((name, shown, value))
+            if is_joined:
+                settle(task, given, pending)
+    settle(task, given, pending)
     look_at_whole(task, given)
     return Order(task, given, texts)
+
+
+def settle(task, given, pending):
+    while pending:
+        name, shown, value = pending.pop()
+        add(given, task, name, shown, value)
+        look_at_number(task, name, shown, value)
 
 
 def add(given, task, name, shown, value):
@@ -178,25 +194,31 @@ def add(given, task, name, shown, value):
     given[name] = value
 
 
-def take_no_value(task, shown, rest):
+def take_no_value(task, shown, rest, hint):
     """An option stands last, or before a word that looks like another option."""
-    if not rest or rest[0].startswith("--"):
-        raise Told(2, f"lbk: a value is required for '{shown}' but none was supplied\n{MORE}")
-    refuse_option(task, rest[0], "", False)
+    word = rest[0] if rest else "--"
+    name, is_joined, _ = word[2:].partition("=")
+    is_known = word.startswith("--") and (name in options_of(task) or not is_joined and name in ["", "help", *flags_of(task)])
+    if not is_known and word != "-h":
+        refuse_option(task, word, name, is_joined, hint)
+    raise Told(2, f"lbk: a value is required for '{shown}' but none was supplied\n{MORE}{hint}")
 
 
-def refuse_option(task, word, name, is_joined):
-    if is_joined and word.startswith("--") and name in flags_of(task):
+def refuse_option(task, word, name, is_joined, hint):
+    is_long = word.startswith("--")
+    if is_long and is_joined and name in ("help", *flags_of(task)):
         refuse(f"unexpected value '{one_line(word.partition('=')[2])}' for '--{name}' found; no more were expected", task)
-    if is_joined or not word.startswith("--") and len(word) > 2:
+    if is_joined and not (is_long and name) or not is_long and len(word) > 2:
         raise Unsure
-    shown = one_line(word)
-    known = [*options_of(task), *flags_of(task), "help"]
-    alike = most_alike(name, known) if word.startswith("--") else None
-    if alike:
-        refuse(f"unexpected argument '{shown}' found\n\n  tip: a similar argument exists: '--{alike}'", task)
-    hint = digits_of(task) if word[1:2].isascii() and word[1:2].isdigit() else ""
-    refuse(f"unexpected argument '{shown}' found\n\n  tip: to pass '{shown}' as a value, use '-- {shown}'", task, hint=hint)
+    shown = one_line(f"--{name}" if is_long else word)
+    alike = most_alike(name, [*options_of(task), *flags_of(task), "help"]) if is_long else None
+    told = f"a similar argument exists: '--{alike}'" if alike else f"to pass '{shown}' as a value, use '-- {shown}'"
+    refuse(f"unexpected argument '{shown}' found\n\n  tip: {told}", task, hint=hint)
+
+
+def is_negative(word):
+    """Whether a word is a hyphen with a digit after it."""
+    return word[:1] == "-" and word[1:2].isascii() and word[1:2].isdigit()
 
 
 def look_at_number(task, name, shown, value):
@@ -219,7 +241,7 @@ def look_at_number(task, name, shown, value):
 
 def look_at_whole(task, given):
     if task == "chunk" and "most" not in given:
-        raise Unsure
+        refuse("the following required arguments were not provided:\n  --most <NUMBER>", task)
     if not given.get("ucd") and not all(it in given for it in FILES):
         refuse(UNNAMED, task)
     if int(given.get("from", 0)) > int(given.get("to", 2**32 - 1)):
