@@ -1,7 +1,8 @@
-"""The lines of `lbk chunk` and the chunks of the definition, over random texts, sizes and ranges, for worked_rows.
+"""The lines and objects of `lbk chunk` and the chunks of the definition, over random texts, sizes and ranges, for worked_rows.
 
 The cuts of a text are taken from the lines of `lbk segment`; what a chunk is, is said here once more, slowly."""
 
+import json
 import random
 import socket
 import subprocess
@@ -12,7 +13,7 @@ from checks.files_and_pipes.place import words_of
 from checks.program import run as run_program
 
 TEXTS = 500
-PARTS = ["a", "bc", "def ", " ", "  ", ",", "- ", "\n", "\n\n", "\r\n", "(", "12", "é", "カ", "タ", "（", "กั", "🀀🏻", "\u2028", "-1)"]
+PARTS = ["\"", "\\", "\0", "\x7f", "\x1f ", "\t", "a", "bc", "def ", " ", "  ", ",", "- ", "\n", "\n\n", "\r\n", "(", "12", "é", "カ", "タ", "（", "กั", "🀀🏻", "\u2028", "-1)"]
 
 
 class Cut(NamedTuple):
@@ -65,6 +66,11 @@ def random_sizes(rng):
     return Sizes(most, rng.choice([0, 0, 1, 2, 4]), rng.randint(0, most), rng.randint(0, most // 2))
 
 
+def objects(lines):
+    """What the lines hold, each a text of JSON."""
+    return [json.loads(it) for it in lines.decode().split("\n")[:-1]]
+
+
 def in_packets(place, words, text, rng):
     """What the program writes of a text that comes in pieces of these many bytes."""
     ours, theirs = socket.socketpair(socket.AF_UNIX, socket.SOCK_SEQPACKET)
@@ -90,6 +96,9 @@ def chunk_lines(place):
         what = f"chunk {' '.join(words[9:])}: {text!r}"
         place.row(what, words, text, 0, wanted(found))
         place.tally.equal(f"{what} in pieces", in_packets(place, words, text, rng), wanted(found))
+        told = [{"start": it[0], "end": it[1], "words": it[2], "text": text[it[0] : it[1]].decode()} for it in found]
+        place.tally.equal(f"{what} --text", objects(run_program([place.program, *words, "--text"], text, cwd=place.folder).out), told)
+        place.tally.equal(f"{what} --text in pieces", objects(in_packets(place, [*words, "--text"], text, rng)), told)
         middle = rng.randint(0, len(text))
         for part, its in (("--to", [it for it in found if it[0] < middle]), ("--from", [it for it in found if it[0] >= middle])):
             place.row(f"{what} {part} {middle}", [*words, part, str(middle)], text, 0, wanted(its))

@@ -10,7 +10,7 @@ _lbk() {
     mark) options="--ucd --line-break --east-asian --category --emoji --limit --from --to --profile --names --sign --help" ;;
     show) options="--ucd --line-break --east-asian --category --emoji --limit --from --to --profile --names --help" ;;
     segment) options="--ucd --line-break --east-asian --category --emoji --limit --from --to --profile --names --help" ;;
-    chunk) options="--ucd --line-break --east-asian --category --emoji --most --words --least --overlap --limit --from --to --profile --names --help" ;;
+    chunk) options="--ucd --line-break --east-asian --category --emoji --most --words --least --overlap --text --limit --from --to --profile --names --help" ;;
     replay) options="--ucd --line-break --east-asian --category --emoji --kinds --profile --names --help" ;;
     help)
         mapfile -t COMPREPLY < <(compgen -W "mark show segment chunk replay" -- "$word")

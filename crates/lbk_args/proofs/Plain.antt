@@ -1,5 +1,5 @@
 -- Plain words are accepted, and ask for what they say.
-use Rattle.std.proofs.Common.{◌≡◌, ◌∙◌, ℕ, Bool, true, false, List, [], ◌∷◌, ◌++◌, Option, Some, None, inl, inr, refl, sym, ap, ap₂, subst, codes, arith}
+use Rattle.std.proofs.Common.{◌≡◌, ◌≤◌, ◌∙◌, ℕ, Bool, true, false, List, [], ◌∷◌, ◌++◌, Option, Some, None, inl, inr, refl, sym, ap, ap₂, subst, codes, arith}
 use Rattle.std.proofs.lemmas.Bool.{le-leb}
 use Rattle.std.specs.Prelude.{◌==◌, ◌/◌, ◌⊎◌, if◌then◌else◌, option_and_then, option_map}
 use Rattle.std.specs.Fmt.{decimal}
@@ -20,8 +20,8 @@ use Rattle.lbk_args.specs.declared.order.Part.{Part}
 use Rattle.lbk_args.specs.declared.order.Sizes.{Sizes}
 use Rattle.lbk_args.specs.Accepted.{are_sizes, faults_of, task_fault}
 use Rattle.lbk_feed.specs.Text.{greatest_limit}
-use Rattle.lbk_args.specs.Command.{chunk_app, default_limit, default_limit_text, flag_rule, lbk_app, limited_app, mark_app, number_rule, profile_rule, replay_app, size_rule, value_rule}
-use Rattle.lbk_args.specs.PlainWords.{AreEngineWords, AreFolderWords, AreFourWords, AreKindsWords, AreLimitWords, AreMostWords, AreProfileWords, IsPlainFor, IsPlainName, folder_files, given_files, name_of_engine, profile_word, sizes_of}
+use Rattle.lbk_args.specs.Command.{chunk_app, default_limit, default_limit_text, flag_rule, lbk_app, limited_app, mark_app, number_rule, profile_rule, replay_app, size_rule, texts_flag_rule, value_rule}
+use Rattle.lbk_args.specs.PlainWords.{AreEngineWords, AreFlagWords, AreFolderWords, AreFourWords, AreKindsWords, AreLimitWords, AreProfileWords, IsPlainFor, IsPlainName, folder_files, given_files, name_of_engine, profile_word, sizes_of}
 use Rattle.lbk_args.specs.Task.{NamedFiles, Task, files_in, limit_in, number_or, names_in, part_in, profile_in, sign_in, task_by, task_in, texts_in}
 use Rattle.lbk_args.specs.Sign.{default_sign}
 use Rattle.lbk_args.proofs.Numerals.{limit_plain, limit_read, limit_taken}
@@ -205,6 +205,9 @@ limit_rule = built_rule (number_rule (codes "limit") greatest_limit default_limi
 abbrev most_rule : Rule
 most_rule = built_rule (record (size_rule (codes "most") 1) { required = true })
 
+abbrev built_texts_rule : Rule
+built_texts_rule = built_rule texts_flag_rule
+
 abbrev built_profile_rule : Rule
 built_profile_rule = built_rule profile_rule
 
@@ -236,7 +239,7 @@ profile_read Second = refl
 abbrev settled_held : List Row → Held
 settled_held rows = record { rows = rows; pending = None; skip = 0 }
 
--- what is held behind `--limit`, `--most`, `--profile` and `--kinds`
+-- what is held behind `--limit`, `--most`, `--text`, `--profile` and `--kinds`
 abbrev behind_limit : Files → Text → Held
 behind_limit fs d = pending (file_rows fs) (codes "limit") (d ∷ [])
 
@@ -245,6 +248,9 @@ behind_most fs d = pending (file_rows fs) (codes "most") (d ∷ [])
 
 abbrev most_rows : Files → Text → List Row
 most_rows fs d = file_rows fs ++ found most_rule d ∷ []
+
+abbrev text_rows : Files → Text → List Row
+text_rows fs d = file_rows fs ++ found most_rule d ∷ found built_texts_rule (codes "true") ∷ []
 
 abbrev behind_profile : List Row → Text → Held
 behind_profile rows p = pending rows (codes "profile") (p ∷ [])
@@ -403,6 +409,51 @@ chunk_both (four l e c m) d p plain pd good pp fits =
     d _ _ refl refl pd refl
     (pair s (behind_most (four l e c m) d) (pending (most_rows (four l e c m) d) (codes "profile") []) (behind_profile (most_rows (four l e c m) d) p) (codes "profile") (codes "--profile")
     p [] _ refl (ap (λ (ks : Kinds). or_else (or_else ks []) []) good) pp refl (done s _)))) (ap (λ (ks : Kinds). or_else ks []) fits) refl refl
+
+chunk_text : (fs : Files) (d : Text) → ArePlain fs → IsPlainName d → IsLimitText d
+    → Takes chunk_shape (words_before fs (codes "--most" ∷ d ∷ codes "--text" ∷ [])) (finished chunk_shape.rules (settled_held (text_rows fs d)))
+unfolding clap_on_literals
+chunk_text (folder u) d plain pd good =
+    let s = chunk_shape in
+    taken s (words_before (folder u) (codes "--most" ∷ d ∷ codes "--text" ∷ [])) (between (settled_held (text_rows (folder u) d)) idle)
+    (walked_files s _ (folder u) _ _ plain
+    (pair s (behind (folder u)) (pending (file_rows (folder u)) (codes "most") []) (behind_most (folder u) d) (codes "most") (codes "--most")
+    d _ _ refl refl pd refl
+    (step s (between (behind_most (folder u) d) idle) (between (settled_held (text_rows (folder u) d)) idle) _ (codes "--text") [] refl
+    (ap (λ (ks : Kinds). or_else (or_else (or_else ks []) []) []) good) (done s _)))) refl refl refl
+chunk_text (four l e c m) d plain pd good =
+    let s = chunk_shape in
+    taken s (words_before (four l e c m) (codes "--most" ∷ d ∷ codes "--text" ∷ [])) (between (settled_held (text_rows (four l e c m) d)) idle)
+    (walked_files s _ (four l e c m) _ _ plain
+    (pair s (behind (four l e c m)) (pending (file_rows (four l e c m)) (codes "most") []) (behind_most (four l e c m) d) (codes "most") (codes "--most")
+    d _ _ refl refl pd refl
+    (step s (between (behind_most (four l e c m) d) idle) (between (settled_held (text_rows (four l e c m) d)) idle) _ (codes "--text") [] refl
+    (ap (λ (ks : Kinds). or_else (or_else (or_else ks []) []) []) good) (done s _)))) refl refl refl
+
+chunk_text_both : (fs : Files) (d p : Text) → ArePlain fs → IsPlainName d → IsLimitText d → IsPlainName p → IsProfileText p
+    → Takes chunk_shape (words_before fs (codes "--most" ∷ d ∷ codes "--text" ∷ codes "--profile" ∷ p ∷ []))
+    (finished chunk_shape.rules (behind_profile (text_rows fs d) p))
+unfolding clap_on_literals
+chunk_text_both (folder u) d p plain pd good pp fits =
+    let s = chunk_shape in
+    taken s (words_before (folder u) (codes "--most" ∷ d ∷ codes "--text" ∷ codes "--profile" ∷ p ∷ [])) (between (behind_profile (text_rows (folder u) d) p) idle)
+    (walked_files s _ (folder u) _ _ plain
+    (pair s (behind (folder u)) (pending (file_rows (folder u)) (codes "most") []) (behind_most (folder u) d) (codes "most") (codes "--most")
+    d _ _ refl refl pd refl
+    (step s (between (behind_most (folder u) d) idle) (between (settled_held (text_rows (folder u) d)) idle) _ (codes "--text") _ refl
+    (ap (λ (ks : Kinds). or_else (or_else (or_else ks []) []) []) good)
+    (pair s (settled_held (text_rows (folder u) d)) (pending (text_rows (folder u) d) (codes "profile") []) (behind_profile (text_rows (folder u) d) p) (codes "profile") (codes "--profile")
+    p [] _ refl refl pp refl (done s _))))) (ap (λ (ks : Kinds). or_else ks []) fits) refl refl
+chunk_text_both (four l e c m) d p plain pd good pp fits =
+    let s = chunk_shape in
+    taken s (words_before (four l e c m) (codes "--most" ∷ d ∷ codes "--text" ∷ codes "--profile" ∷ p ∷ [])) (between (behind_profile (text_rows (four l e c m) d) p) idle)
+    (walked_files s _ (four l e c m) _ _ plain
+    (pair s (behind (four l e c m)) (pending (file_rows (four l e c m)) (codes "most") []) (behind_most (four l e c m) d) (codes "most") (codes "--most")
+    d _ _ refl refl pd refl
+    (step s (between (behind_most (four l e c m) d) idle) (between (settled_held (text_rows (four l e c m) d)) idle) _ (codes "--text") _ refl
+    (ap (λ (ks : Kinds). or_else (or_else (or_else ks []) []) []) good)
+    (pair s (settled_held (text_rows (four l e c m) d)) (pending (text_rows (four l e c m) d) (codes "profile") []) (behind_profile (text_rows (four l e c m) d) p) (codes "profile") (codes "--profile")
+    p [] _ refl refl pp refl (done s _))))) (ap (λ (ks : Kinds). or_else ks []) fits) refl refl
 
 -- ---- `replay`
 
@@ -594,35 +645,59 @@ replay_plain (four l e c m) kinds profile own last plain (inr flag) (inr given) 
     (ap (λ (p : Profile). Some (task_with (Replay true) (four l e c m) p)) (profile_read profile)) (nothing_wrong (Replay true) (four l e c m) profile refl))
 
 -- chunks with room for half of their bytes
-sizes_fit : (limit most : ℕ) → are_sizes (Chunk limit (sizes_of most)) ≡ true
-sizes_fit limit most = rw (le-leb (most / 2) most (omega arith), le-leb 0 (most / 2) (omega arith)) refl
+sizes_fit : (limit most : ℕ) (texts : Bool) → are_sizes (Chunk limit (sizes_of most) texts) ≡ true
+sizes_fit limit most texts = rw (le-leb (most / 2) most (omega arith), le-leb 0 (most / 2) (omega arith)) refl
 
-chunk_plain : (fs : Files) (limit : ℕ) (sizes : Sizes) (profile : Profile) (own last : List Text) → ArePlain fs → AreMostWords limit sizes own
-    → AreProfileWords profile last → Performs (codes "chunk" ∷ words_before fs (own ++ last)) (task_with (Chunk limit sizes) fs profile)
+chunk_plain : (fs : Files) (limit : ℕ) (sizes : Sizes) (texts : Bool) (profile : Profile) (most : ℕ) (own text_words last : List Text) → ArePlain fs
+    → 1 ≤ most → most ≤ greatest_limit → own ≡ codes "--most" ∷ decimal most ∷ text_words → limit ≡ default_limit → sizes ≡ sizes_of most
+    → AreFlagWords (codes "--text") texts text_words → AreProfileWords profile last
+    → Performs (codes "chunk" ∷ words_before fs (own ++ last)) (task_with (Chunk limit sizes texts) fs profile)
 unfolding clap_on_literals
-chunk_plain (folder []) limit sizes profile own last plain given more = absurd plain
-chunk_plain (folder (u ∷ us)) limit sizes profile own last plain given (inl first) =
-    rw (given.are, first.0, given.limit_is, given.sizes_are, first.1)
-    (chunk_performs _ _ _ (chunk_most (folder (u ∷ us)) (decimal given.most) plain (limit_plain given.most given.few) (limit_taken given.most given.some given.few))
-    (ap (λ (n : ℕ). Some (task_with (Chunk default_limit (sizes_of n)) (folder (u ∷ us)) First)) (sym (limit_read 1 given.most given.few)))
-    (nothing_wrong (Chunk default_limit (sizes_of given.most)) (folder (u ∷ us)) First (sizes_fit default_limit given.most)))
-chunk_plain (folder (u ∷ us)) limit sizes profile own last plain given (inr second) =
-    rw (given.are, second, given.limit_is, given.sizes_are)
-    (chunk_performs _ _ _ (chunk_both (folder (u ∷ us)) (decimal given.most) (profile_word profile) plain (limit_plain given.most given.few)
-    (limit_taken given.most given.some given.few) (profile_plain profile) (profile_taken profile))
-    (ap₂ (λ (n : ℕ) (p : Profile). Some (task_with (Chunk default_limit (sizes_of n)) (folder (u ∷ us)) p)) (sym (limit_read 1 given.most given.few)) (profile_read profile))
-    (nothing_wrong (Chunk default_limit (sizes_of given.most)) (folder (u ∷ us)) profile (sizes_fit default_limit given.most)))
-chunk_plain (four l e c m) limit sizes profile own last plain given (inl first) =
-    rw (given.are, first.0, given.limit_is, given.sizes_are, first.1)
-    (chunk_performs _ _ _ (chunk_most (four l e c m) (decimal given.most) plain (limit_plain given.most given.few) (limit_taken given.most given.some given.few))
-    (ap (λ (n : ℕ). Some (task_with (Chunk default_limit (sizes_of n)) (four l e c m) First)) (sym (limit_read 1 given.most given.few)))
-    (nothing_wrong (Chunk default_limit (sizes_of given.most)) (four l e c m) First (sizes_fit default_limit given.most)))
-chunk_plain (four l e c m) limit sizes profile own last plain given (inr second) =
-    rw (given.are, second, given.limit_is, given.sizes_are)
-    (chunk_performs _ _ _ (chunk_both (four l e c m) (decimal given.most) (profile_word profile) plain (limit_plain given.most given.few)
-    (limit_taken given.most given.some given.few) (profile_plain profile) (profile_taken profile))
-    (ap₂ (λ (n : ℕ) (p : Profile). Some (task_with (Chunk default_limit (sizes_of n)) (four l e c m) p)) (sym (limit_read 1 given.most given.few)) (profile_read profile))
-    (nothing_wrong (Chunk default_limit (sizes_of given.most)) (four l e c m) profile (sizes_fit default_limit given.most)))
+chunk_plain (folder []) limit sizes texts profile most own text_words last plain some few words limit_is sizes_are given more = absurd plain
+chunk_plain (folder (u ∷ us)) limit sizes texts profile most own text_words last plain some few words limit_is sizes_are (inl none) (inl first) =
+    rw (words, none.0, first.0, limit_is, sizes_are, none.1, first.1)
+    (chunk_performs _ _ _ (chunk_most (folder (u ∷ us)) (decimal most) plain (limit_plain most few) (limit_taken most some few))
+    (ap (λ (n : ℕ). Some (task_with (Chunk default_limit (sizes_of n) false) (folder (u ∷ us)) First)) (sym (limit_read 1 most few)))
+    (nothing_wrong (Chunk default_limit (sizes_of most) false) (folder (u ∷ us)) First (sizes_fit default_limit most false)))
+chunk_plain (folder (u ∷ us)) limit sizes texts profile most own text_words last plain some few words limit_is sizes_are (inl none) (inr second) =
+    rw (words, none.0, second, limit_is, sizes_are, none.1)
+    (chunk_performs _ _ _ (chunk_both (folder (u ∷ us)) (decimal most) (profile_word profile) plain (limit_plain most few)
+    (limit_taken most some few) (profile_plain profile) (profile_taken profile))
+    (ap₂ (λ (n : ℕ) (p : Profile). Some (task_with (Chunk default_limit (sizes_of n) false) (folder (u ∷ us)) p)) (sym (limit_read 1 most few)) (profile_read profile))
+    (nothing_wrong (Chunk default_limit (sizes_of most) false) (folder (u ∷ us)) profile (sizes_fit default_limit most false)))
+chunk_plain (folder (u ∷ us)) limit sizes texts profile most own text_words last plain some few words limit_is sizes_are (inr flag) (inl first) =
+    rw (words, flag.0, first.0, limit_is, sizes_are, flag.1, first.1)
+    (chunk_performs _ _ _ (chunk_text (folder (u ∷ us)) (decimal most) plain (limit_plain most few) (limit_taken most some few))
+    (ap (λ (n : ℕ). Some (task_with (Chunk default_limit (sizes_of n) true) (folder (u ∷ us)) First)) (sym (limit_read 1 most few)))
+    (nothing_wrong (Chunk default_limit (sizes_of most) true) (folder (u ∷ us)) First (sizes_fit default_limit most true)))
+chunk_plain (folder (u ∷ us)) limit sizes texts profile most own text_words last plain some few words limit_is sizes_are (inr flag) (inr second) =
+    rw (words, flag.0, second, limit_is, sizes_are, flag.1)
+    (chunk_performs _ _ _ (chunk_text_both (folder (u ∷ us)) (decimal most) (profile_word profile) plain (limit_plain most few)
+    (limit_taken most some few) (profile_plain profile) (profile_taken profile))
+    (ap₂ (λ (n : ℕ) (p : Profile). Some (task_with (Chunk default_limit (sizes_of n) true) (folder (u ∷ us)) p)) (sym (limit_read 1 most few)) (profile_read profile))
+    (nothing_wrong (Chunk default_limit (sizes_of most) true) (folder (u ∷ us)) profile (sizes_fit default_limit most true)))
+chunk_plain (four l e c m) limit sizes texts profile most own text_words last plain some few words limit_is sizes_are (inl none) (inl first) =
+    rw (words, none.0, first.0, limit_is, sizes_are, none.1, first.1)
+    (chunk_performs _ _ _ (chunk_most (four l e c m) (decimal most) plain (limit_plain most few) (limit_taken most some few))
+    (ap (λ (n : ℕ). Some (task_with (Chunk default_limit (sizes_of n) false) (four l e c m) First)) (sym (limit_read 1 most few)))
+    (nothing_wrong (Chunk default_limit (sizes_of most) false) (four l e c m) First (sizes_fit default_limit most false)))
+chunk_plain (four l e c m) limit sizes texts profile most own text_words last plain some few words limit_is sizes_are (inl none) (inr second) =
+    rw (words, none.0, second, limit_is, sizes_are, none.1)
+    (chunk_performs _ _ _ (chunk_both (four l e c m) (decimal most) (profile_word profile) plain (limit_plain most few)
+    (limit_taken most some few) (profile_plain profile) (profile_taken profile))
+    (ap₂ (λ (n : ℕ) (p : Profile). Some (task_with (Chunk default_limit (sizes_of n) false) (four l e c m) p)) (sym (limit_read 1 most few)) (profile_read profile))
+    (nothing_wrong (Chunk default_limit (sizes_of most) false) (four l e c m) profile (sizes_fit default_limit most false)))
+chunk_plain (four l e c m) limit sizes texts profile most own text_words last plain some few words limit_is sizes_are (inr flag) (inl first) =
+    rw (words, flag.0, first.0, limit_is, sizes_are, flag.1, first.1)
+    (chunk_performs _ _ _ (chunk_text (four l e c m) (decimal most) plain (limit_plain most few) (limit_taken most some few))
+    (ap (λ (n : ℕ). Some (task_with (Chunk default_limit (sizes_of n) true) (four l e c m) First)) (sym (limit_read 1 most few)))
+    (nothing_wrong (Chunk default_limit (sizes_of most) true) (four l e c m) First (sizes_fit default_limit most true)))
+chunk_plain (four l e c m) limit sizes texts profile most own text_words last plain some few words limit_is sizes_are (inr flag) (inr second) =
+    rw (words, flag.0, second, limit_is, sizes_are, flag.1)
+    (chunk_performs _ _ _ (chunk_text_both (four l e c m) (decimal most) (profile_word profile) plain (limit_plain most few)
+    (limit_taken most some few) (profile_plain profile) (profile_taken profile))
+    (ap₂ (λ (n : ℕ) (p : Profile). Some (task_with (Chunk default_limit (sizes_of n) true) (four l e c m) p)) (sym (limit_read 1 most few)) (profile_read profile))
+    (nothing_wrong (Chunk default_limit (sizes_of most) true) (four l e c m) profile (sizes_fit default_limit most true)))
 
 engine_plain : (fs : Files) (engine : Engine) (profile : Profile) (own last : List Text) → ArePlain fs → AreEngineWords engine own
     → AreProfileWords profile last → Performs (name_of_engine engine ∷ words_before fs (own ++ last)) (task_with engine fs profile)
@@ -635,7 +710,8 @@ engine_plain fs (Show limit) profile own last plain given more =
 engine_plain fs (Segment limit) profile own last plain given more =
     let f = limited_plain (limits (codes "segment")) fs limit profile own last plain given more in
     segment_performs (words_before fs (own ++ last)) f.rows (task_with (Segment limit) fs profile) f.takes (f.asks Segment) (nothing_wrong (Segment limit) fs profile refl)
-engine_plain fs (Chunk limit sizes) profile own last plain given more = chunk_plain fs limit sizes profile own last plain given more
+engine_plain fs (Chunk limit sizes texts) profile own last plain given more =
+    chunk_plain fs limit sizes texts profile given.most own given.text_words last plain given.some given.few given.are given.limit_is given.sizes_are given.texts_are more
 engine_plain fs (Replay kinds) profile own last plain given more = replay_plain fs kinds profile own last plain given more
 
 -- the words of the files are those of a folder or of four names

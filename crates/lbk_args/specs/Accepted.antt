@@ -17,7 +17,7 @@ is_range (Some part) = not (nat_lt part.to part.from)
 
 -- a chunk has room for its least new bytes, and half of it for what it repeats
 abbrev pub are_sizes : Engine → Bool
-are_sizes (Chunk limit sizes) = nat_le sizes.least sizes.most && nat_le sizes.overlap (sizes.most / 2)
+are_sizes (Chunk limit sizes texts) = nat_le sizes.least sizes.most && nat_le sizes.overlap (sizes.most / 2)
 are_sizes _ = true
 
 -- words that `clap` takes ask for no task where a property file is not named, and for one that is refused where a

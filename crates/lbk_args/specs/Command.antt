@@ -43,6 +43,10 @@ size_rule name least = record (value_rule name) { parser = Some (Unsigned least 
 abbrev pub flag_rule : Text → Rule
 flag_rule name = record (long_rule name) { action = Some SetTrue }
 
+-- the flag of texts, whose long name is that of the operands
+abbrev pub texts_flag_rule : Rule
+texts_flag_rule = record (new_rule (codes "texts")) { long = Some (codes "text"); action = Some SetTrue }
+
 -- the operands, which name the texts
 abbrev pub texts_rule : Rule
 texts_rule = record (new_rule (codes "text")) { action = Some Append; value_names = 1 }
@@ -80,13 +84,13 @@ limited_app name = ranged_app (files_app name)
 abbrev pub mark_app : App
 mark_app = with_rule (limited_app (codes "mark")) (value_rule (codes "sign"))
 
--- `chunk`, whose sizes stand before the limit; the greatest one has to be given
+-- `chunk`, whose sizes and flag stand before the limit; the greatest size has to be given
 abbrev pub most_app : App
 most_app = with_rule (files_app (codes "chunk")) (record (size_rule (codes "most") 1) { required = true })
 
 abbrev pub sized_app : App
-sized_app = with_rule (with_rule (with_rule most_app
-    (size_rule (codes "words") 1)) (size_rule (codes "least") 0)) (size_rule (codes "overlap") 0)
+sized_app = with_rule (with_rule (with_rule (with_rule most_app
+    (size_rule (codes "words") 1)) (size_rule (codes "least") 0)) (size_rule (codes "overlap") 0)) texts_flag_rule
 
 abbrev pub chunk_app : App
 chunk_app = ranged_app sized_app

@@ -26,25 +26,31 @@ AreLimitWords limit words = ((words ≡ []) × (limit ≡ default_limit))
 abbrev pub sizes_of : ℕ → Sizes
 sizes_of most = record { most = most; words = 0; least = most / 2; overlap = 0 }
 
--- `--most` and a number of its range without leading zeros
-pub record AreMostWords (limit : ℕ) (sizes : Sizes) (words : List Text) : Type 0 where
+-- nothing, or the word of a flag
+abbrev pub AreFlagWords : Text → Bool → List Text → Type 0
+AreFlagWords flag is_given words = ((words ≡ []) × (is_given ≡ false)) ⊎ ((words ≡ flag ∷ []) × (is_given ≡ true))
+
+-- `--most` and a number of its range without leading zeros, and `--text` where the texts are asked for
+pub record AreChunkWords (limit : ℕ) (sizes : Sizes) (texts : Bool) (words : List Text) : Type 0 where
   pub most : ℕ
   pub some : 1 ≤ most
   pub few : most ≤ greatest_limit
-  pub are : words ≡ codes "--most" ∷ decimal most ∷ []
+  pub text_words : List Text
+  pub are : words ≡ codes "--most" ∷ decimal most ∷ text_words
+  pub texts_are : AreFlagWords (codes "--text") texts text_words
   pub limit_is : limit ≡ default_limit
   pub sizes_are : sizes ≡ sizes_of most
 
 -- nothing, or `--kinds`
 abbrev pub AreKindsWords : Bool → List Text → Type 0
-AreKindsWords kinds words = ((words ≡ []) × (kinds ≡ false)) ⊎ ((words ≡ codes "--kinds" ∷ []) × (kinds ≡ true))
+AreKindsWords kinds words = AreFlagWords (codes "--kinds") kinds words
 
 -- the words of the option that an engine alone has
 abbrev pub AreEngineWords : Engine → List Text → Type 0
 AreEngineWords (Mark limit) words = AreLimitWords limit words
 AreEngineWords (Show limit) words = AreLimitWords limit words
 AreEngineWords (Segment limit) words = AreLimitWords limit words
-AreEngineWords (Chunk limit sizes) words = AreMostWords limit sizes words
+AreEngineWords (Chunk limit sizes texts) words = AreChunkWords limit sizes texts words
 AreEngineWords (Replay kinds) words = AreKindsWords kinds words
 
 abbrev pub profile_word : Profile → Text
@@ -60,7 +66,7 @@ abbrev pub name_of_engine : Engine → Text
 name_of_engine (Mark limit) = codes "mark"
 name_of_engine (Show limit) = codes "show"
 name_of_engine (Segment limit) = codes "segment"
-name_of_engine (Chunk limit sizes) = codes "chunk"
+name_of_engine (Chunk limit sizes texts) = codes "chunk"
 name_of_engine (Replay kinds) = codes "replay"
 
 -- all four files in a folder

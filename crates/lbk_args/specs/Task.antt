@@ -150,12 +150,15 @@ sizes_by most rows = record {
 abbrev pub sizes_in : List Row → Sizes
 sizes_in rows = sizes_by (number_or 1 (one_of (codes "most") rows)) rows
 
+abbrev pub with_texts_in : List Row → Bool
+with_texts_in rows = flag_in (codes "texts") rows
+
 abbrev pub engine_in : Text → List Row → Engine
 engine_in name rows =
     if bytes_eq name (codes "mark") then Mark (limit_in rows)
     else if bytes_eq name (codes "show") then Show (limit_in rows)
     else if bytes_eq name (codes "segment") then Segment (limit_in rows)
-    else if bytes_eq name (codes "chunk") then Chunk (limit_in rows) (sizes_in rows)
+    else if bytes_eq name (codes "chunk") then Chunk (limit_in rows) (sizes_in rows) (with_texts_in rows)
     else Replay (kinds_in rows)
 
 -- the task of a subcommand, by the rows of its options, where its files are named

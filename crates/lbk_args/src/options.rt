@@ -5,7 +5,8 @@ ghost use Rattle.clap.specs.Words.{App, Rule, app_of, rule_of, with_rule, with_s
 ghost use Rattle.lbk_feed.specs.Text.{greatest_limit};
 ghost use Rattle.lbk_args.specs.Local.{IsLocal, IsMade};
 ghost use Rattle.lbk_args.specs.Command.{byte_rule, long_rule, value_rule, number_rule, default_limit_text};
-ghost use Rattle.lbk_args.specs.Command.{flag_rule, profile_rule, size_rule, texts_rule, files_app, shared_app};
+ghost use Rattle.lbk_args.specs.Command.{flag_rule, profile_rule, size_rule, texts_flag_rule, texts_rule};
+ghost use Rattle.lbk_args.specs.Command.{files_app, shared_app};
 ghost use Rattle.lbk_args.specs.Command.{ranged_app, limited_app, mark_app, sized_app, chunk_app};
 ghost use Rattle.lbk_args.specs.Command.{replay_app, bare_app, lbk_app};
 
@@ -86,10 +87,14 @@ const CHUNK_AFTER: &str = "\
 break at its end. It is as long as --most and --words allow, or ends early where
 a line must end, once it has --least new bytes. A stretch of text without a
 break within the sizes is a chunk of its own. Places count bytes of the whole
-text, all of which is read with --from and --to, too. Example:
+text, all of which is read with --from and --to, too. With --text a chunk is an
+object of JSON in a line of its own. Examples:
   $ printf 'ab cd' | lbk chunk --ucd FOLDER --most 4
   C 0 3 1 May 18
-  C 3 5 1 Must 3";
+  C 3 5 1 Must 3
+  $ printf 'ab cd' | lbk chunk --ucd FOLDER --most 4 --text
+  {\"start\":0,\"end\":3,\"words\":1,\"text\":\"ab \"}
+  {\"start\":3,\"end\":5,\"words\":1,\"text\":\"cd\"}";
 
 const REPLAY_AFTER: &str = "\
 `D line position file rules rule` is the first position of a line that differs,
@@ -198,6 +203,17 @@ fn kinds_option<'a>(alloc: Global) -> Arg<'a>
     long_option(alloc, "kinds")
         .action(ArgAction::SetTrue)
         .help("Marks tell ! from ÷, which stands for both without it")
+}
+
+/// The flag of texts, since the operands have the name that stands behind its hyphens.
+fn texts_option<'a>(alloc: Global) -> Arg<'a>
+    ensures rule { rule_of result ≡ texts_flag_rule }
+    ensures local { result.global ≡ false }
+{
+    Arg::new(alloc, "texts")
+        .long("text")
+        .action(ArgAction::SetTrue)
+        .help("JSON Lines with the text of each chunk")
 }
 
 fn sign_option<'a>(alloc: Global) -> Arg<'a>
@@ -328,7 +344,7 @@ fn segment<'a>(alloc: Global) -> Made<'a>
     )
 }
 
-/// `chunk` with its sizes, before its other options.
+/// `chunk` with its sizes and the flag of texts, before its other options.
 fn sized<'a>(alloc: Global) -> Made<'a>
     ensures { IsMade sized_app result }
 {
@@ -339,7 +355,8 @@ fn sized<'a>(alloc: Global) -> Made<'a>
     let least = "New bytes before an early end [default: half]";
     let command = with_option(command, size_option(alloc, "least", 0, least));
     let overlap = "Bytes that the next one repeats [default: 0]";
-    with_option(command, size_option(alloc, "overlap", 0, overlap))
+    let command = with_option(command, size_option(alloc, "overlap", 0, overlap));
+    with_option(command, texts_option(alloc))
 }
 
 fn chunk<'a>(alloc: Global) -> Made<'a>

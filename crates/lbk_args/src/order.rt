@@ -24,15 +24,28 @@ pub struct FileNames<'a> {
 #[derive(Clone, Copy, Debug, PartialEq, Eq)]
 pub enum Engine {
     /// `mark`, for paragraphs of at most `limit` bytes.
-    Mark { limit: u32 },
+    Mark {
+        limit: u32,
+    },
     /// `show`, for paragraphs of at most `limit` bytes.
-    Show { limit: u32 },
+    Show {
+        limit: u32,
+    },
     /// `segment`, for paragraphs of at most `limit` bytes.
-    Segment { limit: u32 },
-    /// `chunk`, with chunks of these sizes, for paragraphs of at most `limit` bytes.
-    Chunk { limit: u32, sizes: Sizes },
+    Segment {
+        limit: u32,
+    },
+    /// `chunk`, with chunks of these sizes, for paragraphs of at most `limit` bytes; `texts` says whether their texts
+    /// are written.
+    Chunk {
+        limit: u32,
+        sizes: Sizes,
+        texts: bool,
+    },
     /// `replay`; `kinds` says whether a break that must be has a mark of its own.
-    Replay { kinds: bool },
+    Replay {
+        kinds: bool,
+    },
 }
 
 /// How large the chunks of a text are.

@@ -188,6 +188,7 @@ fn engine(name: &str, given: &ArgMatches<'_>) -> Engine
         "chunk" => Engine::Chunk {
             limit: limit(given),
             sizes: sizes(given),
+            texts: flag(given, "texts"),
         },
         _ => Engine::Replay {
             kinds: flag(given, "kinds"),

@@ -1,5 +1,5 @@
 -- A call that reads the next passage.
-use Rattle.std.proofs.Common.{◌≡◌, ℕ, ◌+◌, ◌<◌, ◌≤◌, ◌⊎◌, ◌^◌, ◌-◌, cond, inl, inr, not, Bool, true, false, List, [], length, map, Option, None, Some, Result, Ok, Err, IsUtf8, refl, sym, ap, subst, ◌∙◌, arith}
+use Rattle.std.proofs.Common.{◌≡◌, ℕ, ◌+◌, ◌<◌, ◌≤◌, ◌⊎◌, ◌^◌, ◌-◌, cond, inl, inr, not, Bool, true, false, List, [], length, map, Option, None, Some, Result, Ok, Err, IsUtf8, refl, sym, ap, subst, arith}
 use Rattle.lbk_feed.specs.Devices.{Reads}
 use Rattle.lbk_feed.specs.Text.{longest_text}
 use Rattle.lbk_chunks.specs.Coming.{AreBreaksPast}
@@ -9,7 +9,6 @@ use Rattle.lbk_passage.specs.Next.{AfterNext, IsPassage, Lends}
 use Rattle.lbk_passage.specs.Segments.{segments_of}
 use Rattle.lbk_passage.specs.State.{State}
 use Rattle.lbk_passage.specs.declared.faults.PassageFault.{PassageFault}
-use Rattle.lbk_passage.specs.declared.faults.PassageFault.TheVariants.{Memory}
 use Rattle.lbk_passage.specs.declared.passage.Passage.{Passage}
 use Rattle.lbk_chunk_reader.specs.PassageWords.{words_in_pieces}
 use Rattle.lbk_chunk_reader.specs.declared.window.Window.{Window}

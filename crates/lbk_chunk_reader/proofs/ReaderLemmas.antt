@@ -1,10 +1,9 @@
 -- The chunks to come, from call to call.
-use Rattle.std.proofs.Common.{◌≡◌, ℕ, ◌+◌, ◌<◌, ◌≤◌, ◌⊎◌, inl, inr, ⊎_elim, Bool, true, false, ◌||◌, List, [], ◌∷◌, ◌++◌, length, map, Option, None, Some, Result, Ok, Err, IsUtf8, chars, encode_utf8, encode_utf8_all, append_assoc, append-nil, refl, sym, ap, ap₂, subst, ◌∙◌, arith, length-append}
+use Rattle.std.proofs.Common.{◌≡◌, ℕ, ◌+◌, ◌<◌, ◌≤◌, ⊎_elim, Bool, true, false, ◌||◌, List, [], ◌∷◌, ◌++◌, length, Option, None, Some, Result, Ok, Err, IsUtf8, encode_utf8, encode_utf8_all, append_assoc, append-nil, refl, sym, ap, ap₂, subst, ◌∙◌, arith, length-append}
 use Rattle.std.proofs.lemmas.Bool.{false≢true}
 use Rattle.std.proofs.lemmas.List.{append_cancel_left}
 use Rattle.std.proofs.lemmas.Str.{IsUtf8-append, IsUtf8-nil, encodes-append, encode_same, length-encode, len_utf8_bounds}
 use Rattle.lbk_feed.specs.Devices.{Reads}
-use Rattle.lbk_feed.specs.Runs.{Took}
 use Rattle.lbk_feed.specs.Text.{longest_text}
 use Rattle.lbk_feed.proofs.Taking.{Consumes-nil, Took-then, begun_took, kept_took, told_took}
 use Rattle.lbk_rules.specs.declared.Cell.{Cell}
@@ -12,10 +11,10 @@ use Rattle.lbk_values.specs.declared.profile.Profile.{Profile}
 use Rattle.lbk_chunks.specs.declared.chunk.Chunk.{Chunk}
 use Rattle.lbk_chunks.specs.declared.chunk.Limits.{Limits}
 use Rattle.lbk_chunks.specs.declared.cut.Cut.{Cut}
-use Rattle.lbk_chunks.specs.Chunks.{AreChunks, Here, cuts_past, text_start}
+use Rattle.lbk_chunks.specs.Chunks.{end_of, AreChunks, Here, cuts_past, text_start}
 use Rattle.lbk_chunks.specs.Cuts.{AreCutsPast}
 use Rattle.lbk_passage.specs.Marks.{Marked, scalars_of, text_of}
-use Rattle.lbk_passage.specs.Next.{AfterNext, ComesFirst, GoesOn, IsDone, IsLast, IsPassage, Lends, lent_text}
+use Rattle.lbk_passage.specs.Next.{AfterNext, GoesOn, IsDone, IsLast, IsPassage, Lends, lent_text}
 use Rattle.lbk_passage.specs.Passages.{passages}
 use Rattle.lbk_passage.specs.Pieces.{pieces_of}
 use Rattle.lbk_passage.specs.Segments.{segments_of}
@@ -31,7 +30,7 @@ use Rattle.lbk_chunk_reader.specs.Cuts.{cuts_between, cuts_of_passages}
 use Rattle.std.specs.Prelude.{IfSome}
 use Rattle.lbk_chunk_reader.specs.declared.cut.Chunk as given
 use Rattle.lbk_chunk_reader.specs.Numbered.{here_of, numbered_chunk}
-use Rattle.lbk_chunk_reader.specs.Reader.{ChunksCome, Goes, HasGiven, IsStopped, MayCome, Progresses, ReadsOn, View, cuts_with, new_view}
+use Rattle.lbk_chunk_reader.specs.Reader.{ChunksCome, Goes, HasGiven, IsStopped, MayCome, View, cuts_with, new_view}
 use Rattle.lbk_chunk_reader.specs.Standing.{Stands, view_with}
 use Rattle.lbk_chunk_reader.specs.Window.{IsNewWindow, IsTaken, cuts_in}
 use Rattle.lbk_chunk_reader.proofs.BetweenLemmas.{AreUpTo, between-append, between-left, between-past, between-up_to, end-up_to, past-up_to, passage-between, passages-rising}
@@ -275,6 +274,28 @@ none-to-come : (cell : ℕ → Cell) (profile : Profile) (start words : ℕ) (be
 unfolding passages
 none-to-come cell profile start words behind none = ap (λ l. cuts_of_passages cell start words (passages profile cell l)) none
 
+-- a chunk ends at the byte that cuts stand before, or before it, and those behind its next start do so too
+module _ (w w' : Window) (is_whole : Bool) (to : ℕ) (between : AreCutsBetween w.here.start (cuts_in w) to) (chunk : Chunk)
+    (next : (more : List Cut) → (is_whole ≡ true → more ≡ []) → AreCutsPast w.here.start (cuts_in w ++ more)
+    → IsNextChunk w.limits (here_of w.here) (cuts_in w ++ more) chunk (here_of w'.here) (cuts_in w' ++ more)) where
+  alone : IsNextChunk w.limits (here_of w.here) (cuts_in w ++ []) chunk (here_of w'.here) (cuts_in w' ++ [])
+  alone = next [] (λ _. refl) (between-past w.here.start (cuts_in w) to [] between tt)
+
+  end-within : (end_of w.limits (here_of w.here) alone.first alone.more).at ≤ to
+  end-within =
+      let whole : AreCutsBetween w.here.start (cuts_in w ++ []) to = subst (λ l. AreCutsBetween w.here.start l to) (sym (append-nil (cuts_in w))) between in
+      let all = past-up_to to w.here.told (cuts_in w ++ []) (between-up_to to w.here.start (cuts_in w ++ []) whole) in
+      end-up_to to w.limits (here_of w.here) alone.first alone.more (subst (AreUpTo to) alone.are all)
+
+  pub chunk-within : chunk.end ≤ to
+  chunk-within = let e = ap (λ (c : Chunk). c.end) alone.is in omega (arith, e, end-within)
+
+  pub next-between : AreCutsBetween w'.here.start (cuts_in w') to
+  next-between =
+      let told = next-told w.limits (here_of w.here) (cuts_in w ++ []) chunk (here_of w'.here) (cuts_in w' ++ []) alone in
+      let left : cuts_in w' ≡ cuts_past w'.here.start (cuts_in w) = sym (append-nil (cuts_in w')) ∙ alone.leaves ∙ ap (cuts_past w'.here.start) (append-nil (cuts_in w)) in
+      subst (λ l. AreCutsBetween w'.here.start l to) (sym left) (between-left w.here.start w'.here.start (cuts_in w) to (omega (arith, told.1, end-within)) between)
+
 module _ (s : State) (w w' : Window) (is_whole : Bool) (st : Stands w s is_whole) where
   pub none-behind : (behind more : List ℕ) → MayCome (view_with w' s) behind more → is_whole ≡ true → behind ≡ []
   none-behind behind more may whole =
@@ -308,15 +329,10 @@ module _ (s : State) (w w' : Window) (is_whole : Bool) (st : Stands w s is_whole
         let alone : AreCutsPast w.here.start (cuts_in w ++ []) = between-past w.here.start (cuts_in w) s.start [] st.between tt in
         let n = next [] (λ _. refl) alone in
         let told = next-told w.limits (here_of w.here) (cuts_in w ++ []) chunk (here_of w'.here) (cuts_in w' ++ []) n in
-        let whole : AreCutsBetween w.here.start (cuts_in w ++ []) s.start = subst (λ l. AreCutsBetween w.here.start l s.start) (sym (append-nil (cuts_in w))) st.between in
-        let all = past-up_to s.start w.here.told (cuts_in w ++ []) (between-up_to s.start w.here.start (cuts_in w ++ []) whole) in
-        let end = end-up_to s.start w.limits (here_of w.here) n.first n.more (subst (AreUpTo s.start) n.are all) in
-        let left : cuts_in w' ≡ cuts_past w'.here.start (cuts_in w) = sym (append-nil (cuts_in w')) ∙ n.leaves ∙ ap (cuts_past w'.here.start) (append-nil (cuts_in w)) in
         record {
           unspent = st.unspent;
           whole = st.whole;
-          between = subst (λ l. AreCutsBetween w'.here.start l s.start) (sym left)
-              (between-left w.here.start w'.here.start (cuts_in w) s.start (omega (arith, told.1, end)) st.between);
+          between = next-between w w' is_whole s.start st.between chunk next;
           told = told.0;
           words = omega (arith, words, st.words);
         }

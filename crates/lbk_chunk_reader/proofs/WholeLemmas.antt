@@ -1,19 +1,17 @@
 -- The cuts of passages, one behind the other, are those of the whole text.
-use Rattle.std.proofs.Common.{◌≡◌, ℕ, ◌+◌, ◌<◌, ◌≤◌, ◌&&◌, Bool, true, false, cond, nat_le, nat_lt, List, [], ◌∷◌, ◌++◌, length, map, IsUtf8, chars, encode_utf8, encode_utf8_all, append_assoc, refl, sym, ap, ap₂, subst, ◌∙◌, arith, length-append}
+use Rattle.std.proofs.Common.{◌≡◌, ℕ, ◌+◌, ◌<◌, ◌≤◌, Bool, true, false, cond, nat_le, List, [], ◌∷◌, ◌++◌, length, map, IsUtf8, chars, encode_utf8, encode_utf8_all, refl, sym, ap, ap₂, subst, ◌∙◌, arith, length-append}
 use Rattle.std.specs.List.{concat, flat_map}
 use Rattle.std.proofs.lemmas.Bool.{false≢true}
 use Rattle.std.proofs.lemmas.Bool.Decides.{nat_tests}
 use Rattle.std.proofs.lemmas.List.Sums.{sum_by-cons}
-use Rattle.std.proofs.lemmas.Str.{chars-encodes, encodes-chars}
+use Rattle.std.proofs.lemmas.Str.{chars-encodes}
 use lib.Utf8.{scalars}
-use Rattle.bstr.specs.Utf8.{lossy_chars, pieces}
 use Rattle.bstr.proofs.lemmas.EncodeLemmas.{lossy_chars-encode}
 use Rattle.unicode_segmentation.specs.Segments.{segments}
 use Rattle.unicode_segmentation.specs.Word.{word_bounds}
 use Rattle.lbk_rules.specs.declared.Break.{Break}
 use Rattle.lbk_rules.specs.declared.Cell.{Cell}
 use Rattle.lbk_values.specs.declared.profile.Profile.{Profile}
-use Rattle.lbk_rules.specs.Codes.{kind_number, rule_number}
 use Rattle.lbk_rules.proofs.MarkLemmas.{scalars-behind}
 use Rattle.lbk_bytes.specs.Bytes.{breaks_after, breaks_of_bytes, with_break}
 use Rattle.lbk_passage.specs.Breaks.{breaks, breaks_from}
@@ -24,18 +22,16 @@ use Rattle.lbk_passage.specs.Pieces.{is_word, pieces_from, pieces_of}
 use Rattle.lbk_passage.specs.Segments.{segments_of}
 use Rattle.lbk_passage.proofs.Together.{passages-breaks, passages-scalars}
 use Rattle.lbk_words.specs.declared.word.Word.{Word}
-use Rattle.lbk_words.specs.Words.{words_of}
 use Rattle.lbk_words.proofs.WellFormedLemmas.{good_of, pieces-encode, scalars-split}
 use Rattle.lbk_chunk_reader.specs.Agreement.{AgreeOnLetters, AgreeOnLines}
 use Rattle.lbk_chunk_reader.specs.PassageWords.{words_in_pieces, words_of_passages}
 use Rattle.lbk_chunk_reader.proofs.PieceWords.{bytes-of-parts}
 use Rattle.lbk_chunk_reader.proofs.Whole.{words-whole}
-use Rattle.lbk_chunks.specs.declared.cut.Cut.{Cut}
 use Rattle.lbk_chunks.specs.Coming.{AreBreaksPast}
 use Rattle.lbk_chunks.specs.Cuts.{cuts_among, cuts_of, is_within, words_before}
 use Rattle.lbk_chunks.proofs.WordLemmas.{cut_by, cuts-passed-first}
 use Rattle.lbk_chunk_reader.specs.Between.{AreBreaksBetween}
-use Rattle.lbk_chunk_reader.specs.Cuts.{cuts_between, cuts_of_passages}
+use Rattle.lbk_chunk_reader.specs.Cuts.{cuts_of_passages}
 use Rattle.lbk_chunk_reader.proofs.BetweenLemmas.{passage-breaks, breaks-ends, breaks-past-append}
 use Rattle.lbk_chunk_reader.proofs.WordLemmas.{no-word}
 

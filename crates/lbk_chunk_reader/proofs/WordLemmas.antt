@@ -1,8 +1,7 @@
 -- The words of a passage, piece by piece.
-use Rattle.std.proofs.Common.{◌≡◌, ℕ, ◌+◌, ◌<◌, ◌≤◌, ◌&&◌, Bool, true, false, cond, nat_le, nat_lt, List, [], ◌∷◌, ◌++◌, length, map, refl, sym, ap, ap₂, subst, ◌∙◌, arith, length-append, append_assoc, append-nil}
+use Rattle.std.proofs.Common.{◌≡◌, ℕ, ◌+◌, ◌<◌, ◌≤◌, ◌&&◌, Bool, true, false, cond, nat_lt, List, [], ◌∷◌, ◌++◌, length, map, refl, sym, ap, ap₂, subst, ◌∙◌, arith, length-append, append_assoc, append-nil}
 use Rattle.std.specs.List.{concat, list_any}
-use Rattle.std.specs.Str.{IsUtf8, chars, encode_utf8_all}
-use Rattle.std.proofs.lemmas.Bool.Decides.{nat_tests}
+use Rattle.std.specs.Str.{IsUtf8, chars}
 use Rattle.std.proofs.lemmas.List.{map-append}
 use Rattle.std.proofs.lemmas.Str.{chars-nil, encodes-chars}
 use Rattle.unicode_segmentation.specs.Segments.{segments}
@@ -11,7 +10,6 @@ use Rattle.lbk_rules.specs.declared.Break.{Break}
 use Rattle.lbk_rules.specs.declared.Cell.{Cell}
 use Rattle.lbk_passage.specs.Pieces.{is_word, pieces_from, pieces_of}
 use Rattle.lbk_passage.specs.declared.passage.Piece.{Piece}
-use Rattle.lbk_words.specs.Words.{parts_of}
 use Rattle.lbk_words.specs.declared.word.Word.{Word}
 use Rattle.lbk_chunk_reader.specs.PassageWords.{words_in_pieces}
 use Rattle.lbk_chunk_reader.proofs.PieceWords.{bytes-of-parts}

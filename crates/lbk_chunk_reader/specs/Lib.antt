@@ -4,6 +4,7 @@ pub mod Cuts
 pub mod Reader
 pub mod Shown
 pub mod Settled
+pub mod Held
 pub mod Window
 pub mod Agreement
 pub mod PassageWords

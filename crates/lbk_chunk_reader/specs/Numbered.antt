@@ -1,5 +1,4 @@
 -- Cuts, chunks and starts as the definition of chunks has them, with kinds and rules as numbers.
-use Rattle.std.specs.Prelude.{ℕ}
 use Rattle.lbk_rules.specs.Codes.{kind_number, rule_number}
 use Rattle.lbk_chunks.specs.declared.chunk.Chunk as spec
 use Rattle.lbk_chunks.specs.declared.cut.Cut as spec_cut

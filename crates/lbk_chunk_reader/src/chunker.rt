@@ -58,7 +58,7 @@ impl<'a, C: CellSource> Chunker<'a, C> {
         if !are_limits(&limits) {
             return Err(ChunkFault::Limits);
         }
-        let window = Window::new(alloc, limits);
+        let window = Window::new(alloc, limits, false);
         match Segmenter::new(alloc, cells, limit, profile) {
             Ok(segmenter) => Ok(Chunker {
                 segmenter,

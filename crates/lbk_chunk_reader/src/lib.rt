@@ -6,6 +6,7 @@ mod chunker;
 mod cut;
 mod faults;
 mod gathering;
+mod held;
 mod laws;
 mod window;
 mod word_laws;

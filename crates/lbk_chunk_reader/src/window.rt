@@ -1,17 +1,18 @@
-//! The cuts that were found and are past the start of the next chunk.
+//! The cuts that were found and are past the start of the next chunk, and the text from there on.
 
 ghost use Rattle.std.specs.Prelude.{◌≤◌, vec_len};
 
 use crate::choosing::{chunk_to, end_among, past, start_behind};
 use crate::cut::{Chunk, Cut, Here};
 use crate::gathering::push_cuts;
+use crate::held::{Held, take_text};
 use lbk_chunks::Limits;
 use lbk_feed::Source;
 use lbk_passage::{Passage, PassageFault, Segmenter};
 use lbk_rules::CellSource;
 use std::alloc::{AllocError, Global};
 
-/// The cuts that were found and are past the start of the next chunk.
+/// The cuts that were found and are past the start of the next chunk, and the text from there on if it is kept.
 #[derive(Drop)]
 pub struct Window {
     limits: Limits,
@@ -21,12 +22,13 @@ pub struct Window {
     here: Here,
     /// How many words are in the passages whose cuts were found.
     words: usize,
+    held: Option<Held>,
     ghost passed_few: { passed ≤ vec_len cuts },
 }
 
 impl Window {
     ghost use Rattle.std.specs.Prelude.{◌≡◌, ◌≤◌, ◌<◌, ◌+◌, ◌^◌, ◌++◌, [], List, IfSome, None, OnOk, false, length, map};
-    ghost use Rattle.std.specs.Prelude.{true};
+    ghost use Rattle.std.specs.Prelude.{ℕ, option_map, true, Some, if◌then◌else◌};
     ghost use Rattle.lbk_chunks.specs.declared.cut.Cut as spec;
     ghost use Rattle.lbk_chunks.specs.Chunks.{cuts_past};
     ghost use Rattle.lbk_chunks.specs.Cuts.{AreCutsPast};
@@ -34,14 +36,16 @@ impl Window {
     ghost use Rattle.lbk_chunk_reader.specs.Choosing.{IsNextChunk};
     ghost use Rattle.lbk_chunk_reader.specs.Settled.{IsOpen};
     ghost use Rattle.lbk_chunk_reader.specs.Window.{IsNewWindow, IsSameWindow, IsTaken, cuts_in, here_in};
-    ghost use Rattle.lbk_chunk_reader.specs.Window.{limits_in, words_in};
+    ghost use Rattle.lbk_chunk_reader.specs.Window.{HoldsFrom, held_in, keeps_text, limits_in, words_in};
+    ghost use Rattle.lbk_chunk_reader.specs.Held.{chunk_text};
     ghost use Rattle.lbk_chunk_reader.specs.Pieces.{IsRegular};
     ghost use Rattle.lbk_chunk_reader.specs.Taking.{TakesNext};
     ghost use Rattle.lbk_passage.specs.Shown.{state_of};
 
-    /// No cuts, at the start of a text.
-    pub fn new(alloc: Global, limits: Limits) -> Window
-        ensures { IsNewWindow limits result }
+    /// No cuts, at the start of a text. With its text `text_of` has that of each chunk.
+    pub fn new(alloc: Global, limits: Limits, with_text: bool) -> Window
+        ensures new { IsNewWindow limits result }
+        ensures keeps { keeps_text result ≡ with_text }
     {
         Window {
             limits,
@@ -53,10 +57,15 @@ impl Window {
                 told: 0,
             },
             words: 0,
+            held: if with_text {
+                Some(Held::new(alloc))
+            } else {
+                None
+            },
         }
     }
 
-    /// Takes the cuts of the next passage. After an error some of them may be held.
+    /// Takes the cuts of the next passage, and its text if that is kept. After an error some of them may be held.
     pub fn take(&mut self, passage: &Passage<'_>) -> Result<(), AllocError>
         requires { passage.now.start ≤ 2 ^ 62 }
         ensures { OnOk result (IsRegular passage.now.start (words_in self.old) passage.now.segments.now
@@ -64,6 +73,7 @@ impl Window {
             → IsTaken passage.now self.old self.new) }
     {
         self.drop_passed();
+        take_text(&mut self.held, self.here.start, passage.text)?;
         self.words = push_cuts(
             &mut self.cuts,
             passage.start as usize,
@@ -123,6 +133,7 @@ impl Window {
         ensures open { result ≡ None → is_whole ≡ false
             → IsOpen (limits_in self.old) (here_in self.old) (cuts_in self.old) }
         ensures limits { (limits_in self.new ≡ limits_in self.old) × (words_in self.new ≡ words_in self.old) }
+        ensures held { held_in self.new ≡ held_in self.old }
     {
         let known = &self.cuts[self.passed..];
         let Some(end) = end_among(
@@ -143,5 +154,18 @@ impl Window {
         self.passed = self.cuts.len() - past(known, next.start).len();
         self.here = next;
         Some(chunk)
+    }
+
+    /// The text of the chunk that `next` gave last, if the text is kept.
+    pub fn text_of(&self, chunk: &Chunk) -> Option<&[u8]>
+        ensures { (text : List ℕ) → HoldsFrom chunk.now.start text self.now → chunk.now.start ≤ chunk.now.end
+            → chunk.now.end ≤ length text
+            → option_map (λ bytes. bytes.now) result
+            ≡ (if keeps_text self.now then Some (chunk_text text (numbered_chunk chunk.now)) else None) }
+    {
+        match &self.held {
+            Some(held) => Some(held.text(chunk.start, chunk.end)),
+            None => None,
+        }
     }
 }

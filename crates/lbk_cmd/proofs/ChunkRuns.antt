@@ -3,6 +3,7 @@ use Rattle.std.proofs.Common.{◌≡◌, ◌⊎◌, inr, ⊎_elim, ℕ, ◌+◌,
 use Rattle.std.specs.Io.KnownBytes.{Appends, IsAtEnd}
 use Rattle.std.specs.Prelude.{IfSome, IsUtf8}
 use Rattle.std.specs.Str.{chars}
+use Rattle.std.specs.List.{AllByRecursion}
 use Rattle.std.proofs.KnownBytes.{Consumes-whole}
 use Rattle.std.proofs.Math.Seq.{take-append-add}
 use Rattle.std.proofs.lemmas.Bool.{false≢true}
@@ -26,18 +27,18 @@ use Rattle.lbk_chunk_reader.specs.Cuts.{cuts_of_passages}
 use Rattle.lbk_chunk_reader.specs.Settled.{IsOpen, Settle, SettleAll}
 use Rattle.lbk_chunk_reader.specs.Standing.{Stands}
 use Rattle.lbk_chunk_reader.specs.Taking.{Takes, TakesNext}
-use Rattle.lbk_chunk_reader.specs.Window.{IsNewWindow, IsTaken, cuts_in, here_in, limits_in}
+use Rattle.lbk_chunk_reader.specs.Window.{Holds, IsNewWindow, IsTaken, cuts_in, here_in, keeps_text, limits_in}
 use Rattle.lbk_chunk_reader.specs.declared.window.Window.{Window}
 use Rattle.lbk_chunk_reader.proofs.BetweenLemmas.{between-past}
 use Rattle.lbk_chunk_reader.proofs.SettledLemmas.{settle-all}
-use Rattle.lbk_args.specs.declared.order.Part.{Part}
 use Rattle.lbk_cmd.specs.Chunk.{AreLinesOf, chunk_lines, chunking}
-use Rattle.lbk_cmd.specs.Chunking.{BreaksOff, Gave, Rests, WritesAll}
+use Rattle.lbk_cmd.specs.Chunking.{BreaksOff, Gave, IsIn, Rests, StandsIn, WritesAll}
+use Rattle.lbk_cmd.specs.declared.chunked.Asked.{Asked}
 use Rattle.lbk_cmd.specs.Gathering.{HasWritten}
 use Rattle.lbk_cmd.specs.Run.{IsRun, IsWhole, Writing, failed_reads_with, is_failed_read}
 use Rattle.lbk_cmd.specs.declared.faults.CmdFault.{CmdFault}
 use Rattle.lbk_cmd.specs.declared.faults.CmdFault.TheVariants as cmd
-use Rattle.lbk_cmd.proofs.Chunking.{Chunked, all-settled, all-whole, bytes_of_passages, chunked-gave, chunked-new, chunked-taken, chunks_finish, new-open, settled-text, words_of_passages}
+use Rattle.lbk_cmd.proofs.Chunking.{Chunked, all-settled, all-whole, bytes_of_passages, chunked-gave, chunked-new, chunked-taken, chunks_finish, new-open, settled-text, stands-in, text-given, text_given, words_of_passages}
 use Rattle.lbk_cmd.proofs.Gathering.{failed_alike}
 use Rattle.lbk_cmd.proofs.Looping.{Appends-trans, Going, Going-lined, Going-new, Going-new-given, Going-new-out, Going-put, Going-put-is, Wait, at_the_end, due, lined-given, lined-out, most_reads, ran_cut_off, ran_fault, ran_held_back, ran_memory, ran_unwritten, ran_whole, whole_run}
 use Rattle.lbk_cmd.proofs.Running.{given_now, passage_now, some_bytes_of, start_now}
@@ -54,12 +55,12 @@ memory_alike ran = record {
 }
 
 -- a run over a reader that tells its bytes
-pub known_chunks : (range : Option Part) (l : Limits) (cell : ℕ → Cell) (profile : Profile) (limit : ℕ) (from to : Reads) (ended : Bool) (u u' w w' : Option (List ℕ))
-    → Ran false u u' w w' (IsRun (chunking range l cell profile limit) from to ended (Ok (tt {0}))) → IsAtEnd u'
-    → IfSome u (λ input. IsUtf8 input × ((out : List ℕ) × AreLinesOf range l cell (passages profile cell (chars input)) out × Appends w w' out))
-known_chunks range l cell profile limit from to ended u u' w w' ran at_end =
-    let whole : IsWhole (chunking range l cell profile limit) ran.read ran.out = ran.so.comes in
-    Consumes-whole u u' ran.read (λ input. IsUtf8 input × ((out : List ℕ) × AreLinesOf range l cell (passages profile cell (chars input)) out × Appends w w' out)) ran.took at_end
+pub known_chunks : (asked : Asked) (l : Limits) (cell : ℕ → Cell) (profile : Profile) (limit : ℕ) (from to : Reads) (ended : Bool) (u u' w w' : Option (List ℕ))
+    → Ran false u u' w w' (IsRun (chunking asked l cell profile limit) from to ended (Ok (tt {0}))) → IsAtEnd u'
+    → IfSome u (λ input. IsUtf8 input × ((out : List ℕ) × AreLinesOf asked l cell (passages profile cell (chars input)) out × Appends w w' out))
+known_chunks asked l cell profile limit from to ended u u' w w' ran at_end =
+    let whole : IsWhole (chunking asked l cell profile limit) ran.read ran.out = ran.so.comes in
+    Consumes-whole u u' ran.read (λ input. IsUtf8 input × ((out : List ℕ) × AreLinesOf asked l cell (passages profile cell (chars input)) out × Appends w w' out)) ran.took at_end
     (whole.utf8, (ran.out, whole.is, ran.put))
 
 -- an answer that is another one
@@ -70,29 +71,29 @@ pub write-no-limit : (answer : Result (Unit {0}) CmdFault) → answer ≡ Err cm
 write-no-limit answer is limit = let both : Err cmd.Write ≡ Err (cmd.Passage fault.Limit) = sym is ∙ limit in cc
 
 -- all chunks that a window gave, where it gives no more
-pub gave-all : (range : Option Part) (is_whole : Bool) (w w' : Window) (u v : Option (List ℕ)) (waiting waiting' : List ℕ) (g : Gave range is_whole w w' u v waiting waiting')
+pub gave-all : (asked : Asked) (text : List ℕ) (is_whole : Bool) (w w' : Window) (u v : Option (List ℕ)) (waiting waiting' : List ℕ) (g : Gave asked text is_whole w w' u v waiting waiting')
     → Rests is_whole w' → AreCutsPast (here_in w).start (cuts_in w) → (here_in w).start ≤ (here_in w).told
     → SettleAll (limits_in w) is_whole (here_in w) (cuts_in w) g.chunks
-gave-all range true w w' u v waiting waiting' g rests rising told =
+gave-all asked text true w w' u v waiting waiting' g rests rising told =
     subst (SettleAll (limits_in w) true (here_in w) (cuts_in w)) (append-nil g.chunks)
     (settle-all (limits_in w) true (here_in w) (cuts_in w) g.chunks (here_in w') (cuts_in w') [] rising told g.settle rests)
-gave-all range false w w' u v waiting waiting' g rests rising told =
+gave-all asked text false w w' u v waiting waiting' g rests rising told =
     (here_in w', cuts_in w', g.settle, subst (λ (x : Limits). IsOpen x (here_in w') (cuts_in w')) g.limits rests)
 
 -- the last lines were written, or only their front
-module _ (range : Option Part) (w w' : Window) (u v : Option (List ℕ)) (waiting waiting' : List ℕ) (g : Gave range true w w' u v waiting waiting') (rests : Rests true w')
+module _ (asked : Asked) (text : List ℕ) (w w' : Window) (u v : Option (List ℕ)) (waiting waiting' : List ℕ) (g : Gave asked text true w w' u v waiting waiting') (rests : Rests true w')
     (rising : AreCutsPast (here_in w).start (cuts_in w)) (told : (here_in w).start ≤ (here_in w).told) where
-  pub last-lines : (v' : Option (List ℕ)) → Appends v v' waiting' → WritesAll range w u v' waiting
+  pub last-lines : (v' : Option (List ℕ)) → Appends v v' waiting' → WritesAll asked text w u v' waiting
   last-lines v' wrote = record {
     chunks = g.chunks;
-    all = gave-all range true w w' u v waiting waiting' g rests rising told;
+    all = gave-all asked text true w w' u v waiting waiting' g rests rising told;
     wrote = subst (Appends u v') g.passes.is (Appends-trans u v v' g.passes.put waiting' g.passes.wrote wrote);
   }
 
-  pub last-front : (v' : Option (List ℕ)) (n : ℕ) → Appends v v' (take n waiting') → BreaksOff range true w u v' waiting
+  pub last-front : (v' : Option (List ℕ)) (n : ℕ) → Appends v v' (take n waiting') → BreaksOff asked text true w u v' waiting
   last-front v' n wrote = record {
     chunks = g.chunks;
-    all = gave-all range true w w' u v waiting waiting' g rests rising told;
+    all = gave-all asked text true w w' u v waiting waiting' g rests rising told;
     count = length g.passes.put + n;
     wrote = subst (Appends u v') (sym (take-append-add g.passes.put waiting' n) ∙ ap (take (length g.passes.put + n)) g.passes.is)
         (Appends-trans u v v' g.passes.put (take n waiting') g.passes.wrote wrote);
@@ -111,9 +112,9 @@ pub window-rising : (w : Window) (s : State) (is_whole : Bool) → Stands w s is
 window-rising w s is_whole st =
     subst (AreCutsPast (here_in w).start) (append-nil (cuts_in w)) (between-past (here_in w).start (cuts_in w) s.start [] st.between tt)
 
-module _ (range : Option Part) (l : Limits) (cell : ℕ → Cell) (profile : Profile) (limit : ℕ) (u0 w0 : Option (List ℕ)) (reads0 : Reads) where
+module _ (asked : Asked) (l : Limits) (cell : ℕ → Cell) (profile : Profile) (limit : ℕ) (u0 w0 : Option (List ℕ)) (reads0 : Reads) where
   abbrev pub e : Writing
-  e = chunking range l cell profile limit
+  e = chunking asked l cell profile limit
 
   abbrev pub Runs : State → Option (List ℕ) → Option (List ℕ) → Bool → Reads → List ℕ → Type 0
   Runs s u w ended reads lines = Going e u0 w0 reads0 s u w ended reads lines
@@ -121,19 +122,19 @@ module _ (range : Option Part) (l : Limits) (cell : ℕ → Cell) (profile : Pro
   -- a run that goes on: what it read and wrote, and the window, which gives no chunk
   pub record Cuts (s : State) (u w : Option (List ℕ)) (ended : Bool) (reads : Reads) (lines : List ℕ) (window : Window) : Type 0 where
     pub going : Runs s u w ended reads lines
-    pub chunked : Chunked range l cell profile limit window s going.standing.given (going.out ++ lines)
+    pub chunked : Chunked asked l cell profile limit window s going.standing.given (going.out ++ lines)
     pub rests : Rests false window
 
-  pub cuts-new : (s : State) (ended : Bool) (window : Window) → IsNewWindow l window → s ≡ new_state cell profile limit → Cuts s u0 w0 ended reads0 [] window
-  cuts-new s ended window new is =
-      let none = settled-text range l cell profile limit window s [] [] (chunked-new range l cell profile limit window s new is) (new-open range l cell profile limit window new) in
+  pub cuts-new : (s : State) (ended : Bool) (window : Window) → IsNewWindow l window → keeps_text window ≡ asked.texts → s ≡ new_state cell profile limit → Cuts s u0 w0 ended reads0 [] window
+  cuts-new s ended window new keeps is =
+      let none = settled-text asked l cell profile limit window s [] [] (chunked-new asked l cell profile limit window s new keeps is) (new-open asked l cell profile limit window new) in
       let going = Going-new e u0 w0 reads0 s ended is none in
       record {
         going = going;
-        chunked = subst (λ (g : List (List Marked)). Chunked range l cell profile limit window s g (going.out ++ [])) (sym (Going-new-given e u0 w0 reads0 s ended is none))
-            (subst (λ (x : List ℕ). Chunked range l cell profile limit window s [] (x ++ [])) (sym (Going-new-out e u0 w0 reads0 s ended is none))
-            (chunked-new range l cell profile limit window s new is));
-        rests = new-open range l cell profile limit window new;
+        chunked = subst (λ (g : List (List Marked)). Chunked asked l cell profile limit window s g (going.out ++ [])) (sym (Going-new-given e u0 w0 reads0 s ended is none))
+            (subst (λ (x : List ℕ). Chunked asked l cell profile limit window s [] (x ++ [])) (sym (Going-new-out e u0 w0 reads0 s ended is none))
+            (chunked-new asked l cell profile limit window s new keeps is));
+        rests = new-open asked l cell profile limit window new;
       }
 
   -- the next passage was looked for, and lines were written where a read may be due
@@ -166,7 +167,11 @@ module _ (range : Option Part) (l : Limits) (cell : ℕ → Cell) (profile : Pro
             words = old.words ∙ ap (λ g. words_of_passages cell 0 g) (sym d.given);
             chunks = old.chunks;
             settle = subst (λ g. Settle l false text_start (cuts_of_passages cell 0 0 g) old.chunks (here_in window) (cuts_in window)) (sym d.given) old.settle;
-            is = d.text ∙ old.is;
+            start = d.start ∙ old.start ∙ ap (λ g. length (text_given g)) (sym d.given);
+            within = subst (λ g. AllByRecursion (IsIn (text_given g)) old.chunks) (sym d.given) old.within;
+            keeps = old.keeps;
+            holds = subst (λ g. Holds (text_given g) window) (sym d.given) old.holds;
+            is = d.text ∙ old.is ∙ ap (λ g. chunk_lines asked (text_given g) old.chunks) (sym d.given);
           };
           rests = c.rests;
         };
@@ -205,22 +210,26 @@ module _ (range : Option Part) (l : Limits) (cell : ℕ → Cell) (profile : Pro
         by (Err why) a failed takes = absurd (let no : ⊥ = cc in no)
 
     module _ (k : Came) where
-      pub chunked-now : Chunked range l cell profile limit window' t (c.going.standing.given ++ given_now e s c.going.bytes (c.going.out ++ lines) c.going.standing t u v e1 e2 r1 r2 k.passage k.after ∷ []) (c.going.out ++ lines)
+      abbrev text_now : List ℕ
+      text_now = text_given (c.going.standing.given ++ given_now e s c.going.bytes (c.going.out ++ lines) c.going.standing t u v e1 e2 r1 r2 k.passage k.after ∷ [])
+
+      pub chunked-now : Chunked asked l cell profile limit window' t (c.going.standing.given ++ given_now e s c.going.bytes (c.going.out ++ lines) c.going.standing t u v e1 e2 r1 r2 k.passage k.after ∷ []) (c.going.out ++ lines)
       chunked-now =
           let st = c.going.standing in
           let place : k.passage.start ≡ bytes_of_passages st.given =
-          start_now e s c.going.bytes (c.going.out ++ lines) st t u v e1 e2 r1 r2 k.passage k.after ∙ st.start ∙ ap (λ x. length (encode_utf8_all x)) (sym st.joined) in
-          chunked-taken range l cell profile limit window s st.given (c.going.out ++ lines) c.chunked window' t u v e1 e2 r1 r2 k.passage k.after k.taken
+          start_now e s c.going.bytes (c.going.out ++ lines) st t u v e1 e2 r1 r2 k.passage k.after ∙ st.start
+          ∙ ap (λ x. length (encode_utf8_all x)) (sym st.joined) ∙ ap length (text-given st.given) in
+          chunked-taken asked l cell profile limit window s st.given (c.going.out ++ lines) c.chunked window' t u v e1 e2 r1 r2 k.passage k.after k.taken
           (given_now e s c.going.bytes (c.going.out ++ lines) st t u v e1 e2 r1 r2 k.passage k.after)
           (passage_now e s c.going.bytes (c.going.out ++ lines) st t u v e1 e2 r1 r2 k.passage k.after) st.cell place
 
       -- the window gave what its cuts settle
-      pub goes-on : (window'' : Window) (w' : Option (List ℕ)) (lines' : List ℕ) → (gave : Gave range false window' window'' w w' lines lines') → Rests false window''
+      pub goes-on : (window'' : Window) (w' : Option (List ℕ)) (lines' : List ℕ) → (gave : Gave asked text_now false window' window'' w w' lines lines') → Rests false window''
           → Cuts t v w' e2 r2 lines' window''
       goes-on window'' w' lines' gave rests =
-          let line = chunk_lines range gave.chunks in
-          let now = chunked-gave range l cell profile limit window' t _ (c.going.out ++ lines) chunked-now window'' w w' lines lines' gave in
-          let next = settled-text range l cell profile limit window'' t _ ((c.going.out ++ lines) ++ line) now rests in
+          let line = chunk_lines asked text_now gave.chunks in
+          let now = chunked-gave asked l cell profile limit window' t _ (c.going.out ++ lines) chunked-now window'' w w' lines lines' gave in
+          let next = settled-text asked l cell profile limit window'' t _ ((c.going.out ++ lines) ++ line) now rests in
           let lined = Going-lined e u0 w0 reads0 s t u v w e1 e2 r1 r2 lines c.going wait k.passage k.after line next in
           let same = lined-given e u0 w0 reads0 s t u v w e1 e2 r1 r2 lines c.going wait k.passage k.after line next in
           let out = lined-out e u0 w0 reads0 s t u v w e1 e2 r1 r2 lines c.going wait k.passage k.after line next in
@@ -229,8 +238,8 @@ module _ (range : Option Part) (l : Limits) (cell : ℕ → Cell) (profile : Pro
           let final = Going-put e u0 w0 reads0 t v w e2 r2 (lines ++ line) lined w' put lines' gave.passes.is gave.passes.wrote in
           record {
             going = final;
-            chunked = subst (λ (x : List (List Marked)). Chunked range l cell profile limit window'' t x (final.out ++ lines')) (sym (is.0 ∙ same))
-                (subst (λ (x : List ℕ). Chunked range l cell profile limit window'' t
+            chunked = subst (λ (x : List (List Marked)). Chunked asked l cell profile limit window'' t x (final.out ++ lines')) (sym (is.0 ∙ same))
+                (subst (λ (x : List ℕ). Chunked asked l cell profile limit window'' t
                 (c.going.standing.given ++ given_now e s c.going.bytes (c.going.out ++ lines) c.going.standing t u v e1 e2 r1 r2 k.passage k.after ∷ []) x)
                 (append_assoc c.going.out lines line ∙ ap (λ x. c.going.out ++ x) (sym gave.passes.is) ∙ sym (append_assoc c.going.out put lines')
                 ∙ ap (λ x. (x ++ put) ++ lines') (sym out) ∙ ap (λ x. x ++ lines') (sym is.1)) now);
@@ -251,19 +260,28 @@ module _ (range : Option Part) (l : Limits) (cell : ℕ → Cell) (profile : Pro
       pub then-told : (here_in window').start ≤ (here_in window').told
       then-told = chunked-now.stands.told
 
+      pub then-in : StandsIn asked text_now window'
+      then-in = stands-in asked l cell profile limit window' t _ (c.going.out ++ lines) chunked-now
+
       -- a write failed of its chunks
-      pub broken-off : (w' : Option (List ℕ)) → BreaksOff range false window' w w' lines
+      pub broken-off : (w' : Option (List ℕ)) → BreaksOff asked text_now false window' w w' lines
           → Ran false u0 v w0 w' (IsRun {X = Unit {0}} e reads0 r2 e2 (Err cmd.Write))
       broken-off w' b =
-          let line = chunk_lines range b.chunks in
-          let next = all-settled range l cell profile limit window' t _ (c.going.out ++ lines) chunked-now b.chunks b.all in
+          let line = chunk_lines asked text_now b.chunks in
+          let next = all-settled asked l cell profile limit window' t _ (c.going.out ++ lines) chunked-now b.chunks b.all in
           let lined = Going-lined e u0 w0 reads0 s t u v w e1 e2 r1 r2 lines c.going wait k.passage k.after line next in
-          whole_run (ran_unwritten e u0 w0 reads0 t v w e2 r2 (lines ++ line) lined (chunks_finish range l cell profile limit) (Unit {0}) w' b.count b.wrote)
+          whole_run (ran_unwritten e u0 w0 reads0 t v w e2 r2 (lines ++ line) lined (chunks_finish asked l cell profile limit) (Unit {0}) w' b.count b.wrote)
 
     -- the text was read to its end
     module _ (a : AfterNext s t u v e1 e2 r1 r2 (Ok None)) where
-      whole-text : (ds : List Chunk) → SettleAll (limits_in window) true (here_in window) (cuts_in window) ds → e.Whole c.going.standing.given ((c.going.out ++ lines) ++ chunk_lines range ds)
-      whole-text ds all = all-whole range l cell profile limit window s c.going.standing.given (c.going.out ++ lines) c.chunked ds all
+      abbrev text_then : List ℕ
+      text_then = text_given c.going.standing.given
+
+      pub last-in : StandsIn asked text_then window
+      last-in = stands-in asked l cell profile limit window s c.going.standing.given (c.going.out ++ lines) c.chunked
+
+      whole-text : (ds : List Chunk) → SettleAll (limits_in window) true (here_in window) (cuts_in window) ds → e.Whole c.going.standing.given ((c.going.out ++ lines) ++ chunk_lines asked text_then ds)
+      whole-text ds all = all-whole asked l cell profile limit window s c.going.standing.given (c.going.out ++ lines) c.chunked ds all
 
       pub last-rising : AreCutsPast (here_in window).start (cuts_in window)
       last-rising = window-rising window s false c.chunked.stands
@@ -271,16 +289,16 @@ module _ (range : Option Part) (l : Limits) (cell : ℕ → Cell) (profile : Pro
       pub last-told : (here_in window).start ≤ (here_in window).told
       last-told = c.chunked.stands.told
 
-      pub last-broken-off : (w' : Option (List ℕ)) → BreaksOff range true window w w' lines → Ran false u0 v w0 w' (IsRun {X = Unit {0}} e reads0 r2 e2 (Err cmd.Write))
+      pub last-broken-off : (w' : Option (List ℕ)) → BreaksOff asked text_then true window w w' lines → Ran false u0 v w0 w' (IsRun {X = Unit {0}} e reads0 r2 e2 (Err cmd.Write))
       last-broken-off w' b =
-          let line = chunk_lines range b.chunks in
+          let line = chunk_lines asked text_then b.chunks in
           whole_run (ran_cut_off e u0 w0 reads0 s t u v w e1 e2 r1 r2 lines c.going wait (Unit {0}) ((c.going.out ++ lines) ++ line) (whole-text b.chunks b.all) a w' (take b.count (lines ++ line))
           (length c.going.out + b.count) b.wrote
           (sym (take-append-add c.going.out (lines ++ line) b.count) ∙ ap (take (length c.going.out + b.count)) (sym (append_assoc c.going.out lines line))))
 
-      pub all-written : (w' : Option (List ℕ)) → WritesAll range window w w' lines → Ran false u0 v w0 w' (IsRun {X = Unit {0}} e reads0 r2 e2 (Ok (tt {0})))
+      pub all-written : (w' : Option (List ℕ)) → WritesAll asked text_then window w w' lines → Ran false u0 v w0 w' (IsRun {X = Unit {0}} e reads0 r2 e2 (Ok (tt {0})))
       all-written w' b =
-          let line = chunk_lines range b.chunks in
+          let line = chunk_lines asked text_then b.chunks in
           whole_run (ran_whole e u0 w0 reads0 s t u v w e1 e2 r1 r2 lines c.going wait (λ from. Unit {0}) (tt {0}) w' (lines ++ line) b.wrote
           (subst (e.Whole c.going.standing.given) (append_assoc c.going.out lines line) (whole-text b.chunks b.all)) a)
 
@@ -316,7 +334,7 @@ module _ (range : Option Part) (l : Limits) (cell : ℕ → Cell) (profile : Pro
     pub unwritten-lines : (why : PassageFault) (n : TakesNext s t u v e1 e2 r1 r2 f1 f2 window window' (Err why)) → s.is_settled ≡ true → (w' : Option (List ℕ)) (k : ℕ) → Appends w w' (take k lines)
         → Ran false u0 v w0 w' (IsRun {X = Unit {0}} e reads0 r2 e2 (Err cmd.Write))
     unwritten-lines why n settled w' k wrote =
-        whole_run (ran_held_back e u0 w0 reads0 s t u v w e1 e2 r1 r2 lines c.going wait (chunks_finish range l cell profile limit) (Unit {0}) n.lent n.after (n.after.still settled).1 w' k wrote)
+        whole_run (ran_held_back e u0 w0 reads0 s t u v w e1 e2 r1 r2 lines c.going wait (chunks_finish asked l cell profile limit) (Unit {0}) n.lent n.after (n.after.still settled).1 w' k wrote)
 
     pub still-failures : (why : PassageFault) (n : TakesNext s t u v e1 e2 r1 r2 f1 f2 window window' (Err why)) → s.is_settled ≡ true → f2 ≡ f1
     still-failures why n settled = n.failed ∙ none-read (fault_in n.lent) (n.after.still settled).1

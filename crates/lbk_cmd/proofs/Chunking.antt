@@ -1,6 +1,7 @@
 -- The chunks of a run, from passage to passage.
-use Rattle.std.proofs.Common.{◌≡◌, inl, ℕ, ◌+◌, Bool, true, false, List, [], ◌∷◌, ◌++◌, length, Option, Some, Ok, refl, sym, ap, ap₂, subst, ◌∙◌, arith, append_assoc, append-nil, encode_utf8_all, length-append}
-use Rattle.std.specs.List.{flat_map}
+use Rattle.std.proofs.Common.{◌≡◌, inl, ℕ, ◌+◌, Bool, true, false, List, [], ◌∷◌, ◌++◌, length, Option, Some, Ok, refl, sym, ap, ap₂, subst, ◌∙◌, arith, append_assoc, append-nil, encode_utf8_all, length-append, length-drop, drop, take, ◌-◌, None, if◌then◌else◌}
+use Rattle.std.specs.List.{AllByRecursion, flat_map}
+use Rattle.std.proofs.lemmas.List.{drop-append-le, take-append-le}
 use Rattle.std.proofs.lemmas.Grind.{flat_map-append}
 use Rattle.std.proofs.lemmas.Str.{encodes-append}
 use Rattle.lbk_feed.specs.Devices.{Reads}
@@ -22,15 +23,18 @@ use Rattle.lbk_chunk_reader.specs.Cuts.{cuts_between, cuts_of_passages}
 use Rattle.lbk_chunk_reader.specs.Numbered.{here_of}
 use Rattle.lbk_chunk_reader.specs.Settled.{IsOpen, Settle, SettleAll}
 use Rattle.lbk_chunk_reader.specs.Standing.{Stands}
-use Rattle.lbk_chunk_reader.specs.Window.{IsNewWindow, IsTaken, cuts_in, here_in, limits_in, words_in}
+use Rattle.lbk_chunk_reader.specs.Between.{AreCutsBetween}
+use Rattle.lbk_chunk_reader.specs.Held.{chunk_text}
+use Rattle.lbk_chunk_reader.specs.Window.{Holds, HoldsFrom, IsNewWindow, IsTaken, cuts_in, here_in, keeps_text, limits_in, words_in}
 use Rattle.lbk_chunk_reader.specs.declared.window.Window.{Window}
 use Rattle.lbk_chunk_reader.proofs.BetweenLemmas.{passages-rising}
 use Rattle.lbk_chunk_reader.proofs.ReaderLemmas.{stands-new, stands-taken}
 use Rattle.lbk_chunk_reader.proofs.SettledLemmas.{all-exist, settle-all, settle-more, settle-none, settle-then, settle-whole}
-use Rattle.lbk_args.specs.declared.order.Part.{Part}
-use Rattle.lbk_cmd.specs.Chunk.{asked_line, chunk_lines, chunking}
-use Rattle.lbk_cmd.specs.Chunking.{Gave, Rests}
+use Rattle.lbk_cmd.specs.Chunk.{asked_line, chunk_lines, chunking, line_in}
+use Rattle.lbk_cmd.specs.Chunking.{Gave, IsIn, Rests, StandsIn}
 use Rattle.lbk_cmd.specs.Run.{Writing}
+use Rattle.lbk_cmd.specs.declared.chunked.Asked.{Asked}
+use Rattle.lbk_cmd.proofs.ChunkGiving.{all-in}
 use Rattle.lbk_cmd.proofs.Running.{Finishes}
 
 -- how many words are in passages of which the first begins at this byte
@@ -39,15 +43,39 @@ words_of_passages cell start [] = 0
 words_of_passages cell start (ms ∷ ps) =
     length (words_in_pieces start (pieces_of cell (text_of ms))) + words_of_passages cell (start + length (text_of ms)) ps
 
--- how many bytes
+-- the text of passages
+abbrev pub text_given : List (List Marked) → List ℕ
+text_given given = flat_map text_of given
+
 abbrev pub bytes_of_passages : List (List Marked) → ℕ
-bytes_of_passages given = length (encode_utf8_all (flat_map scalars_of given))
+bytes_of_passages given = length (text_given given)
+
+pub text-given : (given : List (List Marked)) → encode_utf8_all (flat_map scalars_of given) ≡ text_given given
+text-given [] = refl
+text-given (m ∷ given) = encodes-append (scalars_of m) (flat_map scalars_of given) ∙ ap (λ x. text_of m ++ x) (text-given given)
+
+text-snoc : (given : List (List Marked)) (ms : List Marked) → text_given (given ++ ms ∷ []) ≡ text_given given ++ text_of ms
+text-snoc given ms = flat_map-append text_of given (ms ∷ []) ∙ ap (λ x. text_given given ++ x) (append-nil (text_of ms))
+
+-- the lines of chunks of a text that goes on
+line-more : (asked : Asked) (text more : List ℕ) (c : Chunk) → IsIn text c → asked_line asked text c ≡ asked_line asked (text ++ more) c
+line-more asked text more c is = ap (λ x. line_in asked.range (if asked.texts then Some x else None) c) (sym same)
+  where
+    same : chunk_text (text ++ more) c ≡ chunk_text text c
+    same =
+        ap (take (c.end - c.start)) (drop-append-le c.start text more (omega (arith, is.0, is.1)))
+        ∙ take-append-le (c.end - c.start) (drop c.start text) more (omega (arith, is.0, is.1, length-drop c.start text))
+
+lines-more : (asked : Asked) (text more : List ℕ) (cs : List Chunk) → AllByRecursion (IsIn text) cs → chunk_lines asked text cs ≡ chunk_lines asked (text ++ more) cs
+lines-more asked text more [] all = refl
+lines-more asked text more (c ∷ cs) all = ap₂ (λ x y. x ++ y) (line-more asked text more c all.0) (lines-more asked text more cs all.1)
+
+all-more : (text more : List ℕ) (cs : List Chunk) → AllByRecursion (IsIn text) cs → AllByRecursion (IsIn (text ++ more)) cs
+all-more text more [] all = tt
+all-more text more (c ∷ cs) all = ((all.0.0, let few = all.0.1 in omega (arith, few, length-append text more)), all-more text more cs all.1)
 
 long_of : (m : List Marked) (given : List (List Marked)) (start : ℕ) → start + length (text_of m) + bytes_of_passages given ≡ start + bytes_of_passages (m ∷ given)
-long_of m given start =
-    let long = ap length (encodes-append (scalars_of m) (flat_map scalars_of given))
-    ∙ length-append (text_of m) (encode_utf8_all (flat_map scalars_of given)) in
-    omega (arith, long)
+long_of m given start = let long = length-append (text_of m) (text_given given) in omega (arith, long)
 
 -- one passage more
 cuts-snoc : (cell : ℕ → Cell) (start words : ℕ) (given : List (List Marked)) (ms : List Marked)
@@ -76,9 +104,9 @@ words-snoc cell start (m ∷ given) ms =
     let same = ap (λ n. length (words_in_pieces n (pieces_of cell (text_of ms)))) (long_of m given start) in
     omega (arith, rest, same)
 
-module _ (range : Option Part) (l : Limits) (cell : ℕ → Cell) (profile : Profile) (limit : ℕ) where
+module _ (asked : Asked) (l : Limits) (cell : ℕ → Cell) (profile : Profile) (limit : ℕ) where
   abbrev pub e : Writing
-  e = chunking range l cell profile limit
+  e = chunking asked l cell profile limit
 
   abbrev pub cuts : List (List Marked) → List Cut
   cuts given = cuts_of_passages cell 0 0 given
@@ -90,19 +118,27 @@ module _ (range : Option Part) (l : Limits) (cell : ℕ → Cell) (profile : Pro
     pub words : words_in w ≡ words_of_passages cell 0 given
     pub chunks : List Chunk
     pub settle : Settle l false text_start (cuts given) chunks (here_in w) (cuts_in w)
-    pub is : text ≡ chunk_lines range chunks
+    pub start : s.start ≡ length (text_given given)
+    pub within : AllByRecursion (IsIn (text_given given)) chunks
+    pub keeps : keeps_text w ≡ asked.texts
+    pub holds : Holds (text_given given) w
+    pub is : text ≡ chunk_lines asked (text_given given) chunks
 
   rising : (given : List (List Marked)) → AreCutsPast 0 (cuts given)
   rising given = passages-rising cell 0 0 given
 
-  pub chunked-new : (w : Window) (s : State) → IsNewWindow l w → s ≡ new_state cell profile limit → Chunked w s [] []
-  chunked-new w s n is = record {
+  pub chunked-new : (w : Window) (s : State) → IsNewWindow l w → keeps_text w ≡ asked.texts → s ≡ new_state cell profile limit → Chunked w s [] []
+  chunked-new w s n keeps is = record {
     limits = n.limits;
     stands = stands-new l w s cell profile limit n is;
     words = n.words;
     chunks = [];
     settle = subst (λ (h : Here). Settle l false text_start [] [] h (cuts_in w)) (sym (ap here_of n.here))
         (subst (Settle l false text_start [] [] text_start) (sym n.cuts) (settle-none l false text_start []));
+    start = ap (λ (x : State). x.start) is;
+    within = tt;
+    keeps = keeps;
+    holds = subst (λ (h : Here). HoldsFrom h.start [] w) (sym (ap here_of n.here)) n.held;
     is = refl;
   }
 
@@ -111,6 +147,9 @@ module _ (range : Option Part) (l : Limits) (cell : ℕ → Cell) (profile : Pro
       (subst (λ (h : Here). IsOpen l h (cuts_in w)) (sym (ap here_of n.here)) (subst (IsOpen l text_start) (sym n.cuts) (inl refl)))
 
   module _ (w : Window) (s : State) (given : List (List Marked)) (text : List ℕ) (c : Chunked w s given text) where
+    pub stands-in : StandsIn asked (text_given given) w
+    stands-in = record { keeps = c.keeps; holds = c.holds; between = subst (AreCutsBetween (here_in w).start (cuts_in w)) c.start c.stands.between }
+
     -- what is written is the lines of all chunks that the passages settle
     pub settled-text : Rests false w → e.Settled given text
     settled-text rests =
@@ -120,6 +159,7 @@ module _ (range : Option Part) (l : Limits) (cell : ℕ → Cell) (profile : Pro
     pub chunked-taken : (w' : Window) (t : State) (u v : Option (List ℕ)) (e1 e2 : Bool) (r1 r2 : Reads) (p : Passage) → AfterNext s t u v e1 e2 r1 r2 (Ok (Some p))
         → IsTaken p w w' → (ms : List Marked) → IsPassage s ms p → s.cell ≡ cell → p.start ≡ bytes_of_passages given → Chunked w' t (given ++ ms ∷ []) text
     chunked-taken w' t u v e1 e2 r1 r2 p a k ms of cell_is start =
+        let text = text-snoc given ms in
         let pieces = of.pieces ∙ ap (λ f. pieces_of f (text_of ms)) cell_is in
         let new : cuts_between p.start w.words p.segments.now p.pieces.now
         ≡ cuts_between (0 + bytes_of_passages given) (0 + words_of_passages cell 0 given) (segments_of ms) (pieces_of cell (text_of ms)) =
@@ -138,12 +178,17 @@ module _ (range : Option Part) (l : Limits) (cell : ℕ → Cell) (profile : Pro
               (subst (λ (h : Here). Settle l false text_start (cuts given ++ cuts_between p.start w.words p.segments.now p.pieces.now) c.chunks h (cuts_in w')) (sym (ap here_of k.here))
               (subst (Settle l false text_start (cuts given ++ cuts_between p.start w.words p.segments.now p.pieces.now) c.chunks (here_in w)) (sym k.cuts)
               (settle-more l text_start (cuts given) (cuts_between p.start w.words p.segments.now p.pieces.now) c.chunks (here_in w) (cuts_in w) c.settle)));
-          is = c.is;
+          start = let longer = ap length text in let put = length-append (text_given given) (text_of ms) in let goes = a.start in let lent_is = ap length of.text in
+              omega (arith, goes, lent_is, c.start, longer, put);
+          within = subst (λ x. AllByRecursion (IsIn x) c.chunks) (sym text) (all-more (text_given given) (text_of ms) c.chunks c.within);
+          keeps = k.keeps ∙ c.keeps;
+          holds = subst (λ x. Holds x w') (ap (λ x. text_given given ++ x) of.text ∙ sym text) (k.holds (text_given given) c.holds);
+          is = c.is ∙ lines-more asked (text_given given) (text_of ms) c.chunks c.within ∙ ap (λ x. chunk_lines asked x c.chunks) (sym text);
         }
 
     -- the chunks were given that are settled
-    pub chunked-gave : (w' : Window) (written written' : Option (List ℕ)) (waiting waiting' : List ℕ) (g : Gave range false w w' written written' waiting waiting')
-        → Chunked w' s given (text ++ chunk_lines range g.chunks)
+    pub chunked-gave : (w' : Window) (written written' : Option (List ℕ)) (waiting waiting' : List ℕ) (g : Gave asked (text_given given) false w w' written written' waiting waiting')
+        → Chunked w' s given (text ++ chunk_lines asked (text_given given) g.chunks)
     chunked-gave w' written written' waiting waiting' g = record {
       limits = g.limits ∙ c.limits;
       stands = g.stands s c.stands;
@@ -151,14 +196,18 @@ module _ (range : Option Part) (l : Limits) (cell : ℕ → Cell) (profile : Pro
       chunks = c.chunks ++ g.chunks;
       settle = settle-then l false text_start (cuts given) c.chunks (here_in w) (cuts_in w) g.chunks (here_in w') (cuts_in w') (rising given) (omega arith) c.settle
           (subst (λ (x : Limits). Settle x false (here_in w) (cuts_in w) g.chunks (here_in w') (cuts_in w')) c.limits g.settle);
-      is = ap (λ x. x ++ chunk_lines range g.chunks) c.is ∙ sym (flat_map-append (asked_line range) c.chunks g.chunks);
+      start = c.start;
+      within = all-in (text_given given) c.chunks g.chunks c.within g.within;
+      keeps = g.stands_in.keeps;
+      holds = g.stands_in.holds;
+      is = ap (λ x. x ++ chunk_lines asked (text_given given) g.chunks) c.is ∙ sym (flat_map-append (asked_line asked (text_given given)) c.chunks g.chunks);
     }
 
-    more_lines : (ds : List Chunk) → text ++ chunk_lines range ds ≡ chunk_lines range (c.chunks ++ ds)
-    more_lines ds = ap (λ x. x ++ chunk_lines range ds) c.is ∙ sym (flat_map-append (asked_line range) c.chunks ds)
+    more_lines : (ds : List Chunk) → text ++ chunk_lines asked (text_given given) ds ≡ chunk_lines asked (text_given given) (c.chunks ++ ds)
+    more_lines ds = ap (λ x. x ++ chunk_lines asked (text_given given) ds) c.is ∙ sym (flat_map-append (asked_line asked (text_given given)) c.chunks ds)
 
     -- all chunks that are settled from there on, whether they were given or not
-    pub all-settled : (ds : List Chunk) → SettleAll (limits_in w) false (here_in w) (cuts_in w) ds → e.Settled given (text ++ chunk_lines range ds)
+    pub all-settled : (ds : List Chunk) → SettleAll (limits_in w) false (here_in w) (cuts_in w) ds → e.Settled given (text ++ chunk_lines asked (text_given given) ds)
     all-settled ds all = (
       c.chunks ++ ds,
       settle-all l false text_start (cuts given) c.chunks (here_in w) (cuts_in w) ds (rising given) (omega arith) c.settle
@@ -167,7 +216,7 @@ module _ (range : Option Part) (l : Limits) (cell : ℕ → Cell) (profile : Pro
     )
 
     -- and all that are left
-    pub all-whole : (ds : List Chunk) → SettleAll (limits_in w) true (here_in w) (cuts_in w) ds → e.Whole given (text ++ chunk_lines range ds)
+    pub all-whole : (ds : List Chunk) → SettleAll (limits_in w) true (here_in w) (cuts_in w) ds → e.Whole given (text ++ chunk_lines asked (text_given given) ds)
     all-whole ds all = (
       c.chunks ++ ds,
       settle-all l true text_start (cuts given) c.chunks (here_in w) (cuts_in w) ds (rising given) (omega arith) (settle-whole l text_start (cuts given) c.chunks (here_in w) (cuts_in w) c.settle)
@@ -187,10 +236,10 @@ module _ (range : Option Part) (l : Limits) (cell : ℕ → Cell) (profile : Pro
       let settle = settled.1.2 in
       let on = settle.go_on [] (λ _. refl) (subst (AreCutsPast 0) (sym (append-nil (cuts given))) (rising given)) in
       let rest = all-exist l true next left (subst (AreCutsPast next.start) (append-nil left) on.rising) (on.told (omega arith)) in (
-        chunk_lines range rest.0,
+        chunk_lines asked (text_given given) rest.0,
         (
           chunks ++ rest.0,
           settle-all l true text_start (cuts given) chunks next left rest.0 (rising given) (omega arith) (settle-whole l text_start (cuts given) chunks next left settle) rest.1,
-          ap (λ x. x ++ chunk_lines range rest.0) settled.2 ∙ sym (flat_map-append (asked_line range) chunks rest.0),
+          ap (λ x. x ++ chunk_lines asked (text_given given) rest.0) settled.2 ∙ sym (flat_map-append (asked_line asked (text_given given)) chunks rest.0),
         ),
       )

@@ -19,7 +19,9 @@ pub mod Known
 pub mod Chunking
 pub mod ChunkGiving
 pub mod ChunkRuns
+pub mod ChunkRanges
 pub mod ChunkLines
+pub mod Pushing
 pub mod Ranging
 mod Rows
 pub mod Headlines

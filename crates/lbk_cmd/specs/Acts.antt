@@ -38,6 +38,7 @@ use Rattle.lbk_files.specs.FileFault.{AreCellsFrom, LoadCounts}
 use Rattle.lbk_files.specs.Named.{files_of}
 use Rattle.lbk_files.specs.Ready.{IsStoppedAt}
 use Rattle.lbk_files.specs.declared.readiness.Ready.{Ready}
+use Rattle.lbk_cmd.specs.declared.chunked.Asked.{Asked}
 use Rattle.lbk_cmd.specs.declared.faults.CmdFault.{CmdFault}
 use Rattle.lbk_cmd.specs.declared.ending.Ending.{Ending}
 use Rattle.lbk_cmd.specs.declared.engine.Lines.{Lines}
@@ -73,11 +74,11 @@ abbrev pub Segments : (ℕ → Cell) → ℕ → Profile → Devices → Devices
 Segments cell limit profile =
     TextRuns (λ input before after. Appends before after (segment_text cell (passages profile cell (chars input)))) (by_passage (segmenting cell profile limit))
 
--- `chunk`, over the chunks of a range, if there is one
-abbrev pub Chunks : Option Part → Limits → (ℕ → Cell) → ℕ → Profile → Devices → Devices → Result (Unit {0}) CmdFault → Type 0
-Chunks range limits cell limit profile =
-    TextRuns (λ input before after. (out : List ℕ) × AreLinesOf range limits cell (passages profile cell (chars input)) out × Appends before after out)
-    (chunking range limits cell profile limit)
+-- `chunk`, as it is asked
+abbrev pub Chunks : Asked → Limits → (ℕ → Cell) → ℕ → Profile → Devices → Devices → Result (Unit {0}) CmdFault → Type 0
+Chunks asked limits cell limit profile =
+    TextRuns (λ input before after. (out : List ℕ) × AreLinesOf asked limits cell (passages profile cell (chars input)) out × Appends before after out)
+    (chunking asked limits cell profile limit)
 
 -- what `replay` does
 pub record Replays (cell : ℕ → Cell) (form : Form) (profile : Profile) (before after : Devices) (answer : Result Report ReplayFault) : Type 0 where
@@ -106,9 +107,9 @@ ShowsSamples before after ending =
     × ((answer : Result (Unit {0}) CmdFault) × Shows cell default_limit First before after answer × (ending ≡ ending_of_text answer)))
 
 -- `chunk` runs, and the run ends as its answer says
-abbrev pub ChunksEnd : Option Part → Limits → (ℕ → Cell) → ℕ → Profile → Devices → Devices → Ending → Type 0
-ChunksEnd range limits cell limit profile before after ending =
-    (answer : Result (Unit {0}) CmdFault) × Chunks range limits cell limit profile before after answer × (ending ≡ ending_of_text answer)
+abbrev pub ChunksEnd : Asked → Limits → (ℕ → Cell) → ℕ → Profile → Devices → Devices → Ending → Type 0
+ChunksEnd asked limits cell limit profile before after ending =
+    (answer : Result (Unit {0}) CmdFault) × Chunks asked limits cell limit profile before after answer × (ending ≡ ending_of_text answer)
 
 -- the engine runs with its option, `mark` with this sign, and the run ends as its answer says
 abbrev pub EngineRuns : Engine → List ℕ → Profile → (ℕ → Cell) → Devices → Devices → Ending → Type 0
@@ -118,7 +119,8 @@ EngineRuns (Show limit) mark profile cell before after ending =
     (answer : Result (Unit {0}) CmdFault) × Shows cell limit profile before after answer × (ending ≡ ending_of_text answer)
 EngineRuns (Segment limit) mark profile cell before after ending =
     (answer : Result (Unit {0}) CmdFault) × Segments cell limit profile before after answer × (ending ≡ ending_of_text answer)
-EngineRuns (Chunk limit sizes) mark profile cell before after ending = ChunksEnd None (limits_of sizes) cell limit profile before after ending
+EngineRuns (Chunk limit sizes texts) mark profile cell before after ending =
+    ChunksEnd (record { range = None; texts = texts }) (limits_of sizes) cell limit profile before after ending
 EngineRuns (Replay kinds) mark profile cell before after ending =
     (answer : Result Report ReplayFault) × Replays cell (form_of kinds) profile before after answer × (ending ≡ ending_of_replay answer)
 
@@ -133,7 +135,8 @@ RunsOver None engine mark profile cell = EngineRuns engine mark profile cell
 RunsOver (Some part) (Mark limit) mark profile cell = RangeEnds part (marking mark cell profile limit)
 RunsOver (Some part) (Show limit) mark profile cell = RangeEnds part (showing cell profile limit)
 RunsOver (Some part) (Segment limit) mark profile cell = RangeEnds part (segmenting cell profile limit)
-RunsOver (Some part) (Chunk limit sizes) mark profile cell = ChunksEnd (Some part) (limits_of sizes) cell limit profile
+RunsOver (Some part) (Chunk limit sizes texts) mark profile cell =
+    ChunksEnd (record { range = Some part; texts = texts }) (limits_of sizes) cell limit profile
 RunsOver (Some part) (Replay kinds) mark profile cell = EngineRuns (Replay kinds) mark profile cell
 
 -- what a task runs over the text of a name, by cells

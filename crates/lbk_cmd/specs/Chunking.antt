@@ -1,15 +1,17 @@
 -- The lines of chunks that a window gives.
-use Rattle.std.specs.Prelude.{◌≡◌, ℕ, Bool, true, false, List, [], ◌++◌, take, Option, Result, Ok, Err}
+use Rattle.std.specs.Prelude.{◌≡◌, ℕ, ◌≤◌, Bool, true, false, List, [], ◌++◌, length, take, Option, Result, Ok, Err}
 use Rattle.std.specs.Io.KnownBytes.{Appends}
+use Rattle.std.specs.List.{AllByRecursion}
 use Rattle.lbk_chunks.specs.declared.chunk.Chunk.{Chunk}
 use Rattle.lbk_chunks.specs.Chunks.{cuts_past}
 use Rattle.lbk_chunk_reader.specs.declared.window.Window.{Window}
 use Rattle.lbk_chunk_reader.specs.Settled.{IsOpen, Settle, SettleAll}
-use Rattle.lbk_chunk_reader.specs.Window.{cuts_in, here_in, limits_in, words_in}
+use Rattle.lbk_chunk_reader.specs.Between.{AreCutsBetween}
+use Rattle.lbk_chunk_reader.specs.Window.{Holds, cuts_in, here_in, keeps_text, limits_in, words_in}
 use Rattle.lbk_chunk_reader.specs.Standing.{Stands}
 use Rattle.lbk_passage.specs.State.{State}
-use Rattle.lbk_args.specs.declared.order.Part.{Part}
 use Rattle.lbk_cmd.specs.Chunk.{chunk_lines}
+use Rattle.lbk_cmd.specs.declared.chunked.Asked.{Asked}
 
 -- lines were written of those that waited and of more, and the others wait
 pub record Passes (written written' : Option (List ℕ)) (waiting waiting' line : List ℕ) : Type 0 where
@@ -17,14 +19,35 @@ pub record Passes (written written' : Option (List ℕ)) (waiting waiting' line 
   pub wrote : Appends written written' put
   pub is : put ++ waiting' ≡ waiting ++ line
 
--- a window gave chunks, whose lines wait or were written
-pub record Gave (range : Option Part) (is_whole : Bool) (old new : Window) (written written' : Option (List ℕ)) (waiting waiting' : List ℕ) : Type 0 where
+-- a write failed, and the front was written of the lines that waited and of this one
+abbrev pub Breaks : Option (List ℕ) → Option (List ℕ) → List ℕ → List ℕ → Type 0
+Breaks written written' waiting line = (n : ℕ) × Appends written written' (take n (waiting ++ line))
+
+-- a line stands behind those that waited, some of which may be written; or a write failed
+abbrev pub Pushes : {X Y : Type 0} → Result X Y → Option (List ℕ) → Option (List ℕ) → List ℕ → List ℕ → List ℕ → Type 0
+Pushes (Ok x) written written' waiting waiting' line = Passes written written' waiting waiting' line
+Pushes (Err y) written written' waiting waiting' line = Breaks written written' waiting line
+
+-- a chunk of a text
+abbrev pub IsIn : List ℕ → Chunk → Type 0
+IsIn text c = (c.start ≤ c.end) × (c.end ≤ length text)
+
+-- the cuts of a window stand in a text, which it keeps from its next start on if texts are asked for
+pub record StandsIn (asked : Asked) (text : List ℕ) (w : Window) : Type 0 where
+  pub keeps : keeps_text w ≡ asked.texts
+  pub holds : Holds text w
+  pub between : AreCutsBetween (here_in w).start (cuts_in w) (length text)
+
+-- a window gave chunks of a text, whose lines wait or were written
+pub record Gave (asked : Asked) (text : List ℕ) (is_whole : Bool) (old new : Window) (written written' : Option (List ℕ)) (waiting waiting' : List ℕ) : Type 0 where
   pub limits : limits_in new ≡ limits_in old
   pub words : words_in new ≡ words_in old
   pub chunks : List Chunk
+  pub within : AllByRecursion (IsIn text) chunks
+  pub stands_in : StandsIn asked text new
   pub stands : (s : State) → Stands old s is_whole → Stands new s is_whole
   pub settle : Settle (limits_in old) is_whole (here_in old) (cuts_in old) chunks (here_in new) (cuts_in new)
-  pub passes : Passes written written' waiting waiting' (chunk_lines range chunks)
+  pub passes : Passes written written' waiting waiting' (chunk_lines asked text chunks)
 
 -- no more chunk is settled, or none is left
 abbrev pub Rests : Bool → Window → Type 0
@@ -32,18 +55,18 @@ Rests true w = cuts_past (here_in w).told (cuts_in w) ≡ []
 Rests false w = IsOpen (limits_in w) (here_in w) (cuts_in w)
 
 -- a write failed: the front was written of the lines that waited and of those of all chunks that are settled
-pub record BreaksOff (range : Option Part) (is_whole : Bool) (old : Window) (written written' : Option (List ℕ)) (waiting : List ℕ) : Type 0 where
+pub record BreaksOff (asked : Asked) (text : List ℕ) (is_whole : Bool) (old : Window) (written written' : Option (List ℕ)) (waiting : List ℕ) : Type 0 where
   pub chunks : List Chunk
   pub all : SettleAll (limits_in old) is_whole (here_in old) (cuts_in old) chunks
   pub count : ℕ
-  pub wrote : Appends written written' (take count (waiting ++ chunk_lines range chunks))
+  pub wrote : Appends written written' (take count (waiting ++ chunk_lines asked text chunks))
 
 -- the lines that waited were written, and those of all chunks that are left
-pub record WritesAll (range : Option Part) (old : Window) (written written' : Option (List ℕ)) (waiting : List ℕ) : Type 0 where
+pub record WritesAll (asked : Asked) (text : List ℕ) (old : Window) (written written' : Option (List ℕ)) (waiting : List ℕ) : Type 0 where
   pub chunks : List Chunk
   pub all : SettleAll (limits_in old) true (here_in old) (cuts_in old) chunks
-  pub wrote : Appends written written' (waiting ++ chunk_lines range chunks)
+  pub wrote : Appends written written' (waiting ++ chunk_lines asked text chunks)
 
-abbrev pub Gives : {X Y : Type 0} → Option Part → Bool → Window → Window → Option (List ℕ) → Option (List ℕ) → List ℕ → List ℕ → Result X Y → Type 0
-Gives range is_whole old new written written' waiting waiting' (Ok x) = Gave range is_whole old new written written' waiting waiting' × Rests is_whole new
-Gives range is_whole old new written written' waiting waiting' (Err y) = BreaksOff range is_whole old written written' waiting
+abbrev pub Gives : {X Y : Type 0} → Asked → List ℕ → Bool → Window → Window → Option (List ℕ) → Option (List ℕ) → List ℕ → List ℕ → Result X Y → Type 0
+Gives asked text is_whole old new written written' waiting waiting' (Ok x) = Gave asked text is_whole old new written written' waiting waiting' × Rests is_whole new
+Gives asked text is_whole old new written written' waiting waiting' (Err y) = BreaksOff asked text is_whole old written written' waiting

@@ -25,4 +25,5 @@ pub mod Signing
 pub mod ReadBack
 pub mod Placing
 pub mod Waiting
+pub mod Objects
 pub mod Chunking

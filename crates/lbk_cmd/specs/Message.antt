@@ -96,7 +96,7 @@ abbrev pub limit_of_engine : Engine → Option ℕ
 limit_of_engine (Mark limit) = Some limit
 limit_of_engine (Show limit) = Some limit
 limit_of_engine (Segment limit) = Some limit
-limit_of_engine (Chunk limit sizes) = Some limit
+limit_of_engine (Chunk limit sizes texts) = Some limit
 limit_of_engine (Replay kinds) = None
 
 abbrev pub limit_of : Caller → Option ℕ

@@ -1,11 +1,11 @@
-//! The chunks of a text (`lbk_chunks`), a line for each.
+//! The chunks of a text (`lbk_chunks`), a line or an object for each.
 
-ghost use Rattle.std.specs.Prelude.{◌≡◌, ◌≤◌, OnErr, OnOk, true};
+ghost use Rattle.std.specs.Prelude.{◌≡◌, ℕ, ◌≤◌, List, OnErr, OnOk, true};
 ghost use Rattle.lbk_feed.specs.Devices.{failures_after};
 ghost use Rattle.lbk_chunks.specs.Cuts.{AreCutsPast};
 ghost use Rattle.lbk_chunk_reader.specs.Window.{cuts_in, here_in};
 ghost use Rattle.lbk_cmd.specs.Acts.{Chunks};
-ghost use Rattle.lbk_cmd.specs.Chunking.{BreaksOff, Gives, WritesAll};
+ghost use Rattle.lbk_cmd.specs.Chunking.{BreaksOff, Gives, StandsIn, WritesAll};
 ghost use Rattle.lbk_cmd.specs.Devices.{devices_of};
 ghost use Rattle.lbk_cmd.specs.Waiting.{waiting_in};
 
@@ -19,15 +19,26 @@ use lbk_passage::Segmenter;
 use lbk_rules::{CellSource, Profile};
 use std::alloc::Global;
 
+/// What is asked of the chunks of a text.
+#[derive(Clone, Copy, Debug, PartialEq, Eq)]
+pub struct Asked {
+    /// Only chunks that begin in this range are written; all of them without one.
+    pub range: Option<Part>,
+    /// Whether each is written as an object with its text.
+    pub texts: bool,
+}
+
 /// Writes the chunks of a text: for each a line `C` with its first byte and the byte after its last, how many words
 /// it has, and the kind and the rule of the line break at its end (UAX #14, section 6). Offsets count bytes of the
-/// whole text. With a range only chunks that begin in it have a line; the whole text is read.
+/// whole text. With a range only chunks that begin in it are written; the whole text is read.
+///
+/// With texts each line is an object of JSON instead: its members are `start`, `end`, `words` and `text`.
 ///
 /// The lines of the chunks that what was read settles are written before the next read, and before a fault is
 /// returned: a chunk's once a break behind its end is known. `limit` and the faults are as in `show`.
 pub fn chunk<R: Source, W: Sink, C: CellSource>(
     limits: Limits,
-    range: Option<Part>,
+    asked: Asked,
     alloc: Global,
     reader: &mut R,
     writer: &mut W,
@@ -35,18 +46,18 @@ pub fn chunk<R: Source, W: Sink, C: CellSource>(
     limit: u32,
     profile: Profile,
 ) -> Result<(), CmdFault>
-    ensures { Chunks range limits (C.cell_of cells.now) limit profile
+    ensures { Chunks asked limits (C.cell_of cells.now) limit profile
         (devices_of R.Source W.Sink reader.old writer.old) (devices_of R.Source W.Sink reader.new writer.new) result }
 {
     let mut segmenter = Segmenter::new(alloc, cells, limit, profile)?;
-    let mut window = Window::new(alloc, limits);
+    let mut window = Window::new(alloc, limits, asked.texts);
     let mut waiting = Waiting::new();
     loop {
         waiting.write_due(&mut segmenter, writer)?;
         match window.take_next(&mut segmenter, reader) {
-            Ok(true) => write_chunks(range, &mut window, &mut waiting, false, writer)?,
+            Ok(true) => write_chunks(asked, &mut window, &mut waiting, false, writer)?,
             Ok(false) => {
-                write_last(range, &mut window, &mut waiting, writer)?;
+                write_last(asked, &mut window, &mut waiting, writer)?;
                 return Ok(());
             }
             Err(fault) => {
@@ -59,27 +70,29 @@ pub fn chunk<R: Source, W: Sink, C: CellSource>(
 
 /// Writes the lines that wait, and those of the chunks that are left.
 fn write_last<W: Sink>(
-    range: Option<Part>,
+    asked: Asked,
     window: &mut Window,
     waiting: &mut Waiting,
     writer: &mut W,
 ) -> Result<(), Failed>
     requires rising { AreCutsPast (here_in window.old).start (cuts_in window.old) }
     requires told { (here_in window.old).start ≤ (here_in window.old).told }
-    ensures all { OnOk result (WritesAll range window.old (W.written writer.old) (W.written writer.new)
+    ensures all { (text : List ℕ) → StandsIn asked text window.old
+        → OnOk result (WritesAll asked text window.old (W.written writer.old) (W.written writer.new)
         (waiting_in waiting.old)) }
-    ensures front { OnErr result (BreaksOff range true window.old (W.written writer.old) (W.written writer.new)
+    ensures front { (text : List ℕ) → StandsIn asked text window.old
+        → OnErr result (BreaksOff asked text true window.old (W.written writer.old) (W.written writer.new)
         (waiting_in waiting.old)) }
     ensures failures { W.failure_count writer.new ≡ failures_after (W.failure_count writer.old) result }
 {
-    write_chunks(range, window, waiting, true, writer)?;
+    write_chunks(asked, window, waiting, true, writer)?;
     waiting.write(writer)?;
     Ok(())
 }
 
 /// Puts the lines of the chunks that are settled behind those that wait.
 fn write_chunks<W: Sink>(
-    range: Option<Part>,
+    asked: Asked,
     window: &mut Window,
     waiting: &mut Waiting,
     is_whole: bool,
@@ -87,12 +100,13 @@ fn write_chunks<W: Sink>(
 ) -> Result<(), Failed>
     requires rising { AreCutsPast (here_in window.old).start (cuts_in window.old) }
     requires told { (here_in window.old).start ≤ (here_in window.old).told }
-    ensures gives { Gives range is_whole window.old window.new (W.written writer.old) (W.written writer.new)
+    ensures gives { (text : List ℕ) → StandsIn asked text window.old
+        → Gives asked text is_whole window.old window.new (W.written writer.old) (W.written writer.new)
         (waiting_in waiting.old) (waiting_in waiting.new) result }
     ensures failures { W.failure_count writer.new ≡ failures_after (W.failure_count writer.old) result }
 {
     while let Some(chunk) = window.next(is_whole) {
-        waiting.push(range, &chunk, writer)?;
+        waiting.push(asked.range, &chunk, window.text_of(&chunk), writer)?;
     }
     Ok(())
 }

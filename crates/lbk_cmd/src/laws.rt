@@ -1,7 +1,8 @@
 //! What the calls amount to together, over definitions only. Each law is the contract of a function that does
 //! nothing.
 
-ghost use Rattle.std.specs.Prelude.{ℕ, ◌+◌, ◌*◌, ◌≤◌, ◌↔◌, ◌∷◌, List, [], Option, Some, length, encode_utf8_all, ◌≡◌};
+ghost use Rattle.std.specs.Prelude.{ℕ, ◌+◌, ◌*◌, ◌≤◌, ◌↔◌, ◌∷◌, Bool, List, [], Option, None, Some, length, encode_utf8_all};
+ghost use Rattle.std.specs.Prelude.{◌≡◌};
 ghost use Rattle.std.specs.Char.{IsScalar};
 ghost use Rattle.std.specs.List.{AllByRecursion, flat_map};
 ghost use Rattle.lbk_notation.specs.declared.marks.Form.TheVariants.{Kinds};
@@ -26,6 +27,11 @@ ghost use Rattle.lbk_cmd.specs.Ranges.{AreRanges, end_of_ranges, text_by_ranges,
 ghost use Rattle.lbk_cmd.specs.declared.engine.Lines.{Lines};
 ghost use Rattle.lbk_cmd.specs.Segment.{segmented_passage};
 ghost use Rattle.lbk_cmd.specs.Texts.{lines_from, segment_text, show_text, signed_text};
+ghost use Rattle.lbk_chunks.specs.declared.chunk.Chunk.{Chunk};
+ghost use Rattle.lbk_chunks.specs.declared.chunk.Limits.{Limits};
+ghost use Rattle.lbk_chunks.specs.Chunks.{AreChunks, text_start};
+ghost use Rattle.lbk_chunk_reader.specs.Cuts.{cuts_of_passages};
+ghost use Rattle.lbk_cmd.specs.Chunk.{chunk_lines, lines_by_ranges};
 ghost use Rattle.lbk_args.specs.Task.{Task};
 ghost use Rattle.lbk_files.specs.FileFault.{LoadCounts};
 ghost use Rattle.lbk_cmd.specs.Acts.{Performs, PerformsAlone};
@@ -98,6 +104,17 @@ pub fn joined_ranges()
         → AreRanges from tos
         → text_by_ranges (lines_of lines cell) from tos (passages profile cell text)
         ≡ text_within (lines_of lines cell) from (end_of_ranges from tos) (passages profile cell text) }
+{}
+
+/// What `chunk` writes of the chunks of ranges, each of which begins where the one before it ends, is, joined, what it
+/// writes of all chunks: over ranges that tile a text, what it writes of the text.
+pub fn joined_ranges_of_chunks()
+    ensures { (texts : Bool) (limits : Limits) (cell : ℕ → Cell) (passages : List (List Marked)) (chunks : List Chunk)
+        (tos : List ℕ)
+        → AreChunks limits (cuts_of_passages cell 0 0 passages) text_start chunks
+        → AreRanges 0 tos → length (flat_map text_of passages) ≤ end_of_ranges 0 tos
+        → lines_by_ranges texts (flat_map text_of passages) 0 tos chunks
+        ≡ chunk_lines (record { range = None; texts = texts }) (flat_map text_of passages) chunks }
 {}
 
 /// A task that names no text has one meaning: with files of text, whatever they are, `run_over_texts` does what `run`

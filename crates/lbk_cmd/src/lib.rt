@@ -10,6 +10,7 @@ mod faults;
 mod gathered;
 pub mod laws;
 mod message;
+mod objects;
 mod offsets;
 mod operands;
 mod owned;
@@ -25,7 +26,7 @@ mod titles;
 mod waiting;
 
 pub use broken::{BreakFault, break_text};
-pub use chunked::chunk;
+pub use chunked::{Asked, chunk};
 pub use command::{run, run_over_texts};
 pub use ending::{Ending, RunFault};
 pub use engine::{mark, mark_with, segment, show};

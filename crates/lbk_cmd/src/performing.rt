@@ -9,7 +9,7 @@ ghost use Rattle.lbk_cmd.specs.Engines.{engine_of};
 ghost use Rattle.lbk_cmd.specs.Operands.{Reads, ReadsText, ReadsTexts, refused_after, standing};
 ghost use Rattle.lbk_cmd.specs.declared.ending.Ending.TheVariants.{Done};
 
-use super::chunked::chunk;
+use super::chunked::{Asked, chunk};
 use super::ending::{Ending, RunFault};
 use super::engine::{Lines, mark_with, segment, show};
 use super::operands::Texts;
@@ -168,9 +168,16 @@ fn perform_one<R: Source, W: Sink>(
             reader,
             writer,
         ),
-        Engine::Chunk { limit, sizes } => perform_chunk(
+        Engine::Chunk {
+            limit,
+            sizes,
+            texts,
+        } => perform_chunk(
             alloc,
-            Some(part),
+            Asked {
+                range: Some(part),
+                texts,
+            },
             sizes,
             limit,
             ready,
@@ -181,23 +188,23 @@ fn perform_one<R: Source, W: Sink>(
     }
 }
 
-/// Writes the chunks of one text, or those that begin in a range of it.
+/// Writes the chunks of one text, as they are asked for.
 #[tactic(none)]
 fn perform_chunk<R: Source, W: Sink>(
     alloc: Global,
-    range: Option<Part>,
+    asked: Asked,
     sizes: Sizes,
     limit: u32,
     ready: &Ready<'_>,
     reader: &mut R,
     writer: &mut W,
 ) -> Ending
-    ensures { ChunksEnd range (limits_of sizes) (page_cell ready.now.cells) limit ready.now.profile
+    ensures { ChunksEnd asked (limits_of sizes) (page_cell ready.now.cells) limit ready.now.profile
         (devices_of R.Source W.Sink reader.old writer.old) (devices_of R.Source W.Sink reader.new writer.new) result }
 {
     Ending::of_text(chunk(
         limits(sizes),
-        range,
+        asked,
         alloc,
         reader,
         writer,
@@ -283,8 +290,18 @@ fn perform_whole<R: Source, W: Sink>(
             limit,
             ready.profile,
         )),
-        Engine::Chunk { limit, sizes } => perform_chunk(
-            alloc, None, sizes, limit, ready, reader, writer,
+        Engine::Chunk {
+            limit,
+            sizes,
+            texts,
+        } => perform_chunk(
+            alloc,
+            Asked { range: None, texts },
+            sizes,
+            limit,
+            ready,
+            reader,
+            writer,
         ),
         Engine::Replay { kinds } => Ending::of_replay(replay(
             alloc,

@@ -1,16 +1,18 @@
 //! The lines of chunks, which wait in a buffer of fixed size: no memory grows for them.
 
 ghost use Rattle.std.specs.Prelude.{◌≡◌, ◌⊎◌, ℕ, ◌+◌, ◌≤◌, ◌++◌, ◌∷◌, [], length, take, decimal, true};
-ghost use Rattle.std.specs.Prelude.{OnErr, OnOk};
+ghost use Rattle.std.specs.Prelude.{OnErr, OnOk, option_map};
 ghost use Rattle.std.specs.Io.KnownBytes.{Appends};
 ghost use Rattle.lbk_feed.specs.Devices.{failures_after};
 ghost use Rattle.lbk_passage.specs.Shown.{state_of};
 ghost use Rattle.lbk_chunk_reader.specs.Numbered.{numbered_chunk};
-ghost use Rattle.lbk_cmd.specs.Chunk.{asked_line, chunk_line, is_asked};
-ghost use Rattle.lbk_cmd.specs.Chunking.{Passes};
+ghost use Rattle.json.specs.Print.{escape};
+ghost use Rattle.lbk_cmd.specs.Chunk.{chunk_line, is_asked, line_in, object_line};
+ghost use Rattle.lbk_cmd.specs.Chunking.{Pushes};
 ghost use Rattle.lbk_cmd.specs.Gathering.{HasWritten};
 ghost use Rattle.lbk_cmd.specs.Placing.{Placed};
 
+use super::objects::{place_escaped, place_front_of_object};
 use super::placing::{place_byte, place_few, place_front};
 use super::segmented::place_kind;
 use itoa::write_digits;
@@ -87,26 +89,82 @@ impl Waiting {
         self.write(writer)
     }
 
-    /// Puts the line of a chunk behind the others, if it is asked for. These are written where no room is left for it.
+    /// Puts the line of a chunk behind the others, if it is asked for: an object where its text is given.
     pub fn push<W: Sink>(
         &mut self,
         range: Option<Part>,
         chunk: &Chunk,
+        text: Option<&[u8]>,
         writer: &mut W,
     ) -> Result<(), Failed>
-        ensures line { OnOk result (Passes (W.written writer.old) (W.written writer.new) (waiting_in self.old)
-            (waiting_in self.new) (asked_line range (numbered_chunk chunk.now))) }
-        ensures front { OnErr result
-            ((n : ℕ) × Appends (W.written writer.old) (W.written writer.new) (take n (waiting_in self.old))) }
+        ensures line { Pushes result (W.written writer.old) (W.written writer.new) (waiting_in self.old)
+            (waiting_in self.new) (line_in range (option_map (λ bytes. bytes.now) text.entry) (numbered_chunk chunk.now)) }
         ensures failures { W.failure_count writer.new ≡ failures_after (W.failure_count writer.old) result }
     {
         if !is_asked(range, chunk.start) {
             return Ok(());
         }
+        match text {
+            None => self.push_place(chunk, writer),
+            Some(text) => self.push_object(chunk, text, writer),
+        }
+    }
+
+    /// Puts the line of a chunk's place behind the others.
+    fn push_place<W: Sink>(&mut self, chunk: &Chunk, writer: &mut W) -> Result<(), Failed>
+        ensures line { Pushes result (W.written writer.old) (W.written writer.new) (waiting_in self.old)
+            (waiting_in self.new) (chunk_line (numbered_chunk chunk.now)) }
+        ensures failures { W.failure_count writer.new ≡ failures_after (W.failure_count writer.old) result }
+    {
+        self.make_room(writer)?;
+        self.len = place_chunk(&mut self.bytes, self.len, chunk);
+        Ok(())
+    }
+
+    /// Puts the object of a chunk with this text behind the others.
+    fn push_object<W: Sink>(
+        &mut self,
+        chunk: &Chunk,
+        text: &[u8],
+        writer: &mut W,
+    ) -> Result<(), Failed>
+        ensures line { Pushes result (W.written writer.old) (W.written writer.new) (waiting_in self.old)
+            (waiting_in self.new) (object_line text.now (numbered_chunk chunk.now)) }
+        ensures failures { W.failure_count writer.new ≡ failures_after (W.failure_count writer.old) result }
+    {
+        self.make_room(writer)?;
+        self.len = place_front_of_object(&mut self.bytes, self.len, chunk);
+        self.push_escaped(text, writer)?;
+        self.make_room(writer)?;
+        self.len = place_front(&mut self.bytes, self.len, *b"\"}\n ", 3);
+        Ok(())
+    }
+
+    /// Puts what stands for a text in a string of JSON behind the lines.
+    fn push_escaped<W: Sink>(&mut self, text: &[u8], writer: &mut W) -> Result<(), Failed>
+        ensures line { Pushes result (W.written writer.old) (W.written writer.new) (waiting_in self.old)
+            (waiting_in self.new) (escape text.now) }
+        ensures failures { W.failure_count writer.new ≡ failures_after (W.failure_count writer.old) result }
+    {
+        let mut left = text;
+        while let Some((byte, rest)) = left.split_first() {
+            self.make_room(writer)?;
+            self.len = place_escaped(&mut self.bytes, self.len, *byte);
+            left = rest;
+        }
+        Ok(())
+    }
+
+    /// Writes the lines where no room is left for one more.
+    fn make_room<W: Sink>(&mut self, writer: &mut W) -> Result<(), Failed>
+        ensures line { Pushes result (W.written writer.old) (W.written writer.new) (waiting_in self.old)
+            (waiting_in self.new) [] }
+        ensures room { OnOk result (self.new.len + 128 ≤ 16384) }
+        ensures failures { W.failure_count writer.new ≡ failures_after (W.failure_count writer.old) result }
+    {
         if self.len > ROOM - LINE {
             self.write(writer)?;
         }
-        self.len = place_chunk(&mut self.bytes, self.len, chunk);
         Ok(())
     }
 }
@@ -139,7 +197,7 @@ fn place_chunk(line: &mut [u8], at: usize, chunk: &Chunk) -> usize
 }
 
 /// Places the digits of a number.
-fn place_number(line: &mut [u8], at: usize, number: usize) -> usize
+pub(crate) fn place_number(line: &mut [u8], at: usize, number: usize) -> usize
     requires { at + 20 ≤ length line.old }
     ensures placed { Placed line.old line.new at (decimal number) result }
     ensures short { result ≤ at + 20 }

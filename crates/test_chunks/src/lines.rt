@@ -5,7 +5,7 @@ use crate::rows::ROWS;
 use lbk_args::Part;
 use lbk_chunk_reader::Window;
 use lbk_chunks::Limits;
-use lbk_cmd::{CmdFault, chunk};
+use lbk_cmd::{Asked, CmdFault, chunk};
 use lbk_feed::devices::{MemorySink, MemorySource};
 use lbk_files::{SAMPLE_FILES, read_cells};
 use lbk_passage::{PassageFault, Segmenter};
@@ -18,7 +18,7 @@ use test_support::checks::same;
 fn check(
     alloc: Global,
     cells: &CellPages,
-    range: Option<Part>,
+    asked: Asked,
     text: &[u8],
     sizes: &[usize],
     want: (&str, Result<(), CmdFault>),
@@ -27,7 +27,7 @@ fn check(
     let mut writer = MemorySink::new(alloc, 1024)?;
     let answer = chunk(
         limits_of(&[4, 0, 2, 0]),
-        range,
+        asked,
         alloc,
         &mut reader,
         &mut writer,
@@ -39,13 +39,25 @@ fn check(
     same(&answer, &want.1, &sizes)
 }
 
+/// All chunks, a line for each.
+const LINES: Asked = Asked {
+    range: None,
+    texts: false,
+};
+
+/// All chunks, an object for each.
+const OBJECTS: Asked = Asked {
+    range: None,
+    texts: true,
+};
+
 #[test]
 fn lines_in_all_reads(rt: HostRuntime) -> Result<(), Fail> {
     let cells = read_cells(rt.alloc(), SAMPLE_FILES)?;
     let text = b"aa bb\ncc";
     let lines = "C 0 3 1 May 18\nC 3 6 1 Must 5\nC 6 8 1 Must 3\n";
     for sizes in &cuttings(rt.alloc(), text.len())? {
-        check(rt.alloc(), &cells, None, text, sizes, (lines, Ok(())))?;
+        check(rt.alloc(), &cells, LINES, text, sizes, (lines, Ok(())))?;
     }
     Ok(())
 }
@@ -54,8 +66,40 @@ fn lines_in_all_reads(rt: HostRuntime) -> Result<(), Fail> {
 fn lines_of_a_range(rt: HostRuntime) -> Result<(), Fail> {
     let cells = read_cells(rt.alloc(), SAMPLE_FILES)?;
     let range = Some(Part { from: 1, to: 6 });
+    let text = b"aa bb\ncc";
     let want = ("C 3 6 1 Must 5\n", Ok(()));
-    check(rt.alloc(), &cells, range, b"aa bb\ncc", &[8], want)
+    check(
+        rt.alloc(),
+        &cells,
+        Asked { range, ..LINES },
+        text,
+        &[8],
+        want,
+    )?;
+    let want = (
+        "{\"start\":3,\"end\":6,\"words\":1,\"text\":\"bb\\n\"}\n",
+        Ok(()),
+    );
+    check(
+        rt.alloc(),
+        &cells,
+        Asked { range, ..OBJECTS },
+        text,
+        &[8],
+        want,
+    )
+}
+
+#[test]
+fn objects_in_all_reads(rt: HostRuntime) -> Result<(), Fail> {
+    let cells = read_cells(rt.alloc(), SAMPLE_FILES)?;
+    let text = b"\"\\\x1F a\nb\x7F";
+    let lines = "{\"start\":0,\"end\":4,\"words\":0,\"text\":\"\\\"\\\\\\u001f \"}\n\
+        {\"start\":4,\"end\":8,\"words\":2,\"text\":\"a\\nb\x7F\"}\n";
+    for sizes in &cuttings(rt.alloc(), text.len())? {
+        check(rt.alloc(), &cells, OBJECTS, text, sizes, (lines, Ok(())))?;
+    }
+    Ok(())
 }
 
 #[test]
@@ -63,7 +107,7 @@ fn lines_before_a_fault(rt: HostRuntime) -> Result<(), Fail> {
     let cells = read_cells(rt.alloc(), SAMPLE_FILES)?;
     let fault = CmdFault::Passage(PassageFault::NotUtf8 { at: 8 });
     let want = ("C 0 3 1 May 18\n", Err(fault));
-    check(rt.alloc(), &cells, None, b"aa bb\ncc\xFF", &[9], want)
+    check(rt.alloc(), &cells, LINES, b"aa bb\ncc\xFF", &[9], want)
 }
 
 /// The chunks of a text by a window.
@@ -77,7 +121,7 @@ fn by_window(
     let Ok(mut segmenter) = Segmenter::new(alloc, cells, LIMIT, Profile::First) else {
         return Err(Fail::new(format_args!("no segmenter")));
     };
-    let mut window = Window::new(alloc, limits);
+    let mut window = Window::new(alloc, limits, false);
     let mut reader = MemorySource::new(text);
     for _ in 0..u64::MAX {
         let came = matches!(window.take_next(&mut segmenter, &mut reader), Ok(true));
@@ -100,12 +144,14 @@ fn of_one_passage(alloc: Global, cells: &CellPages, text: &[u8]) -> Result<Strin
     let Ok(mut segmenter) = Segmenter::new(alloc, cells, LIMIT, Profile::First) else {
         return Err(Fail::new(format_args!("no segmenter")));
     };
-    let mut window = Window::new(alloc, limits_of(&[4, 0, 0, 0]));
+    let mut window = Window::new(alloc, limits_of(&[4, 0, 0, 0]), true);
     if let Ok(Some(passage)) = segmenter.next(&mut MemorySource::new(text)) {
         window.take(&passage)?;
     }
     if let Some(chunk) = window.next(true) {
         push_told(&mut line, &chunk)?;
+        let text = window.text_of(&chunk).unwrap_or(b"");
+        line.push_str(str::from_utf8(text).unwrap_or("ill-formed"))?;
     }
     Ok(line)
 }
@@ -118,5 +164,5 @@ fn windows(rt: HostRuntime) -> Result<(), Fail> {
         same(&line.as_str(), want, text)?;
     }
     let line = of_one_passage(rt.alloc(), &cells, b"aa bb\ncc")?;
-    same(&line.as_str(), &"0-3:1", &line)
+    same(&line.as_str(), &"0-3:1aa ", &line)
 }

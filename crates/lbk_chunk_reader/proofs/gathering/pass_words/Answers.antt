@@ -1,4 +1,4 @@
-use Rattle.std.proofs.Common.{◌≡◌, ◌+◌, ◌∙◌, false, true, subst, sym, arith}
+use Rattle.std.proofs.Common.{◌≡◌, ◌+◌, false, true, subst, arith}
 use Rattle.lbk_chunk_reader.specs.Pieces.{ArePassed}
 use Rattle.lbk_chunk_reader.proofs.WordLemmas.{counted-on, passed-none, passed-on}
 use Rattle.lbk_chunk_reader.proofs.gathering.pass_words.Goals as goal

@@ -1,5 +1,4 @@
 use Rattle.std.proofs.Common.{◌+◌, ◌<◌, ◌^◌, ◌∙◌, arith, length, sym}
-use Rattle.std.proofs.lemmas.Grind.{common_steps}
 use Rattle.lbk_chunk_reader.specs.PassageWords.{words_in_pieces}
 use Rattle.lbk_chunk_reader.proofs.WordLemmas.{no-items, pushed-all, pushed-none, pushed-on, pushed-over}
 use Rattle.lbk_chunk_reader.proofs.gathering.push_cuts.Goals as goal

@@ -1,4 +1,4 @@
-use Rattle.std.proofs.Common.{◌≡◌, ◌≤◌, length, vec_len}
+use Rattle.std.proofs.Common.{◌≤◌, length, vec_len}
 use Rattle.lbk_chunk_reader.specs.Pieces.{IsRegular}
 use Rattle.lbk_chunk_reader.proofs.WordLemmas.{ArePushed}
 use Rattle.lbk_chunk_reader.proofs.gathering.push_cuts.Given as goal

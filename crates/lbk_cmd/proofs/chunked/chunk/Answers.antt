@@ -1,4 +1,4 @@
-use Rattle.std.proofs.Common.{◌≤◌, ◌∙◌, ◌⊎◌, List, ℕ, Ok, Err, true, false, refl, sym, ap, subst, inl, inr, ⊎_elim, arith, rules}
+use Rattle.std.proofs.Common.{◌≤◌, ◌∙◌, List, ℕ, Ok, Err, true, false, refl, sym, ap, subst, inl, inr, ⊎_elim, arith, rules}
 use Rattle.std.proofs.lemmas.Result.{err_from_is_err_and}
 use Rattle.lbk_feed.specs.Devices.{count_up, failures_after}
 use Rattle.lbk_passage.specs.Shown.{state_of}
@@ -6,12 +6,12 @@ use Rattle.lbk_chunks.specs.Cuts.{AreCutsPast}
 use Rattle.lbk_chunk_reader.specs.Taking.{TakesNext}
 use Rattle.lbk_chunk_reader.specs.Window.{cuts_in, here_in, words_in}
 use Rattle.lbk_cmd.specs.Chunk.{chunking}
-use Rattle.lbk_cmd.specs.Chunking.{BreaksOff, WritesAll}
+use Rattle.lbk_cmd.specs.Chunking.{BreaksOff, StandsIn, WritesAll}
 use Rattle.lbk_cmd.specs.Run.{failed_reads_with}
 use Rattle.lbk_cmd.specs.Waiting.{waiting_in}
 use Rattle.lbk_cmd.specs.declared.faults.CmdFault.TheVariants as cmd
-use Rattle.lbk_cmd.proofs.Chunking.{chunks_finish, none_settled}
-use Rattle.lbk_cmd.proofs.ChunkRuns.{Cuts, all-written, broken-off, came, cuts-due, cuts-new, end-met, ended-so, goes-on, known_chunks, last-broken-off, last-rising, last-told, most, no-limit, ok-no-limit, onward, refused, refused-failures, still-failures, then-rising, then-told, unwritten-lines, waited, write-no-limit}
+use Rattle.lbk_cmd.proofs.Chunking.{chunks_finish, none_settled, text_given}
+use Rattle.lbk_cmd.proofs.ChunkRuns.{Cuts, all-written, broken-off, came, cuts-due, cuts-new, end-met, ended-so, goes-on, known_chunks, last-broken-off, last-in, last-rising, last-told, most, no-limit, ok-no-limit, onward, refused, refused-failures, still-failures, then-in, then-rising, then-told, unwritten-lines, waited, write-no-limit}
 use Rattle.lbk_cmd.proofs.Gathering.{limit_kept}
 use Rattle.lbk_cmd.proofs.Looping.{ran_unwritten, run_none, whole_run}
 use Rattle.lbk_cmd.proofs.chunked.chunk.Goals as goal
@@ -23,8 +23,8 @@ returns-in_err-segmenter g c =
     record {
       shown = search rules;
       ended = search rules;
-      run = whole_run (run_none (chunking c.args.range c.args.limits cell c.args.profile c.args.limit)
-          _ _ (g.R.Source.reads_made c.args.reader.now) _ c.from_residual.result (none_settled c.args.range c.args.limits cell c.args.profile c.args.limit)
+      run = whole_run (run_none (chunking c.args.asked c.args.limits cell c.args.profile c.args.limit)
+          _ _ (g.R.Source.reads_made c.args.reader.now) _ c.from_residual.result (none_settled c.args.asked c.args.limits cell c.args.profile c.args.limit)
           c.in_err-segmenter.field-0.0 _ (exit.1 ∙ ap Err exit.2) c.in_err-segmenter.ensures.only);
       reads = search rules;
       limit = search rules;
@@ -42,8 +42,8 @@ loop-window-init g c =
     let s = state_of g.C.CellSource.cell_of c.in_ok-segmenter.segmenter in
     let window = c.new-window.result in
     record {
-      cuts = subst (λ (x : List ℕ). Cuts c.args.range c.args.limits cell c.args.profile c.args.limit u w reads s u w ended reads x window) (sym c.new-waiting.ensures)
-          (cuts-new c.args.range c.args.limits cell c.args.profile c.args.limit u w reads s ended window c.new-window.ensures c.in_ok-segmenter.ensures.state);
+      cuts = subst (λ (x : List ℕ). Cuts c.args.asked c.args.limits cell c.args.profile c.args.limit u w reads s u w ended reads x window) (sym c.new-waiting.ensures)
+          (cuts-new c.args.asked c.args.limits cell c.args.profile c.args.limit u w reads s ended window c.new-window.ensures.new c.new-window.ensures.keeps c.in_ok-segmenter.ensures.state);
       read_failures = refl;
       write_failures = refl;
     }
@@ -58,8 +58,8 @@ returns-in_err-write_due g c =
     rw is (record {
       shown = tt;
       ended = tt;
-      run = whole_run (ran_unwritten (chunking c.args.range c.args.limits cell c.args.profile c.args.limit) _ _ _ (state_of g.C.CellSource.cell_of l.segmenter) _ _ _ _ _ l.invariant.cuts.going
-          (chunks_finish c.args.range c.args.limits cell c.args.profile c.args.limit) (Unit {0}) _ front.0 front.1);
+      run = whole_run (ran_unwritten (chunking c.args.asked c.args.limits cell c.args.profile c.args.limit) _ _ _ (state_of g.C.CellSource.cell_of l.segmenter) _ _ _ _ _ l.invariant.cuts.going
+          (chunks_finish c.args.asked c.args.limits cell c.args.profile c.args.limit) (Unit {0}) _ front.0 front.1);
       reads = l.invariant.cuts.going.most;
       limit = limit_kept c.args.limit c.new.result c.in_ok-segmenter.segmenter c.in_ok-segmenter.was c.new.ensures.limit (Err cmd.Write) (write-no-limit (Err cmd.Write) refl);
       failed_reads = l.invariant.read_failures;
@@ -70,7 +70,7 @@ pub write_chunks-requires-clause-rising : goal.write_chunks-requires-clause-risi
 write_chunks-requires-clause-rising g c =
     let cell = g.C.CellSource.cell_of c.args.cells.now in
     let l = c.loop-window in
-    let d = cuts-due c.args.range c.args.limits cell c.args.profile c.args.limit _ _ _ (state_of g.C.CellSource.cell_of l.segmenter) (state_of g.C.CellSource.cell_of c.write_due.new.segmenter)
+    let d = cuts-due c.args.asked c.args.limits cell c.args.profile c.args.limit _ _ _ (state_of g.C.CellSource.cell_of l.segmenter) (state_of g.C.CellSource.cell_of c.write_due.new.segmenter)
     _ _ _ _ _ _ _ _ l.invariant.cuts c.write_due.ensures.state (⊎_elim inl (λ k. inr (k.0, ap g.W.Sink.written k.1, k.2)) c.in_ok-write_due.ensures.due) in
     let few : words_in l.window ≤ (state_of g.C.CellSource.cell_of c.write_due.new.segmenter).start = d.cuts.chunked.stands.words in
     let n = subst (TakesNext (state_of g.C.CellSource.cell_of c.write_due.new.segmenter) (state_of g.C.CellSource.cell_of c.take_next.new.segmenter)
@@ -84,7 +84,7 @@ pub write_chunks-requires-clause-told : goal.write_chunks-requires-clause-told
 write_chunks-requires-clause-told g c =
     let cell = g.C.CellSource.cell_of c.args.cells.now in
     let l = c.loop-window in
-    let d = cuts-due c.args.range c.args.limits cell c.args.profile c.args.limit _ _ _ (state_of g.C.CellSource.cell_of l.segmenter) (state_of g.C.CellSource.cell_of c.write_due.new.segmenter)
+    let d = cuts-due c.args.asked c.args.limits cell c.args.profile c.args.limit _ _ _ (state_of g.C.CellSource.cell_of l.segmenter) (state_of g.C.CellSource.cell_of c.write_due.new.segmenter)
     _ _ _ _ _ _ _ _ l.invariant.cuts c.write_due.ensures.state (⊎_elim inl (λ k. inr (k.0, ap g.W.Sink.written k.1, k.2)) c.in_ok-write_due.ensures.due) in
     let few : words_in l.window ≤ (state_of g.C.CellSource.cell_of c.write_due.new.segmenter).start = d.cuts.chunked.stands.words in
     let n = subst (TakesNext (state_of g.C.CellSource.cell_of c.write_due.new.segmenter) (state_of g.C.CellSource.cell_of c.take_next.new.segmenter)
@@ -98,7 +98,7 @@ pub loop-window-smaller : goal.loop-window-smaller
 loop-window-smaller g c =
     let cell = g.C.CellSource.cell_of c.args.cells.now in
     let l = c.loop-window in
-    let d = cuts-due c.args.range c.args.limits cell c.args.profile c.args.limit _ _ _ (state_of g.C.CellSource.cell_of l.segmenter) (state_of g.C.CellSource.cell_of c.write_due.new.segmenter)
+    let d = cuts-due c.args.asked c.args.limits cell c.args.profile c.args.limit _ _ _ (state_of g.C.CellSource.cell_of l.segmenter) (state_of g.C.CellSource.cell_of c.write_due.new.segmenter)
     _ _ _ _ _ _ _ _ l.invariant.cuts c.write_due.ensures.state (⊎_elim inl (λ k. inr (k.0, ap g.W.Sink.written k.1, k.2)) c.in_ok-write_due.ensures.due) in
     let few : words_in l.window ≤ (state_of g.C.CellSource.cell_of c.write_due.new.segmenter).start = d.cuts.chunked.stands.words in
     let n = subst (TakesNext (state_of g.C.CellSource.cell_of c.write_due.new.segmenter) (state_of g.C.CellSource.cell_of c.take_next.new.segmenter)
@@ -113,7 +113,7 @@ pub loop-window-preserved : goal.loop-window-preserved
 loop-window-preserved g c =
     let cell = g.C.CellSource.cell_of c.args.cells.now in
     let l = c.loop-window in
-    let d = cuts-due c.args.range c.args.limits cell c.args.profile c.args.limit _ _ _ (state_of g.C.CellSource.cell_of l.segmenter) (state_of g.C.CellSource.cell_of c.write_due.new.segmenter)
+    let d = cuts-due c.args.asked c.args.limits cell c.args.profile c.args.limit _ _ _ (state_of g.C.CellSource.cell_of l.segmenter) (state_of g.C.CellSource.cell_of c.write_due.new.segmenter)
     _ _ _ _ _ _ _ _ l.invariant.cuts c.write_due.ensures.state (⊎_elim inl (λ k. inr (k.0, ap g.W.Sink.written k.1, k.2)) c.in_ok-write_due.ensures.due) in
     let few : words_in l.window ≤ (state_of g.C.CellSource.cell_of c.write_due.new.segmenter).start = d.cuts.chunked.stands.words in
     let n = subst (TakesNext (state_of g.C.CellSource.cell_of c.write_due.new.segmenter) (state_of g.C.CellSource.cell_of c.take_next.new.segmenter)
@@ -121,7 +121,7 @@ loop-window-preserved g c =
     (g.R.Source.reads_made l.reader) (g.R.Source.reads_made c.take_next.new.reader) (g.R.Source.failure_count l.reader) (g.R.Source.failure_count c.take_next.new.reader)
     l.window c.take_next.new.self) (c.in-Ok-true.is ∙ ap Ok c.in-Ok-true.field-0-test) (c.take_next.ensures few) in
     let k = came _ _ _ _ _ _ _ _ _ _ _ _ _ _ _ _ _ _ _ _ _ _ d.cuts d.wait n in
-    let gives = c.in_ok-write_chunks-in-Ok-true.ensures.gives in
+    let gives = c.in_ok-write_chunks-in-Ok-true.ensures.gives _ (then-in _ _ _ _ _ _ _ _ _ _ _ _ _ _ _ _ _ _ _ _ _ _ d.cuts d.wait k) in
     record {
       cuts = goes-on _ _ _ _ _ _ _ _ _ _ _ _ _ _ _ _ _ _ _ _ _ _ d.cuts d.wait k c.write_chunks.new.window _ _ gives.0 gives.1;
       read_failures = k.none_failed ∙ l.invariant.read_failures;
@@ -133,7 +133,7 @@ pub returns-in_err-write_chunks-in-Ok-true : goal.returns-in_err-write_chunks-in
 returns-in_err-write_chunks-in-Ok-true g c =
     let cell = g.C.CellSource.cell_of c.args.cells.now in
     let l = c.loop-window in
-    let d = cuts-due c.args.range c.args.limits cell c.args.profile c.args.limit _ _ _ (state_of g.C.CellSource.cell_of l.segmenter) (state_of g.C.CellSource.cell_of c.write_due.new.segmenter)
+    let d = cuts-due c.args.asked c.args.limits cell c.args.profile c.args.limit _ _ _ (state_of g.C.CellSource.cell_of l.segmenter) (state_of g.C.CellSource.cell_of c.write_due.new.segmenter)
     _ _ _ _ _ _ _ _ l.invariant.cuts c.write_due.ensures.state (⊎_elim inl (λ k. inr (k.0, ap g.W.Sink.written k.1, k.2)) c.in_ok-write_due.ensures.due) in
     let few : words_in l.window ≤ (state_of g.C.CellSource.cell_of c.write_due.new.segmenter).start = d.cuts.chunked.stands.words in
     let n = subst (TakesNext (state_of g.C.CellSource.cell_of c.write_due.new.segmenter) (state_of g.C.CellSource.cell_of c.take_next.new.segmenter)
@@ -146,7 +146,7 @@ returns-in_err-write_chunks-in-Ok-true g c =
     rw is (record {
       shown = tt;
       ended = tt;
-      run = broken-off _ _ _ _ _ _ _ _ _ _ _ _ _ _ _ _ _ _ _ _ _ _ d.cuts d.wait k _ c.in_err-write_chunks-in-Ok-true.ensures.gives;
+      run = broken-off _ _ _ _ _ _ _ _ _ _ _ _ _ _ _ _ _ _ _ _ _ _ d.cuts d.wait k _ (c.in_err-write_chunks-in-Ok-true.ensures.gives _ (then-in _ _ _ _ _ _ _ _ _ _ _ _ _ _ _ _ _ _ _ _ _ _ d.cuts d.wait k));
       reads = most _ _ _ _ _ _ _ _ _ _ _ _ _ _ _ _ _ _ _ _ _ _ d.cuts d.wait (Ok true) n;
       limit = limit_kept c.args.limit c.new.result c.in_ok-segmenter.segmenter c.in_ok-segmenter.was c.new.ensures.limit (Err cmd.Write) (write-no-limit (Err cmd.Write) refl);
       failed_reads = k.none_failed ∙ l.invariant.read_failures;
@@ -158,7 +158,7 @@ pub write_last-requires-clause-rising : goal.write_last-requires-clause-rising
 write_last-requires-clause-rising g c =
     let cell = g.C.CellSource.cell_of c.args.cells.now in
     let l = c.loop-window in
-    let d = cuts-due c.args.range c.args.limits cell c.args.profile c.args.limit _ _ _ (state_of g.C.CellSource.cell_of l.segmenter) (state_of g.C.CellSource.cell_of c.write_due.new.segmenter)
+    let d = cuts-due c.args.asked c.args.limits cell c.args.profile c.args.limit _ _ _ (state_of g.C.CellSource.cell_of l.segmenter) (state_of g.C.CellSource.cell_of c.write_due.new.segmenter)
     _ _ _ _ _ _ _ _ l.invariant.cuts c.write_due.ensures.state (⊎_elim inl (λ k. inr (k.0, ap g.W.Sink.written k.1, k.2)) c.in_ok-write_due.ensures.due) in
     let few : words_in l.window ≤ (state_of g.C.CellSource.cell_of c.write_due.new.segmenter).start = d.cuts.chunked.stands.words in
     let n = subst (TakesNext (state_of g.C.CellSource.cell_of c.write_due.new.segmenter) (state_of g.C.CellSource.cell_of c.take_next.new.segmenter)
@@ -172,7 +172,7 @@ pub write_last-requires-clause-told : goal.write_last-requires-clause-told
 write_last-requires-clause-told g c =
     let cell = g.C.CellSource.cell_of c.args.cells.now in
     let l = c.loop-window in
-    let d = cuts-due c.args.range c.args.limits cell c.args.profile c.args.limit _ _ _ (state_of g.C.CellSource.cell_of l.segmenter) (state_of g.C.CellSource.cell_of c.write_due.new.segmenter)
+    let d = cuts-due c.args.asked c.args.limits cell c.args.profile c.args.limit _ _ _ (state_of g.C.CellSource.cell_of l.segmenter) (state_of g.C.CellSource.cell_of c.write_due.new.segmenter)
     _ _ _ _ _ _ _ _ l.invariant.cuts c.write_due.ensures.state (⊎_elim inl (λ k. inr (k.0, ap g.W.Sink.written k.1, k.2)) c.in_ok-write_due.ensures.due) in
     let few : words_in l.window ≤ (state_of g.C.CellSource.cell_of c.write_due.new.segmenter).start = d.cuts.chunked.stands.words in
     let n = subst (TakesNext (state_of g.C.CellSource.cell_of c.write_due.new.segmenter) (state_of g.C.CellSource.cell_of c.take_next.new.segmenter)
@@ -186,7 +186,7 @@ pub returns-in_err-write_last-in-Ok-false : goal.returns-in_err-write_last-in-Ok
 returns-in_err-write_last-in-Ok-false g c =
     let cell = g.C.CellSource.cell_of c.args.cells.now in
     let l = c.loop-window in
-    let d = cuts-due c.args.range c.args.limits cell c.args.profile c.args.limit _ _ _ (state_of g.C.CellSource.cell_of l.segmenter) (state_of g.C.CellSource.cell_of c.write_due.new.segmenter)
+    let d = cuts-due c.args.asked c.args.limits cell c.args.profile c.args.limit _ _ _ (state_of g.C.CellSource.cell_of l.segmenter) (state_of g.C.CellSource.cell_of c.write_due.new.segmenter)
     _ _ _ _ _ _ _ _ l.invariant.cuts c.write_due.ensures.state (⊎_elim inl (λ k. inr (k.0, ap g.W.Sink.written k.1, k.2)) c.in_ok-write_due.ensures.due) in
     let few : words_in l.window ≤ (state_of g.C.CellSource.cell_of c.write_due.new.segmenter).start = d.cuts.chunked.stands.words in
     let n = subst (TakesNext (state_of g.C.CellSource.cell_of c.write_due.new.segmenter) (state_of g.C.CellSource.cell_of c.take_next.new.segmenter)
@@ -194,14 +194,15 @@ returns-in_err-write_last-in-Ok-false g c =
     (g.R.Source.reads_made l.reader) (g.R.Source.reads_made c.take_next.new.reader) (g.R.Source.failure_count l.reader) (g.R.Source.failure_count c.take_next.new.reader)
     l.window c.take_next.new.self) (c.in-Ok-false.is ∙ ap Ok c.in-Ok-false.field-0-test) (c.take_next.ensures few) in
     let k = ended-so _ _ _ _ _ _ _ _ _ _ _ _ _ _ _ _ _ _ _ _ _ _ d.cuts d.wait n in
+    let text = text_given d.cuts.going.standing.given in
     let exit = err_from_is_err_and c.from_residual-in_err-write_last-in-Ok-false.result c.from_residual-in_err-write_last-in-Ok-false.ensures.1 in
     let is = exit.1 ∙ ap Err exit.2 in
     rw is (record {
       shown = tt;
       ended = tt;
       run = last-broken-off _ _ _ _ _ _ _ _ _ _ _ _ _ _ _ _ _ 0 0 _ _ l.window d.cuts d.wait k.0 _
-          (subst (λ x. BreaksOff c.args.range true x (g.W.Sink.written c.write_due.new.writer) (g.W.Sink.written c.write_last.new.writer) (waiting_in c.write_due.new.self)) k.1
-          c.in_err-write_last-in-Ok-false.ensures.front);
+          (subst (λ x. BreaksOff c.args.asked text true x (g.W.Sink.written c.write_due.new.writer) (g.W.Sink.written c.write_last.new.writer) (waiting_in c.write_due.new.self)) k.1
+          (c.in_err-write_last-in-Ok-false.ensures.front text (subst (StandsIn c.args.asked text) (sym k.1) (last-in _ _ _ _ _ _ _ _ _ _ _ _ _ _ _ _ _ 0 0 _ _ l.window d.cuts d.wait k.0))));
       reads = most _ _ _ _ _ _ _ _ _ _ _ _ _ _ _ _ _ _ _ _ _ _ d.cuts d.wait (Ok false) n;
       limit = limit_kept c.args.limit c.new.result c.in_ok-segmenter.segmenter c.in_ok-segmenter.was c.new.ensures.limit (Err cmd.Write) (write-no-limit (Err cmd.Write) refl);
       failed_reads = k.2 ∙ l.invariant.read_failures;
@@ -213,7 +214,7 @@ pub returns-in-Ok-false : goal.returns-in-Ok-false
 returns-in-Ok-false g c =
     let cell = g.C.CellSource.cell_of c.args.cells.now in
     let l = c.loop-window in
-    let d = cuts-due c.args.range c.args.limits cell c.args.profile c.args.limit _ _ _ (state_of g.C.CellSource.cell_of l.segmenter) (state_of g.C.CellSource.cell_of c.write_due.new.segmenter)
+    let d = cuts-due c.args.asked c.args.limits cell c.args.profile c.args.limit _ _ _ (state_of g.C.CellSource.cell_of l.segmenter) (state_of g.C.CellSource.cell_of c.write_due.new.segmenter)
     _ _ _ _ _ _ _ _ l.invariant.cuts c.write_due.ensures.state (⊎_elim inl (λ k. inr (k.0, ap g.W.Sink.written k.1, k.2)) c.in_ok-write_due.ensures.due) in
     let few : words_in l.window ≤ (state_of g.C.CellSource.cell_of c.write_due.new.segmenter).start = d.cuts.chunked.stands.words in
     let n = subst (TakesNext (state_of g.C.CellSource.cell_of c.write_due.new.segmenter) (state_of g.C.CellSource.cell_of c.take_next.new.segmenter)
@@ -221,12 +222,13 @@ returns-in-Ok-false g c =
     (g.R.Source.reads_made l.reader) (g.R.Source.reads_made c.take_next.new.reader) (g.R.Source.failure_count l.reader) (g.R.Source.failure_count c.take_next.new.reader)
     l.window c.take_next.new.self) (c.in-Ok-false.is ∙ ap Ok c.in-Ok-false.field-0-test) (c.take_next.ensures few) in
     let k = ended-so _ _ _ _ _ _ _ _ _ _ _ _ _ _ _ _ _ _ _ _ _ _ d.cuts d.wait n in
+    let text = text_given d.cuts.going.standing.given in
     let end = end-met _ _ _ _ _ _ _ _ _ _ _ _ _ _ _ _ _ 0 0 _ _ l.window d.cuts d.wait k.0 in
     let run = all-written _ _ _ _ _ _ _ _ _ _ _ _ _ _ _ _ _ 0 0 _ _ l.window d.cuts d.wait k.0 _
-    (subst (λ x. WritesAll c.args.range x (g.W.Sink.written c.write_due.new.writer) (g.W.Sink.written c.write_last.new.writer) (waiting_in c.write_due.new.self)) k.1
-    c.in_ok-write_last-in-Ok-false.ensures.all) in
+    (subst (λ x. WritesAll c.args.asked text x (g.W.Sink.written c.write_due.new.writer) (g.W.Sink.written c.write_last.new.writer) (waiting_in c.write_due.new.self)) k.1
+    (c.in_ok-write_last-in-Ok-false.ensures.all text (subst (StandsIn c.args.asked text) (sym k.1) (last-in _ _ _ _ _ _ _ _ _ _ _ _ _ _ _ _ _ 0 0 _ _ l.window d.cuts d.wait k.0)))) in
     record {
-      shown = known_chunks c.args.range c.args.limits cell c.args.profile c.args.limit _ _ _ _ _ _ _ run end.1;
+      shown = known_chunks c.args.asked c.args.limits cell c.args.profile c.args.limit _ _ _ _ _ _ _ run end.1;
       ended = (end.0, end.1);
       run = run;
       reads = most _ _ _ _ _ _ _ _ _ _ _ _ _ _ _ _ _ _ _ _ _ _ d.cuts d.wait (Ok false) n;
@@ -240,7 +242,7 @@ pub returns-in_err-write-in-Err : goal.returns-in_err-write-in-Err
 returns-in_err-write-in-Err g c =
     let cell = g.C.CellSource.cell_of c.args.cells.now in
     let l = c.loop-window in
-    let d = cuts-due c.args.range c.args.limits cell c.args.profile c.args.limit _ _ _ (state_of g.C.CellSource.cell_of l.segmenter) (state_of g.C.CellSource.cell_of c.write_due.new.segmenter)
+    let d = cuts-due c.args.asked c.args.limits cell c.args.profile c.args.limit _ _ _ (state_of g.C.CellSource.cell_of l.segmenter) (state_of g.C.CellSource.cell_of c.write_due.new.segmenter)
     _ _ _ _ _ _ _ _ l.invariant.cuts c.write_due.ensures.state (⊎_elim inl (λ k. inr (k.0, ap g.W.Sink.written k.1, k.2)) c.in_ok-write_due.ensures.due) in
     let few : words_in l.window ≤ (state_of g.C.CellSource.cell_of c.write_due.new.segmenter).start = d.cuts.chunked.stands.words in
     let n = subst (TakesNext (state_of g.C.CellSource.cell_of c.write_due.new.segmenter) (state_of g.C.CellSource.cell_of c.take_next.new.segmenter)
@@ -266,7 +268,7 @@ pub returns-in-Err : goal.returns-in-Err
 returns-in-Err g c =
     let cell = g.C.CellSource.cell_of c.args.cells.now in
     let l = c.loop-window in
-    let d = cuts-due c.args.range c.args.limits cell c.args.profile c.args.limit _ _ _ (state_of g.C.CellSource.cell_of l.segmenter) (state_of g.C.CellSource.cell_of c.write_due.new.segmenter)
+    let d = cuts-due c.args.asked c.args.limits cell c.args.profile c.args.limit _ _ _ (state_of g.C.CellSource.cell_of l.segmenter) (state_of g.C.CellSource.cell_of c.write_due.new.segmenter)
     _ _ _ _ _ _ _ _ l.invariant.cuts c.write_due.ensures.state (⊎_elim inl (λ k. inr (k.0, ap g.W.Sink.written k.1, k.2)) c.in_ok-write_due.ensures.due) in
     let few : words_in l.window ≤ (state_of g.C.CellSource.cell_of c.write_due.new.segmenter).start = d.cuts.chunked.stands.words in
     let n = subst (TakesNext (state_of g.C.CellSource.cell_of c.write_due.new.segmenter) (state_of g.C.CellSource.cell_of c.take_next.new.segmenter)

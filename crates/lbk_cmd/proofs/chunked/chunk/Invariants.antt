@@ -7,7 +7,7 @@ use Rattle.lbk_cmd.proofs.chunked.chunk.Given as goal
 
 abbrev pub invariant-loop-window : goal.invariant-loop-window
 invariant-loop-window g l = record {
-  cuts : Cuts l.fn.range l.fn.limits (g.C.CellSource.cell_of l.cells) l.fn.profile l.fn.limit
+  cuts : Cuts l.fn.asked l.fn.limits (g.C.CellSource.cell_of l.cells) l.fn.profile l.fn.limit
       (g.R.Source.unread l.fn.reader) (g.W.Sink.written l.fn.writer) (g.R.Source.reads_made l.fn.reader)
       (state_of g.C.CellSource.cell_of l.segmenter)
       (g.R.Source.unread l.reader) (g.W.Sink.written l.writer) (g.R.Source.has_ended l.reader) (g.R.Source.reads_made l.reader)

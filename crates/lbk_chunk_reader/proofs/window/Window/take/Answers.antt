@@ -1,7 +1,10 @@
-use Rattle.std.proofs.Common.{◌+◌, ◌++◌, ap, arith, length, subst, sym, ◌∙◌}
+use Rattle.std.proofs.Common.{◌+◌, ◌++◌, ap, arith, is_some, length, subst, sym, ◌∙◌}
+use Rattle.std.specs.Prelude.{IfSome}
 use Rattle.lbk_chunk_reader.specs.PassageWords.{words_in_pieces}
 use Rattle.lbk_chunk_reader.specs.Cuts.{cuts_between}
+use Rattle.lbk_chunk_reader.specs.Held.{IsHeld}
 use Rattle.lbk_chunk_reader.specs.Pieces.{IsRegular}
+use Rattle.lbk_chunk_reader.specs.declared.cut.Here.{Here}
 use Rattle.lbk_chunk_reader.specs.Window.{cuts_in}
 use Rattle.lbk_chunk_reader.proofs.WindowLemmas.{taken-cuts}
 use Rattle.lbk_chunk_reader.proofs.window.Window.take.Goals as goal
@@ -20,4 +23,7 @@ returns c = λ is.
           ∙ ap (λ n. cuts_in c.args.self.now ++ cuts_between p.start n p.segments.now p.pieces.now) same.words;
       here = same.here;
       words = c.in_ok-self.ensures.words there ∙ ap (λ n. n + length (words_in_pieces p.start p.pieces.now)) same.words;
+      keeps = c.in_ok-take_text.ensures.keeps ∙ ap is_some same.held;
+      holds = λ text held. c.in_ok-take_text.ensures.holds text (subst (λ h. IfSome h (IsHeld mid.here.start text)) (sym same.held)
+          (subst (λ (h : Here). IfSome c.args.self.now.held (IsHeld h.start text)) (sym same.here) held));
     }

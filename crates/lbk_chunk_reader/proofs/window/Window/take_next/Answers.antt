@@ -1,4 +1,4 @@
-use Rattle.std.proofs.Common.{Ok, Some, ap, subst, ◌∙◌}
+use Rattle.std.proofs.Common.{Ok, ap, subst, ◌∙◌}
 use Rattle.lbk_passage.specs.Next.{AfterNext, failures_with, fault_in}
 use Rattle.lbk_passage.specs.Shown.{state_of}
 use Rattle.lbk_chunk_reader.proofs.CallLemmas.{takes-some}

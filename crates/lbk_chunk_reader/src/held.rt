@@ -1,0 +1,73 @@
+//! The text that a window keeps for the chunks to come.
+
+ghost use Rattle.std.specs.Prelude.{◌≡◌, ℕ, ◌-◌, ◌≤◌, ◌++◌, [], List, IfSome, OnOk, drop, is_some, length, take};
+ghost use Rattle.lbk_chunk_reader.specs.Held.{IsHeld};
+
+use std::alloc::{AllocError, Global};
+
+/// The text of the passages that were taken, from a byte on.
+#[derive(Drop)]
+pub(crate) struct Held {
+    bytes: Vec<u8>,
+    /// The byte of the text that it begins with.
+    from: usize,
+}
+
+impl Held {
+    /// Nothing, at the start of a text.
+    pub fn new(alloc: Global) -> Held
+        ensures { IsHeld 0 [] result }
+    {
+        Held {
+            bytes: Vec::new(alloc),
+            from: 0,
+        }
+    }
+
+    /// Takes the text of the next passage. Those before byte `start` are needed no more.
+    pub fn take(&mut self, start: usize, passage: &str) -> Result<(), AllocError>
+        ensures { OnOk result ((text : List ℕ) → IsHeld start text self.old
+            → IsHeld start (text ++ passage.now) self.new) }
+    {
+        self.drop_before(start);
+        self.bytes.extend_from_slice(passage.as_bytes())?;
+        Ok(())
+    }
+
+    /// Lets the bytes go that stand before byte `start`, once they are most of all.
+    fn drop_before(&mut self, start: usize)
+        ensures { (text : List ℕ) → IsHeld start text self.old → IsHeld start text self.new }
+    {
+        let gone = start.saturating_sub(self.from).min(self.bytes.len());
+        if gone > self.bytes.len() / 2 {
+            drop(self.bytes.drain(..gone));
+            self.from += gone;
+        }
+    }
+
+    /// The text from one byte up to another.
+    pub fn text(&self, start: usize, end: usize) -> &[u8]
+        ensures { (text : List ℕ) → IsHeld start text self.now → start ≤ end → end ≤ length text
+            → result.now ≡ take (end - start) (drop start text) }
+    {
+        let to = end.saturating_sub(self.from).min(self.bytes.len());
+        let from = start.saturating_sub(self.from).min(to);
+        &self.bytes[from..to]
+    }
+}
+
+/// Takes the text of the next passage, if texts are kept.
+pub(crate) fn take_text(
+    held: &mut Option<Held>,
+    start: usize,
+    passage: &str,
+) -> Result<(), AllocError>
+    ensures keeps { OnOk result (is_some held.new ≡ is_some held.old) }
+    ensures holds { OnOk result ((text : List ℕ) → IfSome held.old (IsHeld start text)
+        → IfSome held.new (IsHeld start (text ++ passage.now))) }
+{
+    match held {
+        Some(held) => held.take(start, passage),
+        None => Ok(()),
+    }
+}
