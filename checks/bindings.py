@@ -21,15 +21,16 @@ ADVICE = (
     "found no files of Unicode 15.0.0; install the package unicode-data (Debian 12), unpack UCD.zip of "
     "https://www.unicode.org/Public/15.0.0/ucd/ into ~/.local/share/unicode, or set UNICODE_DATA to a folder that has them. Looked for:"
 )
-# What the program says of a file that is not the published one, and where the languages say the same.
-PROGRAM = "crates/lbk_files/src/named_fault.rt"
-CLAIMS = ("this is not ", "the file was changed or cut: it is not ", " published it", "this is of ", ", and lbk goes by ")
+# The sentences on a file that is not the published one: the program and lbk_claim_text have those of this definition, and of the
+# languages JavaScript alone, whose module has no such call, has them again.
+CLAIMS = "crates/lbk_database/specs/ClaimTexts.antt"
 CLAIM_SOURCES = {
-    "Python": "packages/python/src/lbk/_claims.py",
-    "Rust": "packages/rust/src/claim.rs",
-    "C++": "include/lbk.hpp",
-    "JavaScript": "packages/javascript/property_files.js",
+    "Python": ["packages/python/src/calls/calls.c", "packages/python/src/lbk"],
+    "Rust": ["packages/rust/src"],
+    "C++": ["include/lbk.hpp"],
+    "JavaScript": ["packages/javascript/property_files.js"],
 }
+READS_VERSION = "Used with Emoji Version"
 # Where the calls of each column are declared, and how.
 CALLS = {
     "C": (["include/lbk.h"], r"^\w+ {}\("),
@@ -42,13 +43,17 @@ CALLS = {
     ),
 }
 # How a source joins the parts of its message, and how it names the version.
-JOINTS = [(r'"\s*\+?\s*f?"', ""), (r"\\\n\s*", ""), (r"\{(?:version|VERSION)\}", "15.0.0"), (r'" LBK_UNICODE_VERSION "\.0', "15.0.0")]
+JOINTS = [
+    (r'"\s*\+?\s*f?"', ""),
+    (r"\\\n\s*", ""),
+    (r'\{_calls\.UNICODE_VERSION\}\.0|" LBK_UNICODE_VERSION "\.0', "15.0.0"),
+]
 
 
 def listed(page):
     """The folders of the page, in their order."""
     section = re.search(r"^## A table without a name\n(.*?)^## ", page, re.S | re.M)[1]
-    return re.findall(r"^\d\. `([^`]*)`", section, re.M)
+    return re.findall(r"`([/~$][^`]*/unicode[^`]*)`", section)
 
 
 def looked_into(source, folders):
@@ -66,8 +71,8 @@ def joined(source):
 
 def text_of(paths):
     """The sources that these are, or that are in these folders."""
-    files = [file for it in paths for file in (sorted((TOP / it).iterdir()) if (TOP / it).is_dir() else [TOP / it])]
-    return "\n".join(file.read_text(encoding="utf-8") for file in files)
+    found = [one for it in paths for one in (sorted((TOP / it).iterdir()) if (TOP / it).is_dir() else [TOP / it])]
+    return "\n".join(one.read_text(encoding="utf-8") for one in found if one.is_file())
 
 
 def rows_of(page):
@@ -99,15 +104,29 @@ def try_calls(tally, page):
             tally.equal(says, declared(names, language, sources[language]), [name] if name else [])
 
 
+def claims():
+    """The parts of the sentences between the names and the numbers that are put into them."""
+    text = (TOP / CLAIMS).read_text(encoding="utf-8")
+    sentences = re.findall(r"^(?:claim|version|remedy)_text.*?=(.*?)(?=\n--|\n\n|\Z)", text, re.S | re.M)
+    return sorted(set(re.findall(r'codes "([^"]*)"', "\n".join(sentences))))
+
+
 def try_claims(tally):
-    for language, path in {"the program": PROGRAM, **CLAIM_SOURCES}.items():
-        source = (TOP / path).read_text(encoding="utf-8")
-        tally.equal(f"{language} says what a file claims", [it for it in CLAIMS if it not in source], [])
+    parts = claims()
+    tally.tell(f"{CLAIMS} has the sentences", None if len(parts) == 8 else parts)
+    for language, paths in CLAIM_SOURCES.items():
+        source = text_of(paths)
+        if language == "JavaScript":
+            tally.equal(f"{language} says what a file claims as lbk_claim_text does", [it for it in parts if it not in source], [])
+        else:
+            calls = [name for name in ("lbk_claim_text", "lbk_remedy_text") if f"{name}(" not in source]
+            tally.equal(f"{language} calls what says it, and reads no version itself", calls + re.findall(READS_VERSION, source), [])
 
 
 def run(tally, _arguments):
     page = PAGE.read_text(encoding="utf-8")
     folders = listed(page)
+    tally.equal(f"{PAGE.name} lists the folders of the system and of the user", len(folders), 4)
     try_calls(tally, page)
     try_claims(tally)
     for language, path in SOURCES.items():

@@ -26,7 +26,7 @@ TOO_LONG = (
     "--limit raises the limit, up to {}\n"
 )
 CHANGED = (
-    "lbk: U/{0}: the file was changed or cut: it is not {0} as Unicode 15.0.0 published it; "
+    "lbk: U/{0}: the file was changed or cut: Unicode 15.0.0 published another {0}; "
     "get it anew, or name a file of your own by {1}\n"
 )
 TITLE = "lbk: U/LineBreak.txt: this is not LineBreak.txt as Unicode 15.0 published it\n"

@@ -178,6 +178,76 @@ static void try_parts(void)
     told("the end is left", lbk_breaks(&table, &state, "a\n\n", 3, &one, 1) == 1 && one.at == 3 && one.rule == LBK_RULE_5);
 }
 
+/* Whether the segments of a text, taken with so much room, are those between its breaks. */
+static int has_segments(const char *text, size_t size, uint8_t profile, size_t room)
+{
+    lbk_state state = {.profile = profile};
+    lbk_segment_state of_segments = {.breaks = {.profile = profile}};
+    lbk_break breaks[4 * ROOM];
+    lbk_segment block[4 * ROOM];
+    const size_t all = lbk_breaks(&table, &state, text, size, breaks, 4 * ROOM);
+    size_t from = 0, count, start = 0;
+    do {
+        count = lbk_segments(&table, &of_segments, text, size, block, room);
+        for (size_t k = 0; k < count; start = block[k++].end, from++)
+            if (from >= all || block[k].start != start || block[k].end != breaks[from].at || block[k].kind != breaks[from].kind
+                || block[k].rule != breaks[from].rule)
+                return 0;
+    } while (count == room);
+    return from == all && same(state, of_segments.breaks) && of_segments.start == start;
+}
+
+/* Whether the breaks of a text after its safe break are those of the text that begins there. */
+static int has_safe_break(const char *text, size_t size, uint8_t profile, size_t *safe)
+{
+    lbk_state state = {.profile = profile}, fresh = {.profile = profile};
+    lbk_break whole[4 * ROOM], rest[4 * ROOM];
+    *safe = lbk_safe_break(&table, profile, text, size);
+    size_t all = lbk_breaks(&table, &state, text, size, whole, 4 * ROOM);
+    size_t left = lbk_breaks(&table, &fresh, text + *safe, size - *safe, rest, 4 * ROOM);
+    for (size_t k = 1; k <= left; k++)
+        if (k > all || whole[all - k].at != *safe + rest[left - k].at || whole[all - k].kind != rest[left - k].kind
+            || whole[all - k].rule != rest[left - k].rule)
+            return 0;
+    return (*safe < size || size == 0) && (left == all || whole[all - left - 1].at == *safe);
+}
+
+static void try_safe_breaks(void)
+{
+    static const char many[] = "ab c\r\n\xE4\xB8\x80" "d\n\r\n a\r \xC2\xAB b \xC2\xBB c (d";
+    static const struct {
+        const char *text;
+        size_t safe;
+    } rows[] = {{"ab c d", 5}, {"ab\ncd", 3}, {"ab\n", 0}, {"ab", 0}, {"", 0}, {"a\nb c", 4}};
+    size_t safe;
+    for (size_t k = 0; k < sizeof rows / sizeof rows[0]; k++)
+        told("a safe break", has_safe_break(rows[k].text, strlen(rows[k].text), LBK_FIRST, &safe) && safe == rows[k].safe);
+    for (uint8_t profile = LBK_FIRST; profile <= LBK_SECOND; profile++)
+        for (size_t size = 0; size < sizeof many; size++)
+            told("after a safe break the breaks are those of the text from there on", has_safe_break(many, size, profile, &safe));
+    told("no text has no safe break", lbk_safe_break(&table, LBK_FIRST, NULL, 0) == 0);
+}
+
+static void try_segments(void)
+{
+    char many[3 * ROOM];
+    for (size_t k = 0; k < sizeof many; k++)
+        many[k] = k % 2 == 0 ? 'a' : k % 10 == 1 ? '\n' : ' ';
+    for (uint8_t profile = LBK_FIRST; profile <= LBK_SECOND + LBK_GOES_ON; profile++)
+        for (size_t size = 0; size <= sizeof many; size += size < 12 ? 1 : 9)
+            for (size_t room = 1; room <= 3 * ROOM + 1; room += room < 3 ? 1 : room < ROOM - 1 ? ROOM - 1 - room : room < ROOM + 1 ? 1 : ROOM)
+                told("segments in blocks of any size", has_segments(many, size, profile, room));
+    lbk_segment one;
+    lbk_segment_state state = {.breaks = {.at = 2}, .start = 2}, old = state;
+    told("segments without room: 0", lbk_segments(&table, &state, "a\nb", 3, NULL, 0) == 0 && same(state.breaks, old.breaks) && state.start == 2);
+    told("a segment of a part", lbk_segments(&table, &state, "a\nb", 3, &one, 1) == 1 && one.start == 2 && one.end == 3 && one.rule == LBK_RULE_3);
+    told("no segment is left", lbk_segments(&table, &state, "a\nb", 3, &one, 1) == 0 && state.start == 3);
+    state = (lbk_segment_state){.breaks = {.profile = 4}};
+    told("segments of no profile: 0", lbk_segments(&table, &state, "a", 1, &one, 1) == 0 && state.start == 0);
+    state = (lbk_segment_state){.breaks = {.at = 2}};
+    told("segments from a place past the text: 0", lbk_segments(&table, &state, "a", 1, &one, 1) == 0 && state.breaks.at == 2);
+}
+
 /* The examples of the Unicode Standard, section 3.9, tables 3-8 to 3-11, and what they leave out. */
 static void try_ill_formed(void)
 {
@@ -423,6 +493,30 @@ static void try_cut_files(void)
     told("no file was not cut", !lbk_is_cut(NULL, 0));
 }
 
+static void try_claims(void)
+{
+    static const struct {
+        uint32_t file;
+        const char *contents, *says;
+    } rows[] = {
+        {LBK_LINE_BREAK, "# LineBreak-14.0.0.txt\n", "this is of Unicode 14.0.0, and lbk goes by 15.0.0"},
+        {LBK_EAST_ASIAN, "# EastAsianWidth-15.1.txt\n", "this is of Unicode 15.1.0, and lbk goes by 15.0.0"},
+        {LBK_EMOJI, "# emoji-data.txt\n# Used with Emoji Version 14.0 and", "this is of Emoji 14.0, and lbk goes by 15.0"},
+        {LBK_EMOJI, "# emoji-data\n# Used with Emoji Version 5.0.1", "this is of Emoji 5.0.1, and lbk goes by 15.0.0"},
+        {LBK_EMOJI, "# emoji-data-15.0\n", "this is not emoji-data.txt as Unicode 15.0 published it"},
+        {LBK_CATEGORY, "# DerivedGeneralCategory-15.0.0.txt\n",
+         "the file was changed or cut: Unicode 15.0.0 published another DerivedGeneralCategory.txt"},
+        {LBK_CATEGORY, "# LineBreak-14.0.0.txt\n", "this is not DerivedGeneralCategory.txt as Unicode 15.0 published it"},
+        {LBK_LINE_BREAK, "# LineBreak-4294967295.4294967295.4294967295", "this is of Unicode 4294967295.4294967295.4294967295, and lbk goes by 15.0.0"},
+        {LBK_LINE_BREAK, "# LineBreak-4294967296.0", "this is not LineBreak.txt as Unicode 15.0 published it"},
+        {LBK_LINE_BREAK, "", "this is not LineBreak.txt as Unicode 15.0 published it"},
+        {LBK_NO_FILE, "# LineBreak-14.0.0.txt\n", ""}, {5, "# LineBreak-14.0.0.txt\n", ""},
+    };
+    for (size_t k = 0; k < sizeof rows / sizeof rows[0]; k++)
+        told("what a file claims", is_text(lbk_claim_text(rows[k].file, rows[k].contents, strlen(rows[k].contents)), rows[k].says));
+    told("where the files are", strstr(lbk_remedy_text().text, "15.0.0/ucd/UCD.zip") != NULL && lbk_remedy_text().text[95] == 0);
+}
+
 static void try_texts(void)
 {
     static const char *const names[] = {"the four files", "LineBreak.txt", "EastAsianWidth.txt", "DerivedGeneralCategory.txt",
@@ -430,14 +524,14 @@ static void try_texts(void)
     told("the version", is_text(lbk_version(), LBK_VERSION));
     for (uint32_t k = 0; k < 5; k++)
         told("the name of a file", is_text(lbk_file_name(k), names[k]));
-    for (uint32_t k = 0; k <= LBK_CAUSE_DAMAGED; k++)
+    for (uint32_t k = 0; k <= LBK_CAUSE_CUT; k++)
         told("a cause has a text", (lbk_cause_text(k).text[0] == 0) == (k == 9) && lbk_cause_text(k).text[95] == 0);
     told("a cause's text", is_text(lbk_cause_text(LBK_CAUSE_OUT_OF_MEMORY), "out of memory"));
     for (uint32_t k = 1; k != 0; k <<= 1) {
         told("a number of no file", k < 5 || is_text(lbk_file_name(k), ""));
-        told("a number of no cause", k <= LBK_CAUSE_DAMAGED || is_text(lbk_cause_text(k), ""));
+        told("a number of no cause", k <= LBK_CAUSE_CUT || is_text(lbk_cause_text(k), ""));
     }
-    told("the numbers behind the last", is_text(lbk_file_name(5), "") && is_text(lbk_cause_text(14), ""));
+    told("the numbers behind the last", is_text(lbk_file_name(5), "") && is_text(lbk_cause_text(15), ""));
 }
 
 int main(void)
@@ -449,6 +543,8 @@ int main(void)
     try_states();
     try_profiles();
     try_parts();
+    try_segments();
+    try_safe_breaks();
     try_ill_formed();
     try_faults();
     try_sizes();
@@ -456,6 +552,7 @@ int main(void)
     try_labels();
     try_rule_texts();
     try_cut_files();
+    try_claims();
     try_packing();
     try_classes();
     try_words();

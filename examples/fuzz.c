@@ -58,6 +58,27 @@ static void go_over_positions(const lbk_table *table, const char *text, size_t s
     }
 }
 
+/* The segments from a state on: each within the text, and by a kind and a rule, if the state's start is before its place. */
+static void go_over_segments(const lbk_table *table, const char *text, size_t size, fenced blocks, lbk_state from, size_t most_room)
+{
+    const size_t start = below(4) == 0 ? below(from.at + 1) : from.at;
+    lbk_segment_state state = {.breaks = from, .start = below(8) == 0 ? below(SIZE_MAX) : start};
+    const int is_sound = state.start <= from.at && from.at <= size;
+    for (unsigned calls = 0; calls < 4 * MOST_LONG_TEXT; calls++) {
+        size_t room = below(most_room + 1);
+        lbk_segment *block = place(blocks, room * sizeof *block);
+        size_t next = state.start, count = lbk_segments(table, &state, text, size, block, room);
+        told("no more segments than there is room for", count <= room);
+        for (size_t k = 0; k < count; next = block[k++].end)
+            told("segments one after another, each by a kind and a rule",
+                 block[k].start == next && (!is_sound || (next <= block[k].end && block[k].end <= size))
+                     && (block[k].kind == LBK_MAY || block[k].kind == LBK_MUST) && lbk_label(block[k].rule).text[0] != 0);
+        told("segments: the profile stays, and the next starts where the last ends", state.breaks.profile == from.profile && state.start == next);
+        if (count < room)
+            break;
+    }
+}
+
 /* The first place at which a stream may give a break yet. */
 static size_t next_place(const lbk_stream *stream)
 {
@@ -95,6 +116,8 @@ static void go_over_cuts(const lbk_table *table, const char *text, size_t size)
     size_t at = below(size + 2), next = lbk_cut(table, text, size, at), last = lbk_cut_before(table, text, size, at);
     told("a cut at or after a place", next <= size && (at >= size ? next == size : next >= at));
     told("a cut at or before a place", last <= size && (at >= size ? last == size : last <= at));
+    size_t safe = lbk_safe_break(table, (uint8_t)below(3), text, size);
+    told("a safe break before the end, and at the last cut or after it", size == 0 ? safe == 0 : safe < size && safe >= lbk_cut_before(table, text, size, size - 1));
 }
 
 /* Asks for breaks until none comes, with rooms of all sizes. What holds of any table, state and text holds here. */
@@ -126,6 +149,7 @@ static void go_over(const lbk_table *table, fenced texts, fenced states, fenced 
     told("no more breaks than places", sum <= size + 1);
     told("the text is as it was", memcmp(text, made, size) == 0);
     go_over_positions(table, text, size, state, blocks, from, most_room);
+    go_over_segments(table, text, size, blocks, from, most_room);
     go_over_pieces(table, text, size, blocks, most_room);
     go_over_cuts(table, text, size);
 }
@@ -263,7 +287,7 @@ int main(int words, char **word)
         files[k] = load(word[3 + k]);
 
     fenced tables = fence(sizeof(lbk_table)), texts = fence(MOST_LONG_TEXT), states = fence(sizeof(lbk_state));
-    fenced blocks = fence(MOST_LONG_ROOM * sizeof(lbk_break));
+    fenced blocks = fence(MOST_LONG_ROOM * sizeof(lbk_segment));
     for (unsigned long round = 0; round < rounds; round += ROUNDS_WITH_A_TABLE) {
         lbk_table *table = random_table(tables, &real);
         uint64_t old = digest(table, sizeof *table);

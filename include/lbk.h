@@ -120,7 +120,7 @@ enum {
 enum {
     LBK_FIRST = 0,  /* rule 15 of Unicode 15.0 */
     LBK_SECOND = 1, /* rules 15a and 15b instead, which look at both sides of a quotation mark */
-    LBK_GOES_ON = 2 /* added to either, for lbk_breaks, lbk_marks and lbk_feed: the text goes on after these bytes */
+    LBK_GOES_ON = 2 /* added to either, for lbk_breaks, lbk_segments, lbk_marks and lbk_feed: the text goes on after */
 };
 
 /* lbk_fault.file: the files of the Unicode Character Database, in the order in which lbk_read reads them. */
@@ -148,7 +148,9 @@ enum {
     /* only from lbk_unpack */
     LBK_CAUSE_NOT_PACKED = 11,   /* the bytes do not begin as a packed table does */
     LBK_CAUSE_OTHER_LAYOUT = 12, /* the table was packed by a version with another LBK_LAYOUT */
-    LBK_CAUSE_DAMAGED = 13       /* the packed table was changed or cut */
+    LBK_CAUSE_DAMAGED = 13,      /* the packed table was changed or cut */
+    /* from no call: for callers that refuse what lbk_is_cut recognizes */
+    LBK_CAUSE_CUT = 14 /* the file was cut */
 };
 
 /* What a table knows of pairs of adjacent bytes, in internal numbers. */
@@ -220,6 +222,21 @@ typedef struct lbk_fault {
     uint32_t line;  /* from 1; 0 if the fault is in no line */
     uint32_t cause; /* LBK_CAUSE_NONE: no fault, and then file and line are 0 */
 } lbk_fault;
+
+/* A segment: the bytes from `start` up to and without `end`, where a break is. */
+typedef struct lbk_segment {
+    size_t start, end; /* counted from the text's start */
+    uint8_t kind;      /* LBK_MAY or LBK_MUST: the break at its end */
+    uint8_t rule;      /* the rule that decided that break */
+} lbk_segment;
+
+/* How far lbk_segments went in a text. All zeros mean the start of a text in the first profile. Set `breaks.profile`
+ * for the second one, and `breaks.at` and `start` for a part that begins at that byte. It is a value, as lbk_state is,
+ * and fits the same texts. */
+typedef struct lbk_segment_state {
+    lbk_state breaks; /* how far lbk_breaks went */
+    size_t start;     /* where the next segment starts */
+} lbk_segment_state;
 
 /* How far lbk_words went in a text. All zeros mean the start of a text. It is a value, as lbk_state is, and fits any
  * text with the same bytes. `at` may also be set to any offset: the text from there on is then a text of its own. */
@@ -299,6 +316,14 @@ lbk_fault lbk_read_published(lbk_table *table, const void *line_break, size_t li
  * cut off then have the property's default value. Allocates nothing. */
 bool lbk_is_cut(const void *file, size_t size);
 
+/* Returns what a file is that Unicode 15.0.0 did not publish, in English: of which version it is, as in "this is of
+ * Unicode 14.0.0, and lbk goes by 15.0.0", that it was changed or cut, or that it is another file. `file` is the number
+ * of the file that it had to be (lbk_fault.file); the text is empty for any other number. Allocates nothing. */
+lbk_text lbk_claim_text(uint32_t file, const void *contents, size_t size);
+
+/* Returns where the published files are, in English, to follow such a text after a semicolon. */
+lbk_text lbk_remedy_text(void);
+
 /* Returns what a cause (lbk_fault.cause) means, in English; an empty text for any other number. */
 lbk_text lbk_cause_text(uint32_t cause);
 
@@ -325,6 +350,27 @@ lbk_text lbk_file_name(uint32_t file);
  *   - Entries of the block after the returned count are unspecified. Allocates nothing. */
 size_t lbk_breaks(const lbk_table *table, lbk_state *state, const char *text, size_t size, lbk_break *block,
                   size_t room);
+
+/* Writes the next segments of a text to the block, as lbk_breaks writes breaks, and returns how many:
+ *
+ *     lbk_segment_state state = {0};                 the start of a text
+ *     lbk_segment block[64];
+ *     size_t count;
+ *     do {
+ *         count = lbk_segments(&table, &state, text, size, block, 64);
+ *         for (size_t k = 0; k < count; k++)
+ *             .. text + block[k].start, block[k].end - block[k].start ..
+ *     } while (count == 64);
+ *
+ * A segment ends at each break of lbk_breaks, and starts where the one before it ends. Joined, the segments are the
+ * text. A segment contains the spaces and the line end before its break.
+ *
+ *   - Ill-formed bytes, LBK_GOES_ON and the cases that return 0 are as for lbk_breaks.
+ *   - With a corrupt table, `start` still is at most `end`, and `end` at most `size`; so it is with a corrupt state
+ *     whose `start` is at most `breaks.at`, and this at most `size`.
+ *   - Entries of the block after the returned count are unspecified. Allocates nothing. */
+size_t lbk_segments(const lbk_table *table, lbk_segment_state *state, const char *text, size_t size,
+                    lbk_segment *block, size_t room);
 
 /* As lbk_breaks, for UTF-16 and UTF-32 in the machine's byte order. `size` and all offsets count units of 16 or 32
  * bits.
@@ -509,6 +555,14 @@ size_t lbk_cut(const lbk_table *table, const char *text, size_t size, size_t at)
  * time does not grow with the size of the text (measured). Allocates nothing. */
 size_t lbk_cut_before(const lbk_table *table, const char *text, size_t size, size_t at);
 
+/* Returns an offset before the end of the text: the breaks of the text after it are those of the text that begins there,
+ * so what is before it can be forgotten, for example while a text grows. `profile` is LBK_FIRST or LBK_SECOND.
+ *
+ * It is the last break after which lbk_breaks, from a new state, returns the same next break and comes to the same
+ * state, and otherwise the cut of lbk_cut_before; 0 for an empty text. It reads the last paragraph twice. Allocates
+ * nothing. */
+size_t lbk_safe_break(const lbk_table *table, uint8_t profile, const char *text, size_t size);
+
 /* Returns the name of a rule by its number; an empty name for any other number. */
 lbk_rule_label lbk_label(uint8_t rule);
 
@@ -559,6 +613,8 @@ LBK_ASSERT(a_state_has_16_bytes, sizeof(lbk_state) == 16);
 LBK_ASSERT(a_stream_has_32_bytes, sizeof(lbk_stream) == 32);
 LBK_ASSERT(a_fed_has_16_bytes, sizeof(lbk_fed) == 16);
 LBK_ASSERT(a_break_has_16_bytes, sizeof(lbk_break) == 16);
+LBK_ASSERT(a_segment_has_24_bytes, sizeof(lbk_segment) == 24);
+LBK_ASSERT(a_segment_state_has_24_bytes, sizeof(lbk_segment_state) == 24);
 LBK_ASSERT(a_word_state_has_8_bytes, sizeof(lbk_word_state) == 8);
 LBK_ASSERT(a_word_has_16_bytes, sizeof(lbk_word) == 16);
 LBK_ASSERT(limits_have_32_bytes, sizeof(lbk_limits) == 32);

@@ -65,7 +65,7 @@ struct error {
     int system = 0;
     lbk_fault fault = {LBK_NO_FILE, 0, LBK_CAUSE_NONE};
     /// What a file is that is not the published one, as "this is of Unicode 14.0.0, and lbk goes by 15.0.0"; else empty.
-    char claim[112] = {};
+    lbk_text claim = {};
 
     explicit operator bool() const noexcept { return why != reason::none; }
 
@@ -79,9 +79,9 @@ struct error {
         case reason::refused:
             if (fault.line != 0)
                 file += ':' + std::to_string(fault.line);
-            if (fault.cause >= LBK_CAUSE_NOT_PACKED)
+            if (fault.cause >= LBK_CAUSE_NOT_PACKED && fault.cause <= LBK_CAUSE_DAMAGED)
                 return lbk_cause_text(fault.cause).text;
-            return file + ": " + (claim[0] != 0 ? claim : lbk_cause_text(fault.cause).text);
+            return file + ": " + (claim.text[0] != 0 ? claim : lbk_cause_text(fault.cause)).text;
         case reason::unreadable:
             return file + ": " + std::generic_category().message(system);
         case reason::not_a_table:
@@ -168,34 +168,6 @@ private:
     }
 };
 
-/// What the first lines of published files begin with.
-inline constexpr std::string_view published[] = {"# LineBreak-", "# EastAsianWidth-", "# DerivedGeneralCategory-", "# emoji-data."};
-
-/// Says in English what a file is, by its number in a fault, that is not the one that Unicode published.
-inline void say_claim(std::uint32_t file, std::string_view bytes, char *to, std::size_t room) noexcept
-{
-    const bool is_emoji = file == LBK_EMOJI;
-    const lbk_text name = lbk_file_name(file);
-    std::string_view begin = published[file - 1], words = is_emoji ? "\n# Used with Emoji Version " : begin;
-    begin = begin.substr(0, is_emoji ? begin.size() - 1 : begin.size());
-    const std::size_t at = bytes.substr(0, begin.size()) == begin ? bytes.find(words) : std::string_view::npos;
-    char version[40] = {};
-    unsigned number[3] = {};
-    if (at != std::string_view::npos) {
-        words = bytes.substr(at + words.size(), sizeof version - 1);
-        std::memcpy(version, words.data(), words.size());
-    }
-    if (std::sscanf(version, "%9u.%9u.%9u", &number[0], &number[1], &number[2]) < 2)
-        std::snprintf(to, room, "this is not %s as Unicode " LBK_UNICODE_VERSION " published it", name.text);
-    else if (number[0] == 15 && number[1] == 0 && number[2] == 0)
-        std::snprintf(to, room, "the file was changed or cut: it is not %s as Unicode " LBK_UNICODE_VERSION ".0 published it", name.text);
-    else if (is_emoji && number[2] == 0)
-        std::snprintf(to, room, "this is of Emoji %u.%u, and lbk goes by " LBK_UNICODE_VERSION, number[0], number[1]);
-    else
-        std::snprintf(to, room, "this is of %s %u.%u.%u, and lbk goes by " LBK_UNICODE_VERSION ".0", is_emoji ? "Emoji" : "Unicode",
-                      number[0], number[1], number[2]);
-}
-
 /// Where the files are looked for: in the folder that UNICODE_DATA names, or else in those of the system (Debian's and Fedora's) and of
 /// the user.
 inline std::vector<std::string> folders()
@@ -230,7 +202,7 @@ inline const lbk_table *table_in(std::string_view bytes) noexcept
 /// Each way to make one has a form that throws std::bad_alloc or table_error, and a form try_.. that gives no value and an error.
 class table {
 public:
-    /// From the bytes of four files of any origin. Where it is strict a file that was cut is refused (LBK_CAUSE_NOT_PUBLISHED): its
+    /// From the bytes of four files of any origin. Where it is strict a file that was cut is refused (LBK_CAUSE_CUT): its
     /// first line claims a name that Unicode published, as `# LineBreak-15.0.0.txt`, and its last is not `# EOF`.
     static std::optional<table> try_read(std::string_view line_break, std::string_view east_asian, std::string_view category,
                                          std::string_view emoji, error &why, bool is_strict = true) noexcept
@@ -238,7 +210,7 @@ public:
         const std::string_view files[] = {line_break, east_asian, category, emoji};
         for (std::uint32_t k = 0; is_strict && k < 4; k++)
             if (lbk_is_cut(files[k].data(), files[k].size()))
-                return none(why, error::reason::refused, 0, {k + 1, 0, LBK_CAUSE_NOT_PUBLISHED});
+                return none(why, error::reason::refused, 0, {k + 1, 0, LBK_CAUSE_CUT});
         return read_by(lbk_read, line_break, east_asian, category, emoji, why);
     }
 
@@ -266,7 +238,7 @@ public:
         std::optional<table> made =
             read_by(lbk_read_published, files[0].view(), files[1].view(), files[2].view(), files[3].view(), why);
         if (why.fault.cause == LBK_CAUSE_NOT_PUBLISHED)
-            detail::say_claim(why.fault.file, files[why.fault.file - 1].view(), why.claim, sizeof why.claim);
+            why.claim = lbk_claim_text(why.fault.file, files[why.fault.file - 1].view().data(), files[why.fault.file - 1].view().size());
         return made;
     }
 
@@ -359,7 +331,7 @@ public:
         std::optional<table> made = try_load(folder, why);
         if (why.why == error::reason::out_of_memory || made)
             return or_throw(std::move(made), why);
-        throw table_error(why, folder + '/', why.claim[0] != 0 ? REMEDY : "");
+        throw table_error(why, folder + '/', why.claim.text[0] != 0 ? std::string("; ") + lbk_remedy_text().text : "");
     }
 
     /// As try_find, and throws a std::runtime_error where they are not found.
@@ -408,9 +380,6 @@ public:
     }
 
 private:
-    static constexpr const char *REMEDY = "; Debian 12's package unicode-data has the files, and so has "
-                                          "https://www.unicode.org/Public/" LBK_UNICODE_VERSION ".0/ucd/UCD.zip";
-
     using release = void (*)(const lbk_table *);
 
     std::unique_ptr<const lbk_table, release> held_;
@@ -751,26 +720,11 @@ inline std::size_t cut_before(const lbk_table &by, std::string_view text, std::s
     return lbk_cut_before(&by, text.data(), text.size(), at);
 }
 
-/// The last break before the end of a text after which the breaks are those of the text that begins there; 0 where there is none. It
-/// goes over the last line of the text.
+/// The last break before the end of a text after which the breaks are those of the text that begins there, as lbk_safe_break finds it; 0
+/// where there is none. It goes over the last line of the text.
 inline std::size_t safe_break(const lbk_table &by, std::string_view text, profile rules = profile::first) noexcept
 {
-    const std::uint8_t number = static_cast<std::uint8_t>(rules);
-    std::size_t safe = cut_before(by, text, text.empty() ? 0 : text.size() - 1);
-    lbk_state state = {safe, 0, number, 0};
-    lbk_break found = {}, same = {};
-    bool is_more = lbk_breaks(&by, &state, text.data(), text.size(), &found, 1) == 1;
-    while (is_more && found.at < text.size()) {
-        const std::size_t at = found.at;
-        lbk_state fresh = {at, 0, number, 0};
-        is_more = lbk_breaks(&by, &state, text.data(), text.size(), &found, 1) == 1;
-        const bool is_same = lbk_breaks(&by, &fresh, text.data(), text.size(), &same, 1) == 1 && same.at == found.at
-                             && same.kind == found.kind && same.rule == found.rule;
-        // Where both come to the same state, all that is left is the same.
-        if (is_more && is_same && fresh.at == state.at && fresh.row == state.row && fresh.ended == state.ended)
-            safe = at;
-    }
-    return safe;
+    return lbk_safe_break(&by, static_cast<std::uint8_t>(rules), text.data(), text.size());
 }
 
 /// The words of a text in their order, as the bytes that each has: a view that can be gone through any number of times. It needs no

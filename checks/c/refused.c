@@ -121,6 +121,8 @@ static void try_others(void)
     lbk_stream stream = {0};
     lbk_word_state of_words = {0};
     lbk_break block[4], others[4];
+    lbk_segment_state of_segments = {0};
+    lbk_segment segments[4];
     lbk_word words[4];
     uint64_t bits[1];
     lbk_chunk_state of_chunks = {0};
@@ -128,6 +130,7 @@ static void try_others(void)
     lbk_chunk chunks[4];
     allocations = 0, refused_number = 1, refuses_later = 1, is_counting = 1;
     size_t count = lbk_breaks(&table, &state, text, size, block, 4);
+    size_t cut_into = lbk_segments(&table, &of_segments, text, size, segments, 4);
     lbk_fed fed = lbk_feed(&table, &stream, text, size, true, others, 4);
     size_t positions = lbk_positions(&table, &of_positions, text, size, others, 4);
     size_t in_units = lbk_breaks_utf16(&table, &of_units, units, 4, others, 4);
@@ -138,6 +141,7 @@ static void try_others(void)
     size_t of_text = lbk_words(&of_words, text, size, words, 4);
     size_t pieces = lbk_chunks(&table, &limits, &of_chunks, text, size, chunks, 4);
     size_t cut = lbk_cut(&table, text, size, 1), cut_before = lbk_cut_before(&table, text, size, size - 1);
+    size_t safe = lbk_safe_break(&table, LBK_FIRST, text, size);
     lbk_rule_label label = lbk_label(block[0].rule);
     lbk_class_label class = lbk_class(&table, 'a');
     static char packed[12 + 2 * LBK_CODES];
@@ -146,13 +150,14 @@ static void try_others(void)
     uint32_t unpacked = lbk_unpack(&other, packed, packed_size);
     lbk_text says = lbk_rule_text(block[0].rule);
     bool is_cut = lbk_is_cut("# LineBreak-", 12);
+    lbk_text claim = lbk_claim_text(LBK_LINE_BREAK, "# LineBreak-", 12), remedy = lbk_remedy_text();
     lbk_text cause = lbk_cause_text(LBK_CAUSE_RANGE), file = lbk_file_name(LBK_EMOJI), version = lbk_version();
     int whole = lbk_check(&table);
     is_counting = 0;
     told("the other calls take no memory", 0, allocations == 0);
     told("they give what they give", 0,
-         count == 4 && fed.count == 4 && positions == 4 && in_units == 2 && in_scalars == 2 && at_units == 4 && at_scalars == 4 && places == size + 1
-             && of_text == 4 && pieces == 1 && cut == 6 && cut_before == 6
+         count == 4 && cut_into == 4 && claim.text[0] != 0 && remedy.text[0] != 0 && fed.count == 4 && positions == 4 && in_units == 2 && in_scalars == 2 && at_units == 4 && at_scalars == 4 && places == size + 1
+             && of_text == 4 && pieces == 1 && cut == 6 && cut_before == 6 && safe >= cut_before
              && packed_size > 0 && unpacked == LBK_CAUSE_NONE && says.text[0] != 0 && is_cut
              && label.text[0] != 0 && class.text[0] != 0 && cause.text[0] != 0 && file.text[0] != 0 && version.text[0] != 0 && whole);
 }

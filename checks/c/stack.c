@@ -23,6 +23,7 @@ static size_t large, small, stack_size, used_idle;
 static bytes files[4], text;
 static lbk_table table;
 static lbk_break block[ROOM];
+static lbk_segment segments[ROOM];
 static lbk_word words[ROOM];
 static uint64_t bits[ROOM];
 static lbk_fault fault;
@@ -66,7 +67,8 @@ static void *do_names(void *none)
     for (uint32_t scalar = 0; scalar < LBK_CODES; scalar += 7)
         total += lbk_class(&table, scalar).text[0] != 0;
     for (uint32_t k = 0; k < 256; k++)
-        total += (lbk_cause_text(k).text[0] != 0) + (lbk_file_name(k).text[0] != 0);
+        total += (lbk_cause_text(k).text[0] != 0) + (lbk_file_name(k).text[0] != 0) + (lbk_claim_text(k, files[0].at, files[0].size).text[0] != 0);
+    total += lbk_remedy_text().text[0] != 0;
     total += lbk_version().text[0] != 0;
     return none;
 }
@@ -93,6 +95,17 @@ static void *do_breaks(void *none)
     state.profile = profile;
     do {
         count = lbk_breaks(&table, &state, text.at, text.size, block, ROOM);
+        total += count;
+    } while (count == ROOM);
+    return none;
+}
+
+static void *do_segments(void *none)
+{
+    lbk_segment_state state = {.breaks = {.profile = profile}};
+    size_t count;
+    do {
+        count = lbk_segments(&table, &state, text.at, text.size, segments, ROOM);
         total += count;
     } while (count == ROOM);
     return none;
@@ -196,6 +209,7 @@ static void *do_cuts(void *none)
     for (size_t from = 0; from < text.size; from = lbk_cut(&table, text.at, text.size, from + 1))
         total++;
     total += lbk_cut_before(&table, text.at, text.size, text.size / 2) > 0;
+    total += lbk_safe_break(&table, LBK_FIRST, text.at, text.size) > 0;
     return none;
 }
 
@@ -239,6 +253,8 @@ static void try_text(void)
         run_in_thread("lbk_breaks", do_breaks);
         size_t breaks = total;
         told("lbk_breaks gives breaks", breaks > 0 || text.size == 0);
+        run_in_thread("lbk_segments", do_segments);
+        told("lbk_segments gives as many segments as lbk_breaks gives breaks", total == breaks);
         run_in_thread("lbk_feed", do_feed);
         told("lbk_feed gives as many breaks as lbk_breaks", total == breaks);
         run_in_thread("lbk_marks", do_marks);

@@ -14,7 +14,7 @@ const NAMES = ["# LineBreak-", "# EastAsianWidth-", "# DerivedGeneralCategory-",
 const EMOJI = 3;
 const EMOJI_VERSION = "\n# Used with Emoji Version ";
 const TITLE_SIZE = 4096;
-const REMEDY = "Debian 12's package unicode-data has the files, and so has https://www.unicode.org/Public/15.0.0/ucd/UCD.zip";
+const REMEDY = "Debian 12's unicode-data has it, as has https://www.unicode.org/Public/15.0.0/ucd/UCD.zip";
 
 /** The version of Unicode, or of emoji, that a file names as files of its name do. */
 function versionOf(bytes, k) {
@@ -30,9 +30,9 @@ export function claimText(bytes, k) {
   const name = FILES[k].replace(/.*\//, "");
   const version = versionOf(bytes, k);
   if (version === undefined) return `this is not ${name} as Unicode 15.0 published it`;
-  if (version === "15.0.0") return `the file was changed or cut: it is not ${name} as Unicode 15.0.0 published it`;
+  if (version === "15.0.0") return `the file was changed or cut: Unicode 15.0.0 published another ${name}`;
   if (k === EMOJI && version.endsWith(".0")) return `this is of Emoji ${version.slice(0, -2)}, and lbk goes by 15.0`;
-  return `this is of ${k === EMOJI ? "Emoji" : "Unicode"} ${version}, and lbk goes by 15.0.0`;
+  return `${k === EMOJI ? "this is of Emoji " : "this is of Unicode "}${version}, and lbk goes by 15.0.0`;
 }
 
 /** Why there is no table of these files, which are in a folder or in none: what the first is that is of another version, or of none. */

@@ -4,10 +4,8 @@
 pub const SAMPLES: &str =
     "these are sample data, for a first look; for real text: lbk mark --ucd FOLDER FILE";
 
-/// What is said of a property file that was cut, after its name.
-pub const CUT: &str =
-    "warning: the file was cut: its first line claims a published name, and its last is not # EOF; \
-    what was cut off has other breaks";
+/// What is said of a property file that was cut, after what it is.
+pub const CUT: &str = "what was cut off has other breaks";
 
 /// What is said where text is waited for on a terminal.
 pub const WAITING: &str =

@@ -7,7 +7,7 @@ ghost use Rattle.lbk_files.specs.Store.{IsFront, IsLoadFault, refusals_after};
 use super::hints;
 use lbk_args::{FileName, FileNames};
 use lbk_files::{LoadFault, Store};
-use lbk_ucd::is_cut;
+use lbk_ucd::{cut_text, is_cut};
 use std::alloc::Global;
 use std::cell::Cell;
 
@@ -56,7 +56,7 @@ impl<'a, S: Store> Store for Watching<'a, S> {
             let is_named = number < 4 && self.named.get()[number as usize];
             // (a file that is too long is refused)
             if is_named && bytes.len() <= most && is_cut(bytes) {
-                let _ = eprintln!(self.rt; "lbk: {name}: {}", hints::CUT);
+                let _ = eprintln!(self.rt; "lbk: {name}: warning: {}; {}", cut_text(), hints::CUT);
             }
         }
         loaded

@@ -1,8 +1,8 @@
 -- Empty property files.
-use Rattle.std.proofs.Common.{◌≡◌, ℕ, zero, suc, ◌<◌, Bool, true, false, List, [], ◌∷◌, None, Some, ap, ap₂, refl, arith}
+use Rattle.std.proofs.Common.{◌≡◌, ℕ, zero, suc, ◌<◌, Bool, true, false, [], ◌∷◌, None, Some, ap, ap₂, refl, arith}
 use Rattle.std.specs.List.{cons_option}
 use Rattle.lbk_ucd.specs.File.{Format, IsLawful, cause_at, cause_beside, cause_of_meaning, default_meant, property_of, row_meant}
-use Rattle.lbk_ucd.specs.PropertyLine.{Meaning, default_of, meaning_of, nothing}
+use Rattle.lbk_ucd.specs.PropertyLine.{default_of, meaning_of, nothing}
 use Rattle.lbk_ucd.specs.Rows.{value_at}
 
 -- an empty file has one line, which is blank

@@ -1,4 +1,6 @@
 pub mod TableLemmas
 pub mod MarkLemmas
+pub mod SafeLemmas
+pub mod SegmentLemmas
 pub mod DigestLemmas
 pub mod EmptyLemmas

@@ -1,3 +1,6 @@
 pub mod Checked
+pub mod ClaimTexts
 pub mod Faults
+pub mod SafeBreaks
+pub mod Segments
 pub mod Texts

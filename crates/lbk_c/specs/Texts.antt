@@ -4,6 +4,7 @@ use Rattle.lbk_ucd.specs.declared.faults.UcdCause.TheVariants.{FileTooLong, Line
 use Rattle.lbk_ucd.specs.declared.faults.UcdCause.TheVariants.{UnknownValue, Overlap, TooManyRows, Memory}
 use Rattle.lbk_ucd.specs.declared.which.Which.TheVariants.{LineBreak, EastAsianWidth, Category, Emoji}
 use Rattle.lbk_ucd.specs.Causes.{cause_text}
+use Rattle.lbk_ucd.specs.ClaimTexts.{cut_text}
 use Rattle.lbk_ucd.specs.FileNames.{file_name}
 use Rattle.lbk_calls.specs.declared.unpacking.Refusal.TheVariants.{Foreign, Version, Damaged}
 use Rattle.lbk_calls.specs.Refused.{refusal_number}
@@ -25,6 +26,7 @@ cause_numbered number =
     else if number == refusal_number Foreign then codes "these bytes are not a packed table"
     else if number == refusal_number Version then codes "the table was packed by another version of lbk"
     else if number == refusal_number Damaged then codes "the packed table was changed or cut"
+    else if number == 14 then cut_text
     else []
 
 -- the name of the file of a number

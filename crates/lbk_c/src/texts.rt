@@ -6,7 +6,7 @@ ghost use Rattle.lbk_calls.specs.RuleTexts.{rule_text_numbered};
 ghost use Rattle.lbk_c.specs.Texts.{cause_numbered, file_numbered, version};
 
 use lbk_calls::{Text, padded};
-use lbk_ucd::{UcdCause, Which, cause_text, file_name};
+use lbk_ucd::{UcdCause, Which, cause_text, cut_text, file_name};
 
 /// What the cause of a number says: ASCII, filled up by zeros. For a number that no cause has it is zeros.
 #[unsafe(no_mangle)]
@@ -66,6 +66,7 @@ fn cause_numbered(number: u32) -> &'static str
         11 => "these bytes are not a packed table",
         12 => "the table was packed by another version of lbk",
         13 => "the packed table was changed or cut",
+        14 => cut_text(),
         _ => "",
     }
 }

@@ -21,8 +21,8 @@ use Rattle.lbk_args.specs.declared.order.FileName.{FileName}
 use Rattle.lbk_args.specs.declared.order.FileName.TheVariants.{Given, InFolder}
 use Rattle.lbk_args.specs.declared.order.FileNames.{FileNames}
 use Rattle.lbk_files.specs.declared.faults.CellsFault.TheVariants as cells
-use Rattle.lbk_files.specs.declared.published.ClaimCause.{ClaimCause}
-use Rattle.lbk_files.specs.declared.published.ClaimCause.TheVariants.{Changed}
+use Rattle.lbk_files.specs.declared.ClaimCause.{ClaimCause}
+use Rattle.lbk_files.specs.declared.ClaimCause.TheVariants.{Changed}
 use Rattle.lbk_files.specs.FaultText.{fault_text}
 use Rattle.lbk_files.specs.Named.{name_in_database}
 use Rattle.lbk_cmd.specs.declared.ending.RunFault.{RunFault}

@@ -1,3 +1,2 @@
 mod LastFile
-mod Numbers
 mod Samples

@@ -9,8 +9,8 @@ use Rattle.lbk_rules.specs.declared.Cell.{Cell}
 use Rattle.lbk_rules.specs.Cells.{AreCellsOf}
 use Rattle.lbk_files.specs.Store.{IsFront, IsUnreadable}
 use Rattle.lbk_ucd.specs.Digests.{IsPublished}
-use Rattle.lbk_files.specs.Published.{IsClaimCause}
-use Rattle.lbk_files.specs.declared.published.ClaimCause.{ClaimCause}
+use Rattle.lbk_ucd.specs.Published.{IsClaimCause}
+use Rattle.lbk_ucd.specs.declared.published.ClaimCause.{ClaimCause}
 use Rattle.lbk_files.specs.declared.faults.CellsFault.{CellsFault}
 use Rattle.lbk_files.specs.declared.faults.CellsFault.TheVariants.{Load, Claim, Tables, Memory}
 

@@ -5,7 +5,6 @@ pub mod CellsRefusal
 pub mod Store
 pub mod MemoryStore
 pub mod FileStore
-pub mod Published
 pub mod FileFault
 pub mod Named
 pub mod SampleFiles

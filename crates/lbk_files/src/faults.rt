@@ -1,8 +1,7 @@
 //! Why there are no cells to decide by, and why no engine runs.
 
 use super::named_fault::NamedFault;
-use super::published::ClaimCause;
-use lbk_ucd::{UcdFault, Which, file_name};
+use lbk_ucd::{ClaimCause, UcdFault, Which, file_name};
 use thiserror::Error;
 
 /// Why there are no cells to decide by.

@@ -11,11 +11,10 @@ ghost use Rattle.lbk_args.specs.Task.{files_of_names, given};
 use super::cells::read_cells;
 use super::faults::CellsFault;
 use super::places::{Place, Places, places_of};
-use super::published::check_claim;
 use super::store::{LoadFault, Store};
 use lbk_args::FileNames;
 use lbk_rules::CellPages;
-use lbk_ucd::{Files, LONGEST_FILE, Which};
+use lbk_ucd::{Files, LONGEST_FILE, Which, check_claim};
 use std::alloc::Global;
 
 /// The cells of the files that are named: they are loaded in the order of `Files`, then read.

@@ -1,12 +1,10 @@
 //! A fault of the property files, as a person reads it.
 
-ghost use Rattle.std.specs.Prelude.{Some, option_map};
-ghost use Rattle.std.specs.Fmt.{DisplaysOnOk};
-ghost use Rattle.lbk_files.specs.FaultText.{claim_fault, fault_text, version_fault};
+ghost use Rattle.std.specs.Prelude.{option_map};
+ghost use Rattle.lbk_files.specs.FaultText.{fault_text};
 
 use super::faults::CellsFault;
-use super::published::{ClaimCause, Version};
-use lbk_ucd::{UcdFault, Which, cause_text, file_name};
+use lbk_ucd::{UcdFault, cause_text, claim_text};
 use std::fmt;
 
 /// A fault of the property files after the name of its file: `NAME: cause`, or `NAME:LINE: cause` where a line is
@@ -27,7 +25,7 @@ impl<N: fmt::Display> fmt::Display for NamedFault<N> {
             CellsFault::Load(_) => write!(f, "{name}: the file cannot be read"),
             CellsFault::Claim(which, cause) => {
                 write!(f, "{name}: ")?;
-                claim_fault(f, which, cause)
+                f.write_str(claim_text(which, cause).as_str())
             }
             CellsFault::Tables(UcdFault { line, cause, .. }) => {
                 write!(f, "{name}:")?;
@@ -39,55 +37,5 @@ impl<N: fmt::Display> fmt::Display for NamedFault<N> {
             }
             CellsFault::Memory => write!(f, "out of memory"),
         }
-    }
-}
-
-/// What a file of a folder is, that is not the file of Unicode 15.0.0.
-fn claim_fault<W: fmt::Write>(
-    f: &mut fmt::Formatter<W>,
-    which: Which,
-    cause: ClaimCause,
-) -> fmt::Result
-    ensures { DisplaysOnOk W.write_str_gives f.old result (Some (claim_fault which cause)) f.new }
-{
-    let name = file_name(which);
-    match cause {
-        ClaimCause::Title => write!(f, "this is not {name} as Unicode 15.0 published it"),
-        ClaimCause::Version(version) => version_fault(f, which, version),
-        ClaimCause::Changed => write!(
-            f,
-            "the file was changed or cut: it is not {name} as Unicode 15.0.0 published it"
-        ),
-    }
-}
-
-/// Of which version a file is, where this is another.
-fn version_fault<W: fmt::Write>(
-    f: &mut fmt::Formatter<W>,
-    which: Which,
-    version: Version,
-) -> fmt::Result
-    ensures { DisplaysOnOk W.write_str_gives f.old result (Some (version_fault which version)) f.new }
-{
-    let Version {
-        major,
-        minor,
-        update,
-    } = version;
-    match which {
-        Which::Emoji => {
-            if update == 0 {
-                write!(f, "this is of Emoji {major}.{minor}, and lbk goes by 15.0")
-            } else {
-                write!(
-                    f,
-                    "this is of Emoji {major}.{minor}.{update}, and lbk goes by 15.0.0"
-                )
-            }
-        }
-        _ => write!(
-            f,
-            "this is of Unicode {major}.{minor}.{update}, and lbk goes by 15.0.0"
-        ),
     }
 }

@@ -7,4 +7,5 @@ pub mod SampleLemmas
 pub mod TakenLemmas
 pub mod Worked
 pub mod FeedLemmas
+pub mod Numbers
 pub mod OrderLemmas

@@ -11,6 +11,8 @@ pub mod FileNames
 pub mod Digests
 pub mod Causes
 pub mod Claims
+pub mod Published
+pub mod ClaimTexts
 -- What only carries proofs.
 pub mod Ranges
 pub mod Reading

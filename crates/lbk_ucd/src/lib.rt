@@ -3,6 +3,7 @@
 #![tactic(auto)]
 
 mod causes;
+mod claim_texts;
 mod claims;
 mod digests;
 mod faults;
@@ -14,6 +15,7 @@ pub mod laws;
 mod names;
 mod overlay;
 mod property_line;
+mod published;
 mod ranges;
 mod samples;
 mod tables;
@@ -21,12 +23,14 @@ mod taken;
 mod which;
 
 pub use causes::cause_text;
+pub use claim_texts::{claim_text, cut_text, remedy_text};
 pub use claims::is_cut;
 pub use digests::{first_unpublished, is_published};
 pub use faults::{UcdCause, UcdFault};
 pub use file::LONGEST_FILE;
 pub use lbk_values::{Category, EastAsian, LineBreak};
 pub use names::file_name;
+pub use published::{ClaimCause, Version, check_claim, claim_of};
 pub use samples::{SAMPLE_CATEGORY, SAMPLE_EAST_ASIAN, SAMPLE_EMOJI, SAMPLE_LINE_BREAK};
 pub use tables::{Files, Places, Run, Tables};
 pub use which::Which;

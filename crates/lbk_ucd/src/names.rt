@@ -5,10 +5,10 @@ ghost use Rattle.lbk_ucd.specs.FileNames.{file_name};
 
 use crate::which::Which;
 
-/// The name of a file of the Unicode Character Database, without a folder, in at most 80 bytes.
+/// The name of a file of the Unicode Character Database, without a folder, in at most 26 bytes.
 pub fn file_name(which: Which) -> &'static str
     ensures name { result.now ≡ file_name which }
-    ensures short { length result.now ≤ 80 }
+    ensures short { length result.now ≤ 26 }
 {
     match which {
         Which::LineBreak => "LineBreak.txt",

@@ -59,7 +59,7 @@ static OF_FILES: [(CellsFault, &str); 8] = [
     ),
     (
         CellsFault::Claim(Which::Category, ClaimCause::Changed),
-        "DerivedGeneralCategory.txt: the file was changed or cut: it is not DerivedGeneralCategory.txt as Unicode 15.0.0 published it",
+        "DerivedGeneralCategory.txt: the file was changed or cut: Unicode 15.0.0 published another DerivedGeneralCategory.txt",
     ),
     (
         CellsFault::Tables(ROW),

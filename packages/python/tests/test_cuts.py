@@ -55,7 +55,7 @@ class Cuts(unittest.TestCase):
             files[number - 1] = name + files[number - 1]
             with self.assertRaises(lbk.Fault) as caught:
                 Table.read(*files)
-            self.assertEqual((caught.exception.file, caught.exception.cause), (number, lbk.Cause.NOT_PUBLISHED))
+            self.assertEqual((caught.exception.file, caught.exception.cause), (number, lbk.Cause.CUT))
             self.assertIn(": the file was cut: ", str(caught.exception))
             self.assertEqual(Table.read(*files, strict=False), whole)
             files[number - 1] += b"\n#EOF\n\n"

@@ -10,7 +10,7 @@ import zipfile
 
 import lbk
 import samples
-from lbk import Cause, Fault, File, Table, _claims
+from lbk import Cause, Fault, File, Table, _calls
 
 LONG_LINE = b"#" + 1024 * b"x"
 ROW = "{:04X};AL\n"
@@ -78,16 +78,16 @@ class Folders(unittest.TestCase):
             (File.LINE_BREAK, b"0061;AL\n# LineBreak-14.0.0\n", "this is not LineBreak.txt as Unicode 15.0 published it"),
             (
                 File.CATEGORY, b"# DerivedGeneralCategory-15.0.0.txt\n",
-                "the file was changed or cut: it is not DerivedGeneralCategory.txt as Unicode 15.0.0 published it",
+                "the file was changed or cut: Unicode 15.0.0 published another DerivedGeneralCategory.txt",
             ),
         )
         for file, data, said in claims:
-            self.assertEqual(_claims.claim_text(file, data), said)
+            self.assertEqual(_calls.claim_text(file, data), said)
         self.put(samples.PLACES, [claims[0][1], b"", b"", b""])
         with self.assertRaises(Fault) as caught:
             Table.load(self.folder)
         place = str(self.folder / "LineBreak.txt")
-        self.assertEqual((caught.exception.place, str(caught.exception)), (place, f"{place}: {claims[0][2]}; {_claims.WHERE}"))
+        self.assertEqual((caught.exception.place, str(caught.exception)), (place, f"{place}: {claims[0][2]}; {_calls.remedy_text()}"))
         self.assertEqual(str(pickle.loads(pickle.dumps(caught.exception))), str(caught.exception))
 
     def test_a_fault_of_files_by_name_has_the_name(self):

@@ -166,7 +166,7 @@ pub fn shown(text: &[u8]) -> &str {
 }
 
 #[repr(C)]
-#[derive(Clone, Copy)]
+#[derive(Clone, Copy, PartialEq, Eq, Debug)]
 pub struct Text {
     pub text: [u8; 96],
 }
@@ -232,6 +232,8 @@ extern "C" {
         emoji_size: usize,
     ) -> Fault;
     pub fn lbk_is_cut(file: *const u8, size: usize) -> bool;
+    pub fn lbk_claim_text(file: u32, contents: *const u8, size: usize) -> Text;
+    pub fn lbk_remedy_text() -> Text;
     pub fn lbk_cause_text(cause: u32) -> Text;
     pub fn lbk_file_name(file: u32) -> Text;
     pub fn lbk_breaks(
@@ -252,6 +254,7 @@ extern "C" {
     ) -> usize;
     pub fn lbk_cut(table: *const Table, text: *const u8, size: usize, at: usize) -> usize;
     pub fn lbk_cut_before(table: *const Table, text: *const u8, size: usize, at: usize) -> usize;
+    pub fn lbk_safe_break(table: *const Table, profile: u8, text: *const u8, size: usize) -> usize;
     pub fn lbk_feed(
         table: *const Table,
         stream: *mut Stream,

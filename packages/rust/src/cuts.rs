@@ -24,26 +24,7 @@ impl Table {
     /// The last break before the end of a text after which the breaks, by a profile, are those of the text that begins there. 0 where
     /// there is none. It goes over the last line of the text.
     pub fn safe_break(&self, profile: Profile, text: &[u8]) -> usize {
-        let mut safe = self.cut_before(text, text.len().saturating_sub(1));
-        let mut state = calls::State::new(profile as u8, safe);
-        let mut next = self.next_break(&mut state, text);
-        while let Some(found) = next.filter(|found| found.at < text.len()) {
-            next = self.next_break(&mut state, text);
-            let mut fresh = calls::State::new(profile as u8, found.at);
-            // Where both come to the same state, all that is left is the same.
-            if self.next_break(&mut fresh, text) == next && fresh == state {
-                safe = found.at;
-            }
-        }
-        safe
-    }
-
-    /// The next break of a text from a state on.
-    fn next_break(&self, state: &mut calls::State, text: &[u8]) -> Option<calls::Break> {
-        let mut found = calls::Break::default();
-        // SAFETY: the text is as long as is said, there is room for one break, and it and the state are borrowed by nobody else.
-        let count =
-            unsafe { calls::lbk_breaks(&self.0, state, text.as_ptr(), text.len(), &mut found, 1) };
-        (count == 1).then_some(found)
+        // SAFETY: the text is as long as is said.
+        unsafe { calls::lbk_safe_break(&self.0, profile as u8, text.as_ptr(), text.len()) }
     }
 }

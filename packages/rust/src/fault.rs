@@ -31,7 +31,7 @@ impl Fault {
         Some(Fault {
             file: Some(file),
             line: 0,
-            cause: Cause::NotPublished,
+            cause: Cause::Cut,
         })
     }
 
@@ -85,8 +85,10 @@ pub enum Cause {
     TooManyRows,
     /// The heap refused memory.
     OutOfMemory,
-    /// The file is not the one that Unicode published; of [`Table::read`](crate::Table::read) only where it was cut.
+    /// The file is not the one that Unicode published.
     NotPublished = 9,
+    /// The file was cut: [`Table::read`](crate::Table::read) refuses it.
+    Cut = 13,
 }
 
 impl Cause {

@@ -6,12 +6,10 @@ use std::path::{Path, PathBuf};
 use std::vec::Vec;
 use std::{fmt, fs, io};
 
+use crate::calls;
 use crate::claim::Claim;
 use crate::fault::{Cause, Fault};
 use crate::table::{Files, Table};
-
-const REMEDY: &str = "; Debian 12's package unicode-data has the files, \
-    and so has https://www.unicode.org/Public/15.0.0/ucd/UCD.zip";
 
 impl Table {
     /// The table of a folder of the Unicode Character Database, such as `/usr/share/unicode`: of its `LineBreak.txt`,
@@ -86,7 +84,12 @@ impl fmt::Display for LoadError {
             LoadError::Unreadable(path, error) => write!(f, "{}: {}", path.display(), error),
             LoadError::NotPublished(path, claim) => {
                 write!(f, "{}: {}", path.display(), claim)?;
-                f.write_str(if f.alternate() { "" } else { REMEDY })
+                if f.alternate() {
+                    return Ok(());
+                }
+                // SAFETY: the call takes nothing.
+                let remedy = unsafe { calls::lbk_remedy_text() };
+                write!(f, "; {}", calls::shown(&remedy.text))
             }
             LoadError::Refused(folder, fault) if fault.file.is_some() => {
                 write!(f, "{}/{}", folder.display(), fault)

@@ -33,7 +33,7 @@ pub struct Table(pub(crate) calls::Table);
 impl Table {
     /// The table of four files of any origin. Returns their first fault where they have one, or that memory was refused.
     ///
-    /// A file that was cut is refused, too ([`Cause::NotPublished`](crate::Cause::NotPublished)): its first line claims a name that Unicode published, as
+    /// A file that was cut is refused, too ([`Cause::Cut`](crate::Cause::Cut)): its first line claims a name that Unicode published, as
     /// `# LineBreak-15.0.0.txt`, and its last is not `# EOF`. [`Table::read_lenient`] takes it.
     pub fn read(files: Files<'_>) -> Result<Box<Table>, Fault> {
         match Fault::of_a_cut_file(&files) {

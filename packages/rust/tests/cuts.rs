@@ -109,8 +109,11 @@ fn files_that_were_cut_are_refused() {
     let refused = read(cut, Table::read).expect_err("it was cut");
     assert_eq!(
         (refused.file, refused.cause),
-        (Some(File::LineBreak), Cause::NotPublished)
+        (Some(File::LineBreak), Cause::Cut)
     );
+    assert!(refused
+        .to_string()
+        .starts_with("LineBreak.txt: the file was cut: "));
     let tables = [
         read(&whole, Table::read),
         read(cut, Table::read_lenient),

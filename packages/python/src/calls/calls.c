@@ -65,6 +65,27 @@ static PyObject *is_cut(PyObject *Py_UNUSED(module), PyObject *file)
     return PyBool_FromLong(found);
 }
 
+/* claim_text(file, contents): what the file is that is not the published one, by its number in a fault. */
+static PyObject *claim_text(PyObject *Py_UNUSED(module), PyObject *const *given, Py_ssize_t count)
+{
+    Py_buffer view;
+    utf8_text bytes;
+    if (!has_arguments(count, 2))
+        return NULL;
+    unsigned long number = PyLong_AsUnsignedLong(given[0]);
+    if (PyErr_Occurred() || !hold_bytes(given[1], &bytes, &view))
+        return NULL;
+    lbk_text text = lbk_claim_text((uint32_t)number, bytes.bytes, bytes.size);
+    PyBuffer_Release(&view);
+    return PyUnicode_FromString(text.text);
+}
+
+/* remedy_text(): where the published files are. */
+static PyObject *remedy_text(PyObject *Py_UNUSED(module), PyObject *Py_UNUSED(none))
+{
+    return PyUnicode_FromString(lbk_remedy_text().text);
+}
+
 /* label(rule): its name without LB, or an empty str. */
 static PyObject *label(PyObject *Py_UNUSED(module), PyObject *rule)
 {
@@ -155,11 +176,11 @@ static PyObject *class_of(PyObject *Py_UNUSED(module), PyObject *const *given, P
     return PyUnicode_FromString(name.text);
 }
 
-/* A place of a text that a call finds: one of these, from `at` on; or without a call the last safe break, from a start. */
+/* A place of a text that a call finds: one of these, from `at` on; or without a call the last safe break, by a profile. */
 typedef struct {
     cut_call *call;
     size_t at;
-    lbk_state start;
+    uint8_t profile;
 } place_asked;
 
 /* The place that is asked for of (table, text, ..). */
@@ -176,7 +197,7 @@ static PyObject *place_by(place_asked asked, PyObject *const *given)
     if (table != NULL) {
         if (hold_bytes(owner, &text, &text_view)) {
             PyThreadState *unlocked = unlock(text.size);
-            place = asked.call != NULL ? find_cut(asked.call, table, &text, asked.at) : find_safe_break(table, &text, asked.start);
+            place = asked.call != NULL ? find_cut(asked.call, table, &text, asked.at) : find_safe_break(table, &text, asked.profile);
             lock_again(unlocked);
             PyBuffer_Release(&text_view);
             is_found = true;
@@ -204,7 +225,7 @@ static PyObject *safe_break(PyObject *Py_UNUSED(module), PyObject *const *given,
     cursor start;
     if (!has_arguments(count, 3) || !start_of_text(given[2], &start))
         return NULL;
-    return place_by((place_asked){.start = start.state}, given);
+    return place_by((place_asked){.profile = start.state.profile}, given);
 }
 
 /* cut(table, text, at): the first place at or after it where a part may begin. */
@@ -238,6 +259,8 @@ static PyMethodDef methods[] = {
     {"read", (PyCFunction)(void (*)(void))read_files, METH_FASTCALL, NULL},
     {"check", check, METH_O, NULL},
     {"is_cut", is_cut, METH_O, NULL},
+    {"claim_text", (PyCFunction)(void (*)(void))claim_text, METH_FASTCALL, NULL},
+    {"remedy_text", remedy_text, METH_NOARGS, NULL},
     {"label", label, METH_O, NULL},
     {"rule_text", rule_text, METH_O, NULL},
     {"pack", pack, METH_O, NULL},

@@ -79,26 +79,8 @@ size_t find_cut(cut_call *call, const lbk_table *table, const utf8_text *text, s
     return code_points(text->bytes, cut, text->size);
 }
 
-static bool next_break(const lbk_table *table, lbk_state *state, const utf8_text *text, lbk_break *found)
+size_t find_safe_break(const lbk_table *table, const utf8_text *text, uint8_t profile)
 {
-    return lbk_breaks(table, state, text->bytes, text->size, found, 1) == 1;
-}
-
-size_t find_safe_break(const lbk_table *table, const utf8_text *text, lbk_state start)
-{
-    size_t safe = lbk_cut_before(table, text->bytes, text->size, text->size == 0 ? 0 : text->size - 1);
-    lbk_state state = start;
-    lbk_break found, same;
-    state.at = safe;
-    bool is_more = next_break(table, &state, text, &found);
-    while (is_more && found.at < text->size) {
-        lbk_state fresh = start;
-        size_t at = fresh.at = found.at;
-        is_more = next_break(table, &state, text, &found);
-        bool is_same = next_break(table, &fresh, text, &same) && same.at == found.at && same.kind == found.kind && same.rule == found.rule;
-        /* Where both come to the same state, all that is left is the same. */
-        if (is_more && is_same && fresh.at == state.at && fresh.row == state.row && fresh.ended == state.ended)
-            safe = at;
-    }
+    size_t safe = lbk_safe_break(table, profile, text->bytes, text->size);
     return text->in_code_points ? code_points(text->bytes, safe, text->size) : safe;
 }

@@ -39,8 +39,7 @@ typedef size_t cut_call(const lbk_table *table, const char *text, size_t size, s
 /* As the call, with both places in the unit of the text. */
 size_t find_cut(cut_call *call, const lbk_table *table, const utf8_text *text, size_t at);
 
-/* The last break before the end of a text after which the breaks are those of the text that begins
- * there, in the unit of the text; 0 where there is none. `start` is the start of a text. */
-size_t find_safe_break(const lbk_table *table, const utf8_text *text, lbk_state start);
+/* As lbk_safe_break, with the place in the unit of the text. */
+size_t find_safe_break(const lbk_table *table, const utf8_text *text, uint8_t profile);
 
 #endif

@@ -7,7 +7,7 @@ import zlib
 from pathlib import Path
 from typing import TypeAlias
 
-from ._claims import VERSION
+from . import _calls
 
 Folder: TypeAlias = "str | os.PathLike[str]"
 
@@ -73,8 +73,8 @@ def folders() -> list[str]:
 def not_found(refusals: list[str]) -> FileNotFoundError:
     """Says what to do, and why each folder was refused."""
     advice = (
-        f"found no files of Unicode {VERSION}; install the package unicode-data (Debian 12), unpack UCD.zip of "
-        f"https://www.unicode.org/Public/{VERSION}/ucd/ into ~/.local/share/unicode, or set UNICODE_DATA to a folder "
+        f"found no files of Unicode {_calls.UNICODE_VERSION}.0; install the package unicode-data (Debian 12), unpack UCD.zip of "
+        f"https://www.unicode.org/Public/{_calls.UNICODE_VERSION}.0/ucd/ into ~/.local/share/unicode, or set UNICODE_DATA to a folder "
         "that has them. Looked for:"
     )
     return FileNotFoundError("\n  ".join([advice, *refusals]))

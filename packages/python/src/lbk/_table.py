@@ -13,7 +13,6 @@ from typing import Any, Protocol, Self, TypeAlias, overload
 from . import _calls, _database
 from ._calls import Break
 from ._chunks import Chunks, Unit, is_in_bytes, limits_of
-from ._claims import CUT, WHERE, claim_text
 from ._fault import Fault
 from ._numbers import Cause
 from ._passages import Passages
@@ -88,7 +87,7 @@ class Table:
         found, and Fault where a file is not that which Unicode published for the version
         UNICODE_VERSION.
         """
-        memory, place = _find() if folder is None else (_read_folder(folder, f"; {WHERE}"), os.path.abspath(folder))
+        memory, place = _find() if folder is None else (_read_folder(folder, f"; {_calls.remedy_text()}"), os.path.abspath(folder))
         return cls._of(memory, _load_again, place, _digest_of(memory))
 
     @classmethod
@@ -106,12 +105,12 @@ class Table:
     def read(cls, line_break: Bytes, east_asian: Bytes, category: Bytes, emoji: Bytes, *, strict: bool = True) -> Self:
         """The table of the contents of four files. Raises Fault at the first fault that they have,
         and MemoryError where memory is refused. With `strict` a file that was cut is a fault
-        (NOT_PUBLISHED), too: its first line claims a name that Unicode published, as
+        (CUT), too: its first line claims a name that Unicode published, as
         `# LineBreak-15.0.0.txt`, and its last is not `# EOF`."""
         files = [_unchanging(one) for one in (line_break, east_asian, category, emoji)]
         cut = next((number for number, one in enumerate(files, 1) if _calls.is_cut(one)), None) if strict else None
         if cut is not None:
-            raise Fault(cut, 0, Cause.NOT_PUBLISHED, "", CUT)
+            raise Fault(cut, 0, Cause.CUT)
         return cls._of(_read(files, False))
 
     @classmethod
@@ -343,7 +342,7 @@ def _read_folder(folder: "_database.Folder", remedy: str = "") -> bytearray:
     try:
         return _read(files, True)
     except Fault as fault:
-        claim = claim_text(fault.file, files[fault.file - 1]) + remedy if fault.cause == Cause.NOT_PUBLISHED else ""
+        claim = _calls.claim_text(fault.file, files[fault.file - 1]) + remedy if fault.cause == Cause.NOT_PUBLISHED else ""
         place = _database.place_of(folder, fault.file) if fault.file else os.fspath(folder)
         raise Fault(fault.file, fault.line, fault.cause, place, claim) from None
 

@@ -1,0 +1,235 @@
+-- Segments between breaks, some breaks more.
+use Rattle.std.proofs.Common.{◌≡◌, ℕ, zero, suc, ◌+◌, ◌-◌, ◌<◌, ◌≤◌, ◌⊎◌, inl, inr, List, [], ◌∷◌, ◌++◌, length, drop, map, min, set, take, slice_index_or, refl, sym, ap, ap₂, subst, ◌∙◌, arith}
+use Rattle.std.proofs.Math.Logic.{⊎_elim}
+use Rattle.std.proofs.lemmas.List.{append_assoc, drop-drop, length-append, length-take-le, map-append, take_more, take_more_set}
+use Rattle.lbk_rules.specs.declared.Break.{Break}
+use Rattle.lbk_rules.specs.declared.Cell.{Cell}
+use Rattle.lbk_rules.specs.declared.flat_table.FlatTable.{FlatTable}
+use Rattle.lbk_bytes.specs.declared.raw_break.RawBreak.{RawBreak}
+use Rattle.lbk_bytes.specs.Order.{AreInOrder, IsBreak, no_break}
+use Rattle.lbk_bytes.specs.Shown.{given_in, raw_of}
+use Rattle.lbk_bytes.proofs.BlockLemmas.{zero-or}
+use Rattle.lbk_chunks.proofs.BreakLemmas.{shown-front}
+use Rattle.lbk_calls.specs.declared.interface.State.{State}
+use Rattle.lbk_calls.specs.Coming.{Comes}
+use Rattle.lbk_c.specs.declared.segments.Segment.{Segment}
+use Rattle.lbk_c.specs.declared.segments.SegmentState.{SegmentState}
+use Rattle.lbk_c.specs.Segments.{AreWithin, next_start, segment_to, segments_between}
+
+pub between-append : (start : ℕ) (xs ys : List RawBreak)
+    → segments_between start (xs ++ ys) ≡ segments_between start xs ++ segments_between (next_start start xs) ys
+between-append start [] ys = refl
+between-append start (x ∷ xs) ys = ap (λ l. segment_to start x ∷ l) (between-append x.at xs ys)
+
+pub next-append : (start : ℕ) (xs ys : List RawBreak) → next_start start (xs ++ ys) ≡ next_start (next_start start xs) ys
+next-append start [] ys = refl
+next-append start (x ∷ xs) ys = next-append x.at xs ys
+
+pub within-append : (size : ℕ) (xs ys : List Segment) → AreWithin size xs → AreWithin size ys → AreWithin size (xs ++ ys)
+within-append size [] ys all more = more
+within-append size (x ∷ xs) ys all more = (all.0, all.1, all.2, within-append size xs ys all.3 more)
+
+-- in the front of a block are breaks up to a place, none before the last of those before it
+pub record Rise (block : List RawBreak) (count start size : ℕ) : Type 0 where
+  pub each : (k : ℕ) → k < count → IsBreak (slice_index_or block k no_break)
+  pub low : (k : ℕ) → k < count → start ≤ (slice_index_or block k no_break).at
+  pub high : (k : ℕ) → k < count → (slice_index_or block k no_break).at ≤ size
+  pub rising : (k : ℕ) → k < count → (j : ℕ) → j < k → (slice_index_or block j no_break).at ≤ (slice_index_or block k no_break).at
+
+pub rise : (block : List RawBreak) (count start from to size : ℕ) → AreInOrder block count from to → start ≤ from → to ≤ suc size → Rise block count start size
+rise block count start from to size o low high = record {
+  each = o.each;
+  low = λ k few. omega (arith, (o.within k few).0, low);
+  high = λ k few. omega (arith, (o.within k few).1, high);
+  rising = λ k few j before. omega (arith, o.rising k few j before);
+}
+
+rise-on : (r : RawBreak) (block : List RawBreak) (count start size : ℕ) → Rise (r ∷ block) (suc count) start size → Rise block count r.at size
+rise-on r block count start size o = record {
+  each = λ k few. o.each (suc k) (omega (arith, few));
+  low = λ k few. o.rising (suc k) (omega (arith, few)) 0 (omega arith);
+  high = λ k few. o.high (suc k) (omega (arith, few));
+  rising = λ k few j before. o.rising (suc k) (omega (arith, few)) (suc j) (omega (arith, before));
+}
+
+pub within-block : (block : List RawBreak) (count start size : ℕ) → Rise block count start size → AreWithin size (segments_between start (take count block))
+within-block block zero start size o = tt
+within-block [] (suc count) start size o = tt
+within-block (r ∷ block) (suc count) start size o =
+    (o.low 0 (omega arith), o.high 0 (omega arith), o.each 0 (omega arith), within-block block count r.at size (rise-on r block count start size o))
+
+pub next-block : (block : List RawBreak) (count start most : ℕ) → start ≤ most → ((k : ℕ) → k < count → (slice_index_or block k no_break).at ≤ most)
+    → next_start start (take count block) ≤ most
+next-block block zero start most low high = low
+next-block [] (suc count) start most low high = low
+next-block (r ∷ block) (suc count) start most low high =
+    next-block block count r.at most (high 0 (omega arith)) (λ k few. high (suc k) (omega (arith, few)))
+
+take-nil : {X : Type 0} → (n : ℕ) → take {A = X} n [] ≡ []
+take-nil zero = refl
+take-nil (suc n) = refl
+
+pub take-both : {X : Type 0} → (m n : ℕ) (xs : List X) → take (m + n) xs ≡ take m xs ++ take n (drop m xs)
+take-both {X} zero n xs = let none : 0 + n ≡ n = omega arith in ap (λ k. take k xs) none
+take-both {X} (suc m) n [] = take-nil (suc m + n) ∙ sym (take-nil n)
+take-both {X} (suc m) n (x ∷ xs) =
+    let same : suc m + n ≡ suc (m + n) = omega arith in
+    ap (λ k. take k (x ∷ xs)) same ∙ ap (λ l. x ∷ l) (take-both m n xs)
+
+-- nothing comes from a state of a text of this size, or there is no room for it
+abbrev pub IsStill : State → ℕ → ℕ → Type 0
+IsStill state size room = (3 < state.profile) ⊎ ((0 < state.ended) ⊎ ((size < state.at) ⊎ (room ≡ 0)))
+
+-- what a call for breaks says of those that it gave
+pub record Gave (table : FlatTable) (text : List ℕ) (old new : State) (block : List RawBreak) (given room : ℕ) : Type 0 where
+  pub within : given ≤ room
+  pub profile_same : new.profile ≡ old.profile
+  pub in_order : AreInOrder block given old.at (suc (length text))
+  pub before_state : new.ended ≡ 0 → AreInOrder block given old.at new.at
+  pub onward : old.at ≤ new.at
+  pub inside : old.at ≤ length text → new.at ≤ length text
+  pub at_end : old.ended ≡ 0 → 0 < new.ended → new.at ≡ length text
+  pub count : (cell : ℕ → Cell) (to_come : List Break) → Comes cell table text old to_come → given ≡ min room (length to_come)
+  pub front : (cell : ℕ → Cell) (to_come : List Break) → Comes cell table text old to_come → given_in block given ≡ take given to_come
+  pub rest : (cell : ℕ → Cell) (to_come : List Break) → Comes cell table text old to_come → Comes cell table text new (drop given to_come)
+  pub still : IsStill old (length text) room → (given ≡ 0) × (new ≡ old)
+
+-- of what was to come, as the first breaks these were found, and the others come from the state on
+pub record Taken (cell : ℕ → Cell) (table : FlatTable) (text : List ℕ) (new : SegmentState) (found : List RawBreak) (count : ℕ) (to_come : List Break) : Type 0 where
+  pub few : count ≤ length to_come
+  pub same : map raw_of (take count to_come) ≡ found
+  pub comes : Comes cell table text new.breaks (drop count to_come)
+
+-- so many segments were put into a block
+pub record IsPut (table : FlatTable) (text : List ℕ) (old new : SegmentState) (out : List Segment) (count : ℕ) : Type 0 where
+  pub found : List RawBreak
+  pub room : count ≤ length out
+  pub front : take count out ≡ segments_between old.start found
+  pub next : new.start ≡ next_start old.start found
+  pub profile_same : new.breaks.profile ≡ old.breaks.profile
+  pub inside : old.breaks.at ≤ length text → new.breaks.at ≤ length text
+  pub taken : (cell : ℕ → Cell) (to_come : List Break) → Comes cell table text old.breaks to_come → Taken cell table text new found count to_come
+  pub sound : old.start ≤ old.breaks.at → old.breaks.at ≤ length text
+      → AreWithin (length text) (segments_between old.start found) × (new.start ≤ new.breaks.at)
+  pub still : IsStill old.breaks (length text) (length out) → (count ≡ 0) × (new ≡ old)
+
+pub put-none : (table : FlatTable) (text : List ℕ) (state : SegmentState) (out : List Segment) → IsPut table text state state out 0
+put-none table text state out = record {
+  found = [];
+  room = omega arith;
+  front = refl;
+  next = refl;
+  profile_same = refl;
+  inside = λ within. within;
+  taken = λ cell to_come comes. record { few = omega arith; same = refl; comes = comes };
+  sound = λ low within. (tt, low);
+  still = λ stays. (refl, refl);
+}
+
+pub length-drop : {X : Type 0} → (n : ℕ) (l : List X) → n ≤ length l → n + length (drop n l) ≡ length l
+length-drop {X} zero l few = omega arith
+length-drop {X} (suc n) [] few = absurd (omega (arith, few))
+length-drop {X} (suc n) (x ∷ xs) few = let more = length-drop n xs (omega (arith, few)) in omega (arith, more)
+
+pub taken-more : (cell : ℕ → Cell) (table : FlatTable) (text : List ℕ) (old new : SegmentState) (found block : List RawBreak) (count given room : ℕ) (to_come : List Break)
+    → Taken cell table text old found count to_come
+    → given ≡ min room (length (drop count to_come)) → map raw_of (take given (drop count to_come)) ≡ take given block
+    → Comes cell table text new.breaks (drop given (drop count to_come))
+    → Taken cell table text new (found ++ take given block) (count + given) to_come
+taken-more cell table text old new found block count given room to_come were counted same comes = record {
+  few = (let size = length-drop count to_come were.few in omega (arith, counted, size));
+  same = ap (map raw_of) (take-both count given to_come) ∙ map-append raw_of (take count to_come) (take given (drop count to_come))
+      ∙ ap₂ (λ (a b : List RawBreak). a ++ b) were.same same;
+  comes = subst (λ l. Comes cell table text new.breaks l) (drop-drop given count to_come) comes;
+}
+
+-- one segment more
+pub put-one : (before out : List Segment) (from k start here : ℕ) (breaks : List RawBreak) → k < length breaks → from + k < length out
+    → take (from + k) out ≡ take from before ++ segments_between start (take k breaks) → here ≡ next_start start (take k breaks)
+    → take (from + (k + 1)) (set out (from + k) (segment_to here (slice_index_or breaks k no_break))) ≡ take from before ++ segments_between start (take (k + 1) breaks)
+put-one before out from k start here breaks few room were now =
+    let one = segment_to here (slice_index_or breaks k no_break) in
+    let place : from + (k + 1) ≡ from + k + 1 = omega arith in
+    let more : segments_between start (take (k + 1) breaks) ≡ segments_between start (take k breaks) ++ one ∷ [] =
+    ap (segments_between start) (take_more breaks k no_break few)
+    ∙ between-append start (take k breaks) (slice_index_or breaks k no_break ∷ [])
+    ∙ ap (λ n. segments_between start (take k breaks) ++ segment_to n (slice_index_or breaks k no_break) ∷ []) (sym now) in
+    ap (λ n. take n (set out (from + k) one)) place
+    ∙ take_more_set out (from + k) one room
+    ∙ ap (λ l. l ++ one ∷ []) were
+    ∙ append_assoc (take from before) (segments_between start (take k breaks)) (one ∷ [])
+    ∙ ap (λ l. take from before ++ l) (sym more)
+
+pub next-one : (start k : ℕ) (breaks : List RawBreak) → k < length breaks → next_start start (take (k + 1) breaks) ≡ (slice_index_or breaks k no_break).at
+next-one start k breaks few =
+    ap (next_start start) (take_more breaks k no_break few) ∙ next-append start (take k breaks) (slice_index_or breaks k no_break ∷ [])
+
+-- where the last of the breaks that were given stands: not behind the state
+last-within : (table : FlatTable) (text : List ℕ) (old new : State) (block : List RawBreak) (given room : ℕ) → Gave table text old new block given room
+    → (k : ℕ) → k < given → (slice_index_or block k no_break).at ≤ new.at
+last-within table text old new block given room g k few =
+    ⊎_elim (λ (open_ : new.ended ≡ 0). (let b = (g.before_state open_).within k few in omega (arith, b.1)))
+    (λ (ended : 0 < new.ended). ⊎_elim (λ (was_open : old.ended ≡ 0). (let e = g.at_end was_open ended in let b = g.in_order.within k few in omega (arith, e, b.1)))
+    (λ (was_ended : 0 < old.ended). (let none = g.still (inr (inl was_ended)) in absurd (omega (arith, few, none.0))))
+    (zero-or old.ended))
+    (zero-or new.ended)
+
+-- some segments more
+pub put-more : (table : FlatTable) (text : List ℕ) (old here : SegmentState) (new : State) (next : ℕ) (before out : List Segment) (block breaks : List RawBreak) (count given room : ℕ)
+    → IsPut table text old here before count → Gave table text here.breaks new block given room
+    → given ≤ length block → breaks ≡ take given block → room ≡ min 64 (length before - count) → length out ≡ length before
+    → take (count + length breaks) out ≡ take count before ++ segments_between here.start breaks → next ≡ next_start here.start breaks
+    → IsPut table text old (record { breaks = new; start = next }) out (count + given)
+put-more table text old here new next before out block breaks count given room i g few are full size front starts = record {
+  found = i.found ++ take given block;
+  room = (let a = i.room in let b = g.within in omega (arith, a, b, full, size));
+  front =
+      ap (λ n. take (count + n) out) (sym many) ∙ front ∙ ap₂ (λ (a b : List Segment). a ++ b) i.front (ap₂ segments_between i.next are)
+      ∙ sym (between-append old.start i.found (take given block));
+  next = starts ∙ ap₂ next_start i.next are ∙ sym (next-append old.start i.found (take given block));
+  profile_same = g.profile_same ∙ i.profile_same;
+  inside = λ within. g.inside (i.inside within);
+  taken = λ cell to_come comes. (
+      let were = i.taken cell to_come comes in
+      let more = drop count to_come in
+      taken-more cell table text here (record { breaks = new; start = next }) i.found block count given room to_come were (g.count cell more were.comes)
+      (shown-front given block (take given more) few (g.front cell more were.comes) g.in_order.each) (g.rest cell more were.comes));
+  sound = λ low within. (
+      let s = i.sound low within in
+      let at = i.inside within in
+      let r = rise block given here.start here.breaks.at (suc (length text)) (length text) g.in_order s.1 (omega arith) in
+      let more = within-block block given here.start (length text) r in
+      let joined = within-append (length text) (segments_between old.start i.found) (segments_between here.start (take given block)) s.0 more in
+      let last = next-block block given here.start new.at (omega (arith, s.1, g.onward)) (last-within table text here.breaks new block given room g) in (
+        subst (AreWithin (length text)) (ap (λ n. segments_between old.start i.found ++ segments_between n (take given block)) i.next ∙ sym (between-append old.start i.found (take given block))) joined,
+        subst (λ n. n ≤ new.at) (sym (starts ∙ ap (next_start here.start) are)) last,
+      ));
+  still = λ stays. (
+      let was = i.still (subst (IsStill old.breaks (length text)) size stays) in
+      let now = g.still (subst (λ (s : SegmentState). IsStill s.breaks (length text) room) (sym was.1) (still-room old.breaks (length text) (length before) room (λ empty. omega (arith, full, empty)) (subst (IsStill old.breaks (length text)) size stays))) in
+      let stood : next ≡ here.start = starts ∙ ap (next_start here.start) (are ∙ ap (λ n. take n block) now.0) in
+      (omega (arith, was.0, now.0), ap₂ (λ (b : State) (n : ℕ). record { breaks = b; start = n }) now.1 stood ∙ was.1));
+}
+  where
+    many : length breaks ≡ given
+    many = ap length are ∙ length-take-le given block few
+
+    still-room : (state : State) (len n room : ℕ) → (n ≡ 0 → room ≡ 0) → IsStill state len n → IsStill state len room
+    still-room state len n room empty (inl profile) = inl profile
+    still-room state len n room empty (inr (inl ended)) = inr (inl ended)
+    still-room state len n room empty (inr (inr (inl past))) = inr (inr (inl past))
+    still-room state len n room empty (inr (inr (inr full_))) = inr (inr (inr (empty full_)))
+
+-- the ways in which a call gives nothing, as its clauses say them
+pub still-call : {P : Type 0} → (state : State) (len room : ℕ) → (3 < state.profile → P) → (0 < state.ended → P) → (len < state.at → P) → (room ≡ 0 → P) → IsStill state len room → P
+still-call state len room profile ended past full (inl a) = profile a
+still-call state len room profile ended past full (inr (inl a)) = ended a
+still-call state len room profile ended past full (inr (inr (inl a))) = past a
+still-call state len room profile ended past full (inr (inr (inr a))) = full a
+
+-- a block whose front was written is as long as before
+pub same-length : (front block : List RawBreak) (room size : ℕ) → length front ≡ room → room ≤ size → length block ≡ size → length (front ++ drop room block) ≡ size
+same-length front block room size many within all =
+    let behind = length-drop room block (omega (arith, within, all)) in
+    let both = length-append front (drop room block) in
+    omega (arith, behind, both, many, all)

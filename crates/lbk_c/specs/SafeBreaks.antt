@@ -1,0 +1,12 @@
+-- Where the rest of a text may be decided by itself.
+use Rattle.std.specs.Prelude.{◌≡◌, ℕ, ◌++◌, List, drop, map}
+use Rattle.lbk_rules.specs.declared.Break.{Break}
+use Rattle.lbk_rules.specs.declared.Cell.{Cell}
+use Rattle.lbk_rules.specs.Joins.{moved}
+use Rattle.lbk_values.specs.declared.profile.Profile.{Profile}
+use Rattle.lbk_bytes.specs.Bytes.{breaks_of_bytes}
+
+-- the last breaks of a text are those of the text that begins at this byte, moved by the bytes before it
+abbrev pub IsSafeBreak : Profile → (ℕ → Cell) → List ℕ → ℕ → Type 0
+IsSafeBreak profile cell text place =
+    (front : List Break) × (breaks_of_bytes profile cell text ≡ front ++ map (moved place) (breaks_of_bytes profile cell (drop place text)))

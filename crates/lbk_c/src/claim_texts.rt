@@ -1,0 +1,47 @@
+//! What a property file is that is not the published one, in words.
+
+ghost use Rattle.std.specs.Prelude.{◌≡◌};
+ghost use Rattle.lbk_calls.specs.Padding.{padded};
+ghost use Rattle.lbk_ucd.specs.ClaimTexts.{remedy_text};
+ghost use Rattle.lbk_c.specs.ClaimTexts.{IsClaimText, which_numbered};
+
+use lbk_calls::{Text, padded};
+use lbk_ucd::{Which, claim_of, claim_text, remedy_text};
+
+/// What the file of a number is, where it is not the one that Unicode 15.0.0 published: of which version it is, that it
+/// was changed or cut, or that it is another file. ASCII, filled up by zeros. For a number that no file has it is zeros.
+#[unsafe(no_mangle)]
+pub extern "C" fn lbk_claim_text(file: u32, contents: &[u8]) -> Text
+    ensures { IsClaimText (which_numbered file) contents.now result.text }
+{
+    let Some(which) = which_numbered(file) else {
+        return Text { text: [0; 96] };
+    };
+    let text = claim_text(which, claim_of(which, contents));
+    Text {
+        text: padded(text.as_str().as_bytes()),
+    }
+}
+
+/// Where the published files are: ASCII, filled up by zeros.
+#[unsafe(no_mangle)]
+pub extern "C" fn lbk_remedy_text() -> Text
+    ensures { result.text ≡ padded 96 remedy_text }
+{
+    Text {
+        text: padded(remedy_text().as_bytes()),
+    }
+}
+
+/// The property file that has a number.
+fn which_numbered(file: u32) -> Option<Which>
+    ensures { result ≡ which_numbered file }
+{
+    match file {
+        1 => Some(Which::LineBreak),
+        2 => Some(Which::EastAsianWidth),
+        3 => Some(Which::Category),
+        4 => Some(Which::Emoji),
+        _ => None,
+    }
+}

@@ -1,0 +1,126 @@
+//! The segments of a text, a block at a time.
+
+ghost use Rattle.std.specs.Prelude.{◌≡◌, ◌⊎◌, ℕ, Bool, ◌+◌, ◌<◌, ◌≤◌, ◌++◌, List, drop, length, map, min, take};
+ghost use Rattle.lbk_rules.specs.declared.Break.{Break};
+ghost use Rattle.lbk_rules.specs.declared.Cell.{Cell};
+ghost use Rattle.lbk_values.specs.declared.profile.Profile.{Profile};
+ghost use Rattle.lbk_rules.specs.Joins.{moved};
+ghost use Rattle.lbk_rules.specs.FlatTable.{IsFlatOf};
+ghost use Rattle.lbk_bytes.specs.Bytes.{breaks_of_bytes, breaks_of_part};
+ghost use Rattle.lbk_bytes.specs.Shown.{raw_of};
+ghost use Rattle.lbk_calls.specs.Coming.{Comes};
+ghost use Rattle.lbk_calls.specs.State.{part_start, start_in};
+ghost use Rattle.lbk_c.specs.Segments.{AreWithin, next_start, segments_between};
+
+use lbk_bytes::RawBreak;
+use lbk_calls::{State, give_breaks};
+use lbk_rules::FlatTable;
+
+/// How many breaks are found at a time.
+const BLOCK: usize = 64;
+
+/// A part of a text between two breaks: the bytes from `start` up to `end`, not counting that one.
+#[repr(C)]
+#[derive(Clone, Copy)]
+pub struct Segment {
+    /// The byte that it begins with, counted from the text's start.
+    pub start: usize,
+    /// The byte after its last one, before which the break stands.
+    pub end: usize,
+    /// Whether the line may or must end there: 1 for May, 2 for Must.
+    pub kind: u8,
+    /// The number of the rule that decided there.
+    pub rule: u8,
+}
+
+/// How far a text was cut into segments. One of zeros stands at the start of a text, in the first profile.
+#[repr(C)]
+#[derive(Clone, Copy)]
+pub struct SegmentState {
+    /// How far its breaks were taken.
+    pub breaks: State,
+    /// Where the next segment starts.
+    pub start: usize,
+}
+
+/// Puts the next segments of a text into the front of the block, from the state on, and returns how many: as many as
+/// the block holds, or all that are left. A segment ends at each break of `lbk_breaks`, and begins where the one before
+/// it ends.
+///
+/// Where the block has no room, or no break comes from the state on, the state stays and no segment comes. What stands
+/// in the block after the segments is unspecified.
+#[unsafe(no_mangle)]
+pub extern "C" fn lbk_segments(
+    table: &FlatTable,
+    state: &mut SegmentState,
+    text: &[u8],
+    out: &mut [Segment],
+) -> usize
+    ensures within { result ≤ length out.old }
+    ensures profile_same { state.new.breaks.profile ≡ state.old.breaks.profile }
+    ensures all { state.old.breaks.profile ≤ 3 → state.old.breaks.at ≤ length text.now → result < length out.old
+        → 0 < state.new.breaks.ended }
+    ensures whole { (cell : ℕ → Cell) (profile : Profile) → IsFlatOf table.now cell
+        → state.old.breaks ≡ start_in profile
+        → Comes cell table.now text.now state.old.breaks (breaks_of_bytes profile cell text.now) }
+    ensures part { (cell : ℕ → Cell) (profile : Profile) (goes_on : Bool) (at : ℕ) → IsFlatOf table.now cell
+        → at ≤ length text.now
+        → state.old.breaks ≡ part_start goes_on profile at
+        → Comes cell table.now text.now state.old.breaks
+        (map (moved at) (breaks_of_part goes_on profile cell (drop at text.now))) }
+    ensures count { (cell : ℕ → Cell) (to_come : List Break)
+        → Comes cell table.now text.now state.old.breaks to_come → result ≡ min (length out.old) (length to_come) }
+    ensures front { (cell : ℕ → Cell) (to_come : List Break)
+        → Comes cell table.now text.now state.old.breaks to_come
+        → take result out.new ≡ segments_between state.old.start (map raw_of (take result to_come)) }
+    ensures next { (cell : ℕ → Cell) (to_come : List Break)
+        → Comes cell table.now text.now state.old.breaks to_come
+        → state.new.start ≡ next_start state.old.start (map raw_of (take result to_come)) }
+    ensures rest { (cell : ℕ → Cell) (to_come : List Break)
+        → Comes cell table.now text.now state.old.breaks to_come
+        → Comes cell table.now text.now state.new.breaks (drop result to_come) }
+    // Of any table: each segment is within the text, and ends at a break by a rule.
+    ensures sound { state.old.start ≤ state.old.breaks.at → state.old.breaks.at ≤ length text.now
+        → AreWithin (length text.now) (take result out.new) × (state.new.start ≤ state.new.breaks.at)
+        × (state.new.breaks.at ≤ length text.now) }
+    ensures stays { (3 < state.old.breaks.profile) ⊎ ((0 < state.old.breaks.ended)
+        ⊎ ((length text.now < state.old.breaks.at) ⊎ (length out.old ≡ 0))) → (result ≡ 0) × (state.new ≡ state.old) }
+{
+    let mut block = [RawBreak {
+        at: 0,
+        kind: 0,
+        rule: 0,
+    }; BLOCK];
+    let mut count = 0;
+    loop {
+        let room = BLOCK.min(out.len() - count);
+        let given = give_breaks::<true>(table, &mut state.breaks, text, &mut block[..room]);
+        state.start = put_segments(&block[..given], state.start, out, count);
+        count += given;
+        if given < BLOCK {
+            return count;
+        }
+    }
+}
+
+/// Puts the segments that end at some breaks into a block, from a place on, and returns where the next one starts.
+fn put_segments(breaks: &[RawBreak], start: usize, out: &mut [Segment], from: usize) -> usize
+    requires { from + length breaks.now ≤ length out.old }
+    ensures front { take (from + length breaks.now) out.new ≡ take from out.old ++ segments_between start breaks.now }
+    ensures next { result ≡ next_start start breaks.now }
+{
+    let mut start = start;
+    let mut k = 0;
+    while k < breaks.len() {
+        let RawBreak { at, kind, rule } = breaks[k];
+        out[from + k] = Segment {
+            start,
+            end: at,
+            kind,
+            rule,
+        };
+        start = at;
+        k += 1;
+    }
+    start
+}

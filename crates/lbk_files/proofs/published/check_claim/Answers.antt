@@ -1,9 +1,0 @@
-use Rattle.std.proofs.Common.{◌≡◌, sym, subst}
-use Rattle.lbk_files.specs.Published.{NamesVersion, rules_version}
-use Rattle.lbk_files.proofs.Numbers.{is-rules}
-use Rattle.lbk_files.proofs.published.check_claim.Goals as goal
-
-pub returns-in-Some : goal.returns-in-Some
-returns-in-Some c =
-    let same : c.in-Some.version ≡ rules_version = is-rules c.in-Some.version (sym c.if-eq.ensures) in
-    (λ is. absurd (cc (c.if-is_published.ensures.1 is)), subst (NamesVersion c.args.which c.args.bytes.now) same c.in-Some.ensures)

@@ -1,0 +1,113 @@
+//! What a property file is that is not the published one, in words.
+
+ghost use Rattle.std.specs.Prelude.{◌≡◌, ◌+◌, ◌≤◌, ◌++◌, decimal, length};
+ghost use Rattle.arrayvec.specs.ArrayString.{array_string_len};
+ghost use Rattle.lbk_ucd.specs.ClaimTexts.{claim_text, cut_text, remedy_text, three_numbers, two_numbers};
+ghost use Rattle.lbk_ucd.specs.ClaimTexts.{version_text};
+
+use crate::names::file_name;
+use crate::published::{ClaimCause, Version};
+use crate::which::Which;
+use arrayvec::ArrayString;
+use itoa::Buffer;
+
+/// What a file is that is not the published one: of which version it is, that it was changed or cut, or that it is
+/// another file. ASCII.
+pub fn claim_text(which: Which, cause: ClaimCause) -> ArrayString<95>
+    ensures { result.bytes ≡ claim_text which cause }
+{
+    match cause {
+        ClaimCause::Title => {
+            let mut text = begun("this is not ");
+            text.push_str(file_name(which));
+            text.push_str(" as Unicode 15.0 published it");
+            text
+        }
+        ClaimCause::Version(version) => version_text(which, version),
+        ClaimCause::Changed => {
+            let mut text = begun("the file was changed or cut: Unicode 15.0.0 published another ");
+            text.push_str(file_name(which));
+            text
+        }
+    }
+}
+
+/// What a file is that claims a published name, and was cut ([`is_cut`](crate::is_cut)), in at most 95 bytes of ASCII.
+pub fn cut_text() -> &'static str
+    ensures text { result.now ≡ cut_text }
+    ensures short { length result.now ≤ 95 }
+{
+    "the file was cut: its first line claims a published name, and its last is not # EOF"
+}
+
+/// Where the published files are, in at most 95 bytes of ASCII.
+pub fn remedy_text() -> &'static str
+    ensures text { result.now ≡ remedy_text }
+    ensures short { length result.now ≤ 95 }
+{
+    "Debian 12's unicode-data has it, as has https://www.unicode.org/Public/15.0.0/ucd/UCD.zip"
+}
+
+/// Of which version a file is, where this is another.
+fn version_text(which: Which, version: Version) -> ArrayString<95>
+    ensures { result.bytes ≡ version_text which version }
+{
+    match which {
+        Which::Emoji => {
+            if version.update == 0 {
+                with_two_numbers("this is of Emoji ", version, ", and lbk goes by 15.0")
+            } else {
+                with_three_numbers("this is of Emoji ", version, ", and lbk goes by 15.0.0")
+            }
+        }
+        _ => with_three_numbers("this is of Unicode ", version, ", and lbk goes by 15.0.0"),
+    }
+}
+
+/// A text with the first two numbers of a version in it.
+fn with_two_numbers(before: &str, version: Version, after: &str) -> ArrayString<95>
+    requires before { length before.now ≤ 19 }
+    requires after { length after.now ≤ 24 }
+    ensures bytes { result.bytes ≡ before.now ++ two_numbers version after.now }
+    ensures len { array_string_len result ≤ length before.now + 21 + length after.now }
+{
+    let mut text = begun(before);
+    push_number(&mut text, version.major);
+    text.push_str(".");
+    push_number(&mut text, version.minor);
+    text.push_str(after);
+    text
+}
+
+/// A text with the three numbers of a version in it.
+fn with_three_numbers(before: &str, version: Version, after: &str) -> ArrayString<95>
+    requires before { length before.now ≤ 19 }
+    requires after { length after.now ≤ 24 }
+    ensures { result.bytes ≡ before.now ++ three_numbers version after.now }
+{
+    let mut text = with_two_numbers(before, version, ".");
+    push_number(&mut text, version.update);
+    text.push_str(after);
+    text
+}
+
+/// The front of a text.
+fn begun(front: &str) -> ArrayString<95>
+    requires { length front.now ≤ 95 }
+    ensures bytes { result.bytes ≡ front.now }
+    ensures len { array_string_len result ≡ length front.now }
+{
+    let mut text = ArrayString::new();
+    text.push_str(front);
+    text
+}
+
+/// Puts a number behind a text.
+fn push_number(text: &mut ArrayString<95>, number: u32)
+    requires { array_string_len text.old + 10 ≤ 95 }
+    ensures bytes { text.new.bytes ≡ text.old.bytes ++ decimal number }
+    ensures len { array_string_len text.new ≤ array_string_len text.old + 10 }
+{
+    let mut digits = Buffer::new();
+    text.push_str(digits.format(number));
+}
