@@ -30,8 +30,9 @@ absolute() {
 prefix=$(absolute "$1")
 libdir=$(absolute "${2:-$prefix/lib}")
 case $prefix$libdir in
-*[\"\'\\\$\`\#\;]*)
-    echo "install.sh: a folder has one of \" ' \\ \$ \` # ; in its name, which lbk.pc cannot name; choose another: $prefix $libdir" >&2
+*[\"\'\\\$\`\#\;[:cntrl:]]*)
+    printf '%s\n' "install.sh: a folder has one of \" ' \\ \$ \` # ; or a tab or line end in its name, which lbk.pc cannot name; choose another: \
+$prefix $libdir" >&2
     exit 2
     ;;
 esac
