@@ -23,9 +23,9 @@ QUOTES = "a run of quotation marks"
 LINES = "Arabic with CRLF"
 
 # A text, a call, and the least ratio of its speed to the loop's. `-2` is the second profile, `-8` eight bytes a call, `-60` a
-# line of at most sixty, `lbk_cut` a call for each 4,096 bytes: over a text without a cut, where each call reads to the end, 0.006
-# was measured. Without blocks of 64 bytes 0.2 to 0.4 was left of the pages and of letters of two bytes. `lbk_words`
-# goes at 1.28, 0.31 and 0.39 of the loop.
+# line of at most sixty, `-1` a word of bits a call, `lbk_cut` a call for each 4,096 bytes or units: over a text without a cut, where
+# each call reads to the end, 0.006 was measured. Without blocks of 64 bytes 0.2 to 0.4 was left of the pages and of letters of two
+# bytes. `lbk_words` goes at 1.28, 0.31 and 0.39 of the loop.
 BOUNDS = [
     ("the pages", "lbk_breaks", 0.45),
     ("the pages", "lbk_breaks-2", 0.45),
@@ -42,6 +42,9 @@ BOUNDS = [
     ("the pages", "lbk_breaks_utf32", 0.2),
     ("the pages", "lbk_positions_utf16", 0.14),
     ("the pages", "lbk_positions_utf32", 0.14),
+    ("the pages", "lbk_cut_utf16", 2),
+    ("the pages", "lbk_cut_before_utf16", 2),
+    ("the pages", "lbk_marks-1", 0.4),
     ("letters of two bytes", "lbk_breaks", 0.35),
     ("letters of two bytes", "lbk_breaks-2", 0.35),
     ("letters of two bytes", "lbk_breaks-8", 0.06),
@@ -55,6 +58,9 @@ BOUNDS = [
     ("letters of two bytes", "lbk_breaks_utf32", 0.35),
     ("letters of two bytes", "lbk_positions_utf16", 0.22),
     ("letters of two bytes", "lbk_positions_utf32", 0.22),
+    ("letters of two bytes", "lbk_cut_utf16", 3),
+    ("letters of two bytes", "lbk_cut_before_utf16", 3),
+    ("letters of two bytes", "lbk_marks-1", 0.38),
     ("letters of three bytes", "lbk_breaks", 0.17),
     ("letters of three bytes", "lbk_breaks-2", 0.17),
     ("letters of three bytes", "lbk_breaks-8", 0.06),
@@ -68,6 +74,9 @@ BOUNDS = [
     ("letters of three bytes", "lbk_breaks_utf32", 0.45),
     ("letters of three bytes", "lbk_positions_utf16", 0.3),
     ("letters of three bytes", "lbk_positions_utf32", 0.3),
+    ("letters of three bytes", "lbk_cut_utf16", 4),
+    ("letters of three bytes", "lbk_cut_before_utf16", 4),
+    ("letters of three bytes", "lbk_marks-1", 0.1),
     # Without the loop of steps 0.033 was left, and of `lbk_feed` 0.029; with it 0.056 was the least, beside other load.
     (HELD, "lbk_breaks-2", 0.045),
     (HELD, "lbk_feed", 0.17),

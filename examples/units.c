@@ -1,6 +1,7 @@
 /* Tries lbk_breaks_utf16 and lbk_breaks_utf32 against lbk_breaks, and lbk_positions_utf16 and lbk_positions_utf32 against
  * lbk_positions: what they give of random units has to be what is given of the UTF-8 text of the same scalars, at the units that
- * spell the scalars before it, in blocks of any room.
+ * spell the scalars before it, in blocks of any room, also where the text goes on. Tries lbk_cut_utf16 and lbk_cut_before_utf16 at
+ * all places of a text, against where a line must end in it, and the parts against the whole.
  *
  *     units ROUNDS SEED LINE_BREAK EAST_ASIAN CATEGORY EMOJI [TEXT]
  *
@@ -81,14 +82,33 @@ static size_t next(int all, int wide, lbk_state *state, const void *units, size_
                 : lbk_breaks_utf16(&table, state, units, size, block, room);
 }
 
+/* What is given of the scalars as UTF-8. Of positions of a part after which the text goes on: all but the last one of a text, and
+ * then the break at the end, if there is one. */
+static size_t wanted_of(int all, uint8_t profile, const scalars *read, lbk_break *to)
+{
+    lbk_state state = {0}, over = {0};
+    state.profile = all ? profile % LBK_GOES_ON : profile;
+    over.profile = profile;
+    const char *text = (const char *)read->utf8;
+    size_t count = (all ? lbk_positions : lbk_breaks)(&table, &state, text, read->size, to, 4 * MOST_UNITS);
+    if (!all || profile < LBK_GOES_ON)
+        return count;
+    static lbk_break breaks[4 * MOST_UNITS];
+    size_t others = lbk_breaks(&table, &over, text, read->size, breaks, 4 * MOST_UNITS);
+    count--;
+    if (others > 0 && breaks[others - 1].at == read->size)
+        to[count++] = breaks[others - 1];
+    return count;
+}
+
 /* What is given of units, in blocks of this room, has to be what is given of the scalars that are read in them. */
 static int agrees(int all, int wide, uint8_t profile, const void *units, size_t size, size_t room, const scalars *read)
 {
     static lbk_break wanted[4 * MOST_UNITS];
     size_t whole = size * (wide ? sizeof(uint32_t) : sizeof(uint16_t));
-    lbk_state state = {0}, over = {0};
-    state.profile = over.profile = profile;
-    size_t count = (all ? lbk_positions : lbk_breaks)(&table, &over, (const char *)read->utf8, read->size, wanted, 4 * MOST_UNITS);
+    lbk_state state = {0};
+    state.profile = profile;
+    size_t count = wanted_of(all, profile, read, wanted);
     size_t given = 0, scalar = 0, got;
     void *text = place(texts, whole);
     memcpy(text, units, whole);
@@ -106,7 +126,7 @@ static int agrees(int all, int wide, uint8_t profile, const void *units, size_t 
         }
     } while (holds && got == room);
     holds &= given == count && state.ended != 0 && state.at == size && memcmp(text, units, whole) == 0;
-    holds &= !all || count == read->count + 1;
+    holds &= !all || profile >= LBK_GOES_ON || count == read->count + 1;
     lbk_state old = state;
     lbk_break one;
     holds &= next(all, wide, &state, text, size, &one, 1) == 0 && memcmp(&state, &old, sizeof old) == 0;
@@ -158,11 +178,76 @@ static size_t random_utf32(uint32_t *to)
     return size;
 }
 
+/* Positions of UTF-8, where the text goes on. */
+static void try_going_on(uint8_t profile, const scalars *read)
+{
+    static lbk_break wanted[4 * MOST_UNITS], given[4 * MOST_UNITS];
+    lbk_state state = {0};
+    state.profile = profile;
+    size_t count = wanted_of(1, profile, read, wanted);
+    int holds = lbk_positions(&table, &state, (const char *)read->utf8, read->size, given, 4 * MOST_UNITS) == count;
+    for (size_t k = 0; holds && k < count; k++)
+        holds &= given[k].at == wanted[k].at && given[k].kind == wanted[k].kind && given[k].rule == wanted[k].rule;
+    told("positions of UTF-8 that goes on", holds);
+}
+
+/* The breaks or positions of the part of a text from a unit on. */
+static size_t part_of(int all, uint8_t profile, const uint16_t *units, size_t from, size_t size, lbk_break *to)
+{
+    lbk_state state = {from, 0, profile, 0};
+    return (all ? lbk_positions_utf16 : lbk_breaks_utf16)(&table, &state, units, size, to, MOST_UNITS);
+}
+
+/* Whether what is given of both parts, one after the other, is what is given of the whole. The second begins with a position that
+ * the first has. */
+static int joins(int all, uint8_t profile, const uint16_t *units, size_t size, size_t cut)
+{
+    static lbk_break whole[MOST_UNITS], first[MOST_UNITS], second[MOST_UNITS];
+    size_t count = part_of(all, profile, units, 0, size, whole);
+    size_t one = part_of(all, profile + LBK_GOES_ON, units, 0, cut, first);
+    size_t other = part_of(all, profile, units, cut, size, second), skipped = all ? 1 : 0;
+    int holds = one + other == count + skipped;
+    for (size_t k = 0; holds && k < count; k++) {
+        const lbk_break *part = k < one ? &first[k] : &second[k - one + skipped];
+        holds &= part->at == whole[k].at && part->kind == whole[k].kind && part->rule == whole[k].rule;
+    }
+    return holds;
+}
+
+/* Both cuts at each place, by where a line must end in the whole text. */
+static void try_cuts(uint8_t profile, const uint16_t *units, size_t size)
+{
+    static lbk_break whole[MOST_UNITS];
+    static size_t before[MOST_UNITS + 1];
+    size_t count = part_of(0, profile, units, 0, size, whole), next = 0, behind = size;
+    uint16_t *text = place(texts, size * sizeof *text);
+    memcpy(text, units, size * sizeof *text);
+    for (size_t at = 0; at <= size; at++) {
+        while (next < count && whole[next].at < at)
+            next++;
+        int safe = at == 0 || at == size || (next < count && whole[next].at == at && whole[next].kind == LBK_MUST);
+        before[at] = safe ? at : before[at - 1];
+        if (safe && at != 0 && at != size)
+            told("what is given of two parts in UTF-16 is what is given of the whole",
+                 joins(0, profile, units, size, at) && joins(1, profile, units, size, at));
+    }
+    for (size_t at = size + 1; at-- > 0;) {
+        behind = before[at] == at ? at : behind;
+        told("the first cut at or after a unit", lbk_cut_utf16(&table, text, size, at) == behind);
+        told("the last cut at or before a unit", lbk_cut_before_utf16(&table, text, size, at) == before[at]);
+    }
+    told("cuts past the end", lbk_cut_utf16(&table, text, size, size + 1 + below(9)) == size
+        && lbk_cut_before_utf16(&table, text, size, SIZE_MAX) == size);
+}
+
 static void try_utf16(const uint16_t *units, size_t size, size_t room)
 {
     static scalars read;
     read_utf16(&read, units, size);
-    for (uint8_t profile = 0; profile < 2; profile++) {
+    try_cuts((uint8_t)below(2), units, size);
+    for (uint8_t profile = 0; profile < 4; profile++) {
+        if (profile >= LBK_GOES_ON)
+            try_going_on(profile, &read);
         told("breaks of units of 16 bits", agrees(0, 0, profile, units, size, room, &read));
         told("positions of units of 16 bits", agrees(1, 0, profile, units, size, room, &read));
     }
@@ -172,7 +257,7 @@ static void try_utf32(const uint32_t *units, size_t size, size_t room)
 {
     static scalars read;
     read_utf32(&read, units, size);
-    for (uint8_t profile = 0; profile < 2; profile++) {
+    for (uint8_t profile = 0; profile < 4; profile++) {
         told("breaks of units of 32 bits", agrees(0, 1, profile, units, size, room, &read));
         told("positions of units of 32 bits", agrees(1, 1, profile, units, size, room, &read));
     }
@@ -220,7 +305,7 @@ static void try_any_table(const lbk_table *any, int all)
     lbk_state state;
     fill_random(&state, sizeof state);
     if (below(4) != 0) {
-        state.profile %= 2;
+        state.profile %= 4;
         state.ended = 0;
         state.at = below(size + 1);
     }

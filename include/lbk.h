@@ -120,7 +120,7 @@ enum {
 enum {
     LBK_FIRST = 0,  /* rule 15 of Unicode 15.0 */
     LBK_SECOND = 1, /* rules 15a and 15b instead, which look at both sides of a quotation mark */
-    LBK_GOES_ON = 2 /* added to either, for lbk_breaks, lbk_segments, lbk_marks and lbk_feed: the text goes on after */
+    LBK_GOES_ON = 2 /* added to either, for all calls but lbk_chunks: the text goes on after these bytes or units */
 };
 
 /* lbk_fault.file: the files of the Unicode Character Database, in the order in which lbk_read reads them. */
@@ -377,7 +377,10 @@ size_t lbk_segments(const lbk_table *table, lbk_segment_state *state, const char
  *
  * A text has the same breaks by the same rules in all three encodings. A lone surrogate, or a number that is no scalar
  * value, is read as U+FFFD (Unicode Standard, section 3.9, D90 and D91). No break is inside a surrogate pair. Do not
- * use a state with another encoding than the one it began with. */
+ * use a state with another encoding than the one it began with.
+ *
+ * With LBK_GOES_ON the end of `text` is no end of a text, as for lbk_breaks: in UTF-16, the breaks of the parts that
+ * lbk_cut_utf16 finds are those of the text. */
 size_t lbk_breaks_utf16(const lbk_table *table, lbk_state *state, const uint16_t *text, size_t size,
                         lbk_break *block, size_t room);
 size_t lbk_breaks_utf32(const lbk_table *table, lbk_state *state, const uint32_t *text, size_t size,
@@ -457,6 +460,10 @@ size_t lbk_marks(const lbk_table *table, lbk_state *state, const char *text, siz
  * LBK_MAY or LBK_MUST) and the first rule that matches. The first position is LBK_NO by rule 2; an empty text has only
  * that one. The positions with LBK_MAY or LBK_MUST are the breaks of lbk_breaks. A text of n bytes has at most n + 1
  * positions.
+ *
+ * With LBK_GOES_ON the end of `text` is a position only if a line must end there whatever follows. A part that begins
+ * at a cut returns that offset, too, LBK_NO by rule 2: skip this one, and the positions of the parts that lbk_cut finds
+ * are those of the text.
  *
  * States, ill-formed bytes and the cases that return 0 are as for lbk_breaks. Allocates nothing. */
 size_t lbk_positions(const lbk_table *table, lbk_state *state, const char *text, size_t size, lbk_break *block,
@@ -554,6 +561,11 @@ size_t lbk_cut(const lbk_table *table, const char *text, size_t size, size_t at)
  * an `at` of `size` or more. The result depends only on the bytes from four before the cut to four after `at`. Its
  * time does not grow with the size of the text (measured). Allocates nothing. */
 size_t lbk_cut_before(const lbk_table *table, const char *text, size_t size, size_t at);
+
+/* As lbk_cut and lbk_cut_before, for UTF-16 as lbk_breaks_utf16 reads it: `size`, `at` and the result count units. No
+ * part begins inside a surrogate pair, with a corrupt table, too. */
+size_t lbk_cut_utf16(const lbk_table *table, const uint16_t *text, size_t size, size_t at);
+size_t lbk_cut_before_utf16(const lbk_table *table, const uint16_t *text, size_t size, size_t at);
 
 /* Returns an offset before the end of the text: the breaks of the text after it are those of the text that begins there,
  * so what is before it can be forgotten, for example while a text grows. `profile` is LBK_FIRST or LBK_SECOND.

@@ -125,17 +125,28 @@ static uint64_t go_positions(const char *text, size_t size)
 }
 
 /* Each word is looked at, as a caller would. */
-static uint64_t go_marks(const char *text, size_t size)
+static uint64_t marks_of(const char *text, size_t size, size_t room)
 {
     lbk_state state = {0};
     uint64_t bits[ROOM], sum = 0;
     size_t count;
     do {
-        count = lbk_marks(&table, &state, text, size, bits, ROOM);
-        for (size_t k = 0; k < ROOM; k++)
+        count = lbk_marks(&table, &state, text, size, bits, room);
+        for (size_t k = 0; k < room; k++)
             sum += bits[k];
-    } while (count == 64 * ROOM);
+    } while (count == 64 * room);
     return sum;
+}
+
+static uint64_t go_marks(const char *text, size_t size)
+{
+    return marks_of(text, size, ROOM);
+}
+
+/* A call for each word. */
+static uint64_t go_marks_singly(const char *text, size_t size)
+{
+    return marks_of(text, size, 1);
 }
 
 static uint64_t chunks_of(const char *text, size_t size, size_t overlap)
@@ -255,6 +266,26 @@ GO_UNITS(go_breaks_32, lbk_breaks_utf32, units_32, size_32)
 GO_UNITS(go_positions_16, lbk_positions_utf16, units_16, size_16)
 GO_UNITS(go_positions_32, lbk_positions_utf32, units_32, size_32)
 
+static uint64_t go_cuts_16(const char *text, size_t size)
+{
+    uint64_t sum = 0;
+    (void)text;
+    (void)size;
+    for (size_t at = 0; at < size_16; at += PIECE)
+        sum += lbk_cut_utf16(&table, units_16, size_16, at);
+    return sum;
+}
+
+static uint64_t go_cuts_before_16(const char *text, size_t size)
+{
+    uint64_t sum = 0;
+    (void)text;
+    (void)size;
+    for (size_t at = 0; at < size_16; at += PIECE)
+        sum += lbk_cut_before_utf16(&table, units_16, size_16, at);
+    return sum;
+}
+
 static double seconds_of(uint64_t (*go)(const char *, size_t), const bytes *text)
 {
     double start = now();
@@ -294,6 +325,7 @@ int main(int count, char **word)
         {"lbk_words", go_words},    {"lbk_cut", go_cuts},        {"lbk_cut_before", go_cuts_before},
         {"lbk_breaks_utf16", go_breaks_16}, {"lbk_breaks_utf32", go_breaks_32},
         {"lbk_positions_utf16", go_positions_16}, {"lbk_positions_utf32", go_positions_32},
+        {"lbk_cut_utf16", go_cuts_16}, {"lbk_cut_before_utf16", go_cuts_before_16}, {"lbk_marks-1", go_marks_singly},
     };
     if (count < 7) {
         fprintf(stderr, "usage: speed CALLS LINE_BREAK EAST_ASIAN CATEGORY EMOJI TEXT..\n");

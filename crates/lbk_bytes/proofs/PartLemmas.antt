@@ -10,9 +10,10 @@ use Rattle.lbk_values.specs.declared.profile.Profile.{Profile}
 use Rattle.lbk_rules.specs.Breaks.{break_by, is_no}
 use Rattle.lbk_rules.specs.Ends.{end_after, end_of_text, ends_line}
 use Rattle.lbk_rules.specs.Joins.{moved}
+use Rattle.lbk_rules.specs.Marks.{marks}
 use Rattle.lbk_rules.specs.Verdict.{verdict_between_in}
 use Rattle.lbk_rules.proofs.EndLemmas.{must_at_end, start_of_text}
-use Rattle.lbk_bytes.specs.Bytes.{breaks_of_part, end_in, open_end, with_break}
+use Rattle.lbk_bytes.specs.Bytes.{breaks_after, breaks_of_part, end_in, of_part, open_end, with_break}
 use Rattle.lbk_bytes.specs.Reached.{onward, onward_to, scalars_of}
 use Rattle.lbk_bytes.proofs.ReachedLemmas.{onward-start}
 
@@ -24,7 +25,7 @@ with_break-moved by at verdict more =
     as (λ b. map (moved by) (cond b more (break_by at verdict ∷ more)) ≡ cond b (map (moved by) more) (break_by (by + at) verdict ∷ map (moved by) more))
     [ true ↦ refl | false ↦ refl ]
 
-end-moved : (goes_on : Bool) (profile : Profile) (cell : ℕ → Cell) (taken : List ℕ) (by at : ℕ)
+pub end-moved : (goes_on : Bool) (profile : Profile) (cell : ℕ → Cell) (taken : List ℕ) (by at : ℕ)
     → map (moved by) (end_in goes_on profile cell taken at) ≡ end_in goes_on profile cell taken (by + at)
 end-moved false profile cell taken by at = with_break-moved by at (verdict_between_in profile (map cell taken) []) []
 end-moved true profile cell [] by at = refl
@@ -86,7 +87,7 @@ ends profile cell before c at (q ∷ qs) =
           ∙ ap (λ l. with_break at verdict rest.front ++ open_end profile cell l (at + (q.size + sizes qs))) (append_assoc on (d ∷ []) (scalars_of qs));
     }
 
-without-last : (front : List Break) (last : Break) → take (length (front ++ last ∷ []) - 1) (front ++ last ∷ []) ≡ front
+pub without-last : (front : List Break) (last : Break) → take (length (front ++ last ∷ []) - 1) (front ++ last ∷ []) ≡ front
 without-last front last =
     let long = length-append front (last ∷ []) in
     take_at front (last ∷ []) (length (front ++ last ∷ []) - 1) (omega arith)
@@ -109,20 +110,27 @@ open-start profile cell (p ∷ ps) =
     ∙ ap (λ n. e.front ++ open_end profile cell (scalars_of (p ∷ ps)) n) place
     ∙ sym (ap (λ (v : Verdict). with_break 0 v (onward_to open_end profile cell (c ∷ []) (0 + p.size) ps)) start ∙ e.opened)
 
-part-start : (goes_on : Bool) (profile : Profile) (cell : ℕ → Cell) (text : List ℕ)
-    → breaks_of_part goes_on profile cell text ≡ onward_to (end_in goes_on) profile cell [] 0 (pieces text)
-part-start false profile cell text = onward-start profile cell (pieces text)
-part-start true profile cell text =
-    let whole = pieces-sizes (length text) text (omega arith) in
-    let size : length text ≡ sizes (pieces text) = omega arith in
-    ap (λ l. take (length l - 1) l ++ open_end profile cell (scalars_of (pieces text)) (length text)) (onward-start profile cell (pieces text))
-    ∙ ap (λ n. take (length (onward profile cell [] 0 (pieces text)) - 1) (onward profile cell [] 0 (pieces text)) ++ open_end profile cell (scalars_of (pieces text)) n) size
-    ∙ open-start profile cell (pieces text)
+part-start : (goes_on : Bool) (profile : Profile) (cell : ℕ → Cell) (ps : List Decoded) (size : ℕ) → size ≡ sizes ps
+    → of_part goes_on (breaks_after 0 ps (marks profile cell (scalars_of ps))) (open_end profile cell (scalars_of ps) size)
+    ≡ onward_to (end_in goes_on) profile cell [] 0 ps
+part-start false profile cell ps size same = onward-start profile cell ps
+part-start true profile cell ps size same =
+    ap (λ l. take (length l - 1) l ++ open_end profile cell (scalars_of ps) size) (onward-start profile cell ps)
+    ∙ ap (λ n. take (length (onward profile cell [] 0 ps) - 1) (onward profile cell [] 0 ps) ++ open_end profile cell (scalars_of ps) n) same
+    ∙ open-start profile cell ps
 
--- the breaks of a part, at their places in the text
+-- the breaks of a part that has these pieces, at their places in the text
+pub pieces-onward : (goes_on : Bool) (profile : Profile) (cell : ℕ → Cell) (at : ℕ) (ps : List Decoded) (size : ℕ) → size ≡ sizes ps
+    → map (moved at) (of_part goes_on (breaks_after 0 ps (marks profile cell (scalars_of ps))) (open_end profile cell (scalars_of ps) size))
+    ≡ onward_to (end_in goes_on) profile cell [] at ps
+pieces-onward goes_on profile cell at ps size same =
+    let place : at + 0 ≡ at = omega arith in
+    ap (map (moved at)) (part-start goes_on profile cell ps size same) ∙ onward-moved goes_on profile cell [] at 0 ps
+    ∙ ap (λ n. onward_to (end_in goes_on) profile cell [] n ps) place
+
+-- of bytes
 pub part-onward : (goes_on : Bool) (profile : Profile) (cell : ℕ → Cell) (at : ℕ) (text : List ℕ)
     → map (moved at) (breaks_of_part goes_on profile cell text) ≡ onward_to (end_in goes_on) profile cell [] at (pieces text)
 part-onward goes_on profile cell at text =
-    let place : at + 0 ≡ at = omega arith in
-    ap (map (moved at)) (part-start goes_on profile cell text) ∙ onward-moved goes_on profile cell [] at 0 (pieces text)
-    ∙ ap (λ n. onward_to (end_in goes_on) profile cell [] n (pieces text)) place
+    let whole = pieces-sizes (length text) text (omega arith) in
+    pieces-onward goes_on profile cell at (pieces text) (length text) (sym whole)

@@ -44,9 +44,12 @@ abbrev pub end_in : Bool → AtEnd
 end_in true = open_end
 end_in false = closed_end
 
+-- of a part of a text these by itself: where the text goes on after it, all but the last, and what comes there at the end
+abbrev pub of_part : Bool → List Break → List Break → List Break
+of_part false alone at_end = alone
+of_part true alone at_end = take (length alone - 1) alone ++ at_end
+
 -- the breaks of a part of a text by itself. Where the text goes on after it, the last of them is as it is there
 abbrev pub breaks_of_part : Bool → Profile → (ℕ → Cell) → List ℕ → List Break
-breaks_of_part false profile cell part = breaks_of_bytes profile cell part
-breaks_of_part true profile cell part =
-    take (length (breaks_of_bytes profile cell part) - 1) (breaks_of_bytes profile cell part)
-    ++ open_end profile cell (lossy_chars part) (length part)
+breaks_of_part goes_on profile cell part =
+    of_part goes_on (breaks_of_bytes profile cell part) (open_end profile cell (lossy_chars part) (length part))

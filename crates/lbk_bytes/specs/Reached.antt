@@ -1,5 +1,5 @@
 -- How far a call has come with a text.
-use Rattle.std.specs.Prelude.{◌≡◌, ℕ, ◌+◌, ◌<◌, ◌≤◌, List, [], ◌∷◌, ◌++◌, length, map, drop}
+use Rattle.std.specs.Prelude.{◌≡◌, ℕ, Bool, true, false, ◌+◌, ◌<◌, ◌≤◌, List, [], ◌∷◌, ◌++◌, length, map, drop}
 use Rattle.bstr.specs.Utf8.{Decoded, or_replacement, pieces}
 use Rattle.lbk_rules.specs.declared.Break.{Break}
 use Rattle.lbk_rules.specs.declared.Cell.{Cell}
@@ -9,7 +9,7 @@ use Rattle.lbk_rules.specs.FlatTable.{KnowsTaken}
 use Rattle.lbk_rules.specs.Verdict.{verdict_between_in}
 use Rattle.lbk_bytes.specs.declared.fill_state.FillState.{FillState}
 use Rattle.lbk_bytes.specs.declared.raw_break.RawBreak.{RawBreak}
-use Rattle.lbk_bytes.specs.Bytes.{AtEnd, closed_end, with_break}
+use Rattle.lbk_bytes.specs.Bytes.{AtEnd, closed_end, open_end, with_break}
 use Rattle.lbk_bytes.specs.Order.{AreInOrderBy, IsBreak}
 
 -- the scalars that some pieces are read as
@@ -38,11 +38,20 @@ pub record Ahead : Type 0 where
   pub end : AtEnd
 
 -- the same of all positions, of which the first is the one before these pieces
-abbrev pub onward_all : Profile → (ℕ → Cell) → List ℕ → ℕ → List Decoded → List Break
-onward_all profile cell before at [] = break_by at (verdict_between_in profile (map cell before) []) ∷ []
-onward_all profile cell before at (p ∷ ps) =
+abbrev pub onward_all : AtEnd → Onward
+onward_all end profile cell before at [] = end profile cell before at
+onward_all end profile cell before at (p ∷ ps) =
     break_by at (verdict_between_in profile (map cell before) (map cell (scalars_of (p ∷ ps))))
-    ∷ onward_all profile cell (before ++ or_replacement p.char ∷ []) (at + p.size) ps
+    ∷ onward_all end profile cell (before ++ or_replacement p.char ∷ []) (at + p.size) ps
+
+-- the last position of a text
+abbrev pub last_position : AtEnd
+last_position profile cell scalars at = break_by at (verdict_between_in profile (map cell scalars) []) ∷ []
+
+-- what comes of the positions at an end
+abbrev pub position_end_in : Bool → AtEnd
+position_end_in true = open_end
+position_end_in false = last_position
 
 -- of all these were given, and the others come from here on
 pub record ReachedBy (from : Onward) (profile : Profile) (cell : ℕ → Cell) (text : List ℕ) (all : List Break) (here : FillState) (given : List Break) : Type 0 where

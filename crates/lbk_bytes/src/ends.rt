@@ -43,7 +43,7 @@ pub fn put_end(goes_on: bool, row: usize, out: &mut [RawBreak], count: usize, at
 }
 
 /// The number of the verdict at an end, or one by which no line breaks.
-pub(crate) fn end_shown(goes_on: bool, row: usize) -> u16
+pub fn end_shown(goes_on: bool, row: usize) -> u16
     requires { IsPlace row }
     ensures shown { IsShown result }
     ensures ends { (profile : Profile) (cell : ℕ → Cell) (taken : List ℕ) (at : ℕ)

@@ -20,7 +20,7 @@ mod raw_break;
 mod tries;
 
 pub use deciding::{Decided, decide_one};
-pub use ends::{END, START, put_end};
+pub use ends::{END, START, end_shown, put_end};
 pub use fill_state::FillState;
 pub use filling::{fill, fill_common, put};
 pub use marking::{fill_marks, mark_end};

@@ -26,6 +26,7 @@ mod streaming;
 mod table_reading;
 mod texts;
 mod unit_breaking;
+mod utf16_cuts;
 mod words;
 
 pub use breaking::lbk_breaks;
@@ -56,4 +57,5 @@ pub use streaming::lbk_feed;
 pub use table_reading::{lbk_read, lbk_read_published};
 pub use texts::{lbk_cause_text, lbk_file_name, lbk_rule_text, lbk_version};
 pub use unit_breaking::{lbk_breaks_utf16, lbk_breaks_utf32};
+pub use utf16_cuts::{lbk_cut_before_utf16, lbk_cut_utf16};
 pub use words::lbk_words;

@@ -1,6 +1,6 @@
 //! The positions of a text with the verdict of each, a block at a time.
 
-ghost use Rattle.std.specs.Prelude.{◌≡◌, ◌⊎◌, ℕ, suc, ◌<◌, ◌≤◌, false, true, List, drop, length, map, min, take};
+ghost use Rattle.std.specs.Prelude.{◌≡◌, ◌⊎◌, ℕ, Bool, suc, ◌<◌, ◌≤◌, true, List, drop, length, map, min, take};
 ghost use Rattle.std.specs.Str.{all_scalars, encode_utf8_all};
 ghost use Rattle.bstr.specs.Utf8.{pieces};
 ghost use Rattle.lbk_rules.specs.declared.Break.{Break};
@@ -12,7 +12,8 @@ ghost use Rattle.lbk_bytes.specs.Bytes.{breaks_of_bytes};
 ghost use Rattle.lbk_bytes.specs.Order.{ArePositionsInOrder};
 ghost use Rattle.lbk_bytes.specs.Shown.{given_in};
 ghost use Rattle.lbk_units.specs.Encodings.{encode_utf16_all, placed_in};
-ghost use Rattle.lbk_units.specs.Positions.{breaks_among, positions_of_bytes, positions_of_utf16, positions_of_utf32};
+ghost use Rattle.lbk_units.specs.Positions.{breaks_among, positions_of_bytes, positions_of_part_of, positions_of_utf16};
+ghost use Rattle.lbk_units.specs.Positions.{positions_of_utf32};
 ghost use Rattle.lbk_units.specs.Units.{breaks_of_utf16, breaks_of_utf32, pieces_of_utf16, pieces_of_utf32};
 ghost use Rattle.lbk_calls.specs.State.{part_start, start_in};
 ghost use Rattle.lbk_calls.specs.UnitsComing.{PositionsCome};
@@ -44,15 +45,16 @@ pub extern "C" fn lbk_positions(
     ensures onward { state.old.at ≤ state.new.at }
     ensures inside { state.old.at ≤ length text.now → state.new.at ≤ length text.now }
     ensures at_end { state.old.ended ≡ 0 → 0 < state.new.ended → state.new.at ≡ length text.now }
-    ensures all { state.old.profile ≤ 1 → state.old.at ≤ length text.now → result < length out.old
+    ensures all { state.old.profile ≤ 3 → state.old.at ≤ length text.now → result < length out.old
         → 0 < state.new.ended }
     ensures start { (cell : ℕ → Cell) (profile : Profile) → IsFlatOf table.now cell → state.old ≡ start_in profile
         → PositionsCome pieces cell table.now text.now state.old (positions_of_bytes profile cell text.now) }
-    // Of a part of the text that begins at any of its bytes.
-    ensures part { (cell : ℕ → Cell) (profile : Profile) (at : ℕ) → IsFlatOf table.now cell → at ≤ length text.now
-        → state.old ≡ part_start false profile at
+    // A part of the text that begins at any of its bytes, and after which the text may go on.
+    ensures part { (cell : ℕ → Cell) (profile : Profile) (goes_on : Bool) (at : ℕ) → IsFlatOf table.now cell
+        → at ≤ length text.now
+        → state.old ≡ part_start goes_on profile at
         → PositionsCome pieces cell table.now text.now state.old
-        (map (moved at) (positions_of_bytes profile cell (drop at text.now))) }
+        (map (moved at) (positions_of_part_of goes_on profile cell (pieces (drop at text.now)))) }
     ensures count { (cell : ℕ → Cell) (to_come : List Break)
         → PositionsCome pieces cell table.now text.now state.old to_come
         → result ≡ min (length out.old) (length to_come) }
@@ -72,7 +74,7 @@ pub extern "C" fn lbk_positions(
         ≡ map (placed_in encode_utf8_all scalars) (positions_of_utf32 profile cell scalars) }
     ensures ended { 0 < state.old.ended → (result ≡ 0) × (state.new ≡ state.old) }
     ensures past { length text.now < state.old.at → (result ≡ 0) × (state.new ≡ state.old) }
-    ensures unknown { 1 < state.old.profile → (result ≡ 0) × (state.new ≡ state.old) }
+    ensures unknown { 3 < state.old.profile → (result ≡ 0) × (state.new ≡ state.old) }
     ensures no_room { length out.old ≡ 0 → (result ≡ 0) × (state.new ≡ state.old) }
 {
     lbk_calls::lbk_positions(table, state, text, out)
@@ -100,14 +102,15 @@ pub extern "C" fn lbk_positions_utf16(
     ensures onward { state.old.at ≤ state.new.at }
     ensures inside { state.old.at ≤ length text.now → state.new.at ≤ length text.now }
     ensures at_end { state.old.ended ≡ 0 → 0 < state.new.ended → state.new.at ≡ length text.now }
-    ensures all { state.old.profile ≤ 1 → state.old.at ≤ length text.now → result < length out.old
+    ensures all { state.old.profile ≤ 3 → state.old.at ≤ length text.now → result < length out.old
         → 0 < state.new.ended }
     ensures start { (cell : ℕ → Cell) (profile : Profile) → IsFlatOf table.now cell → state.old ≡ start_in profile
         → PositionsCome pieces_of_utf16 cell table.now text.now state.old (positions_of_utf16 profile cell text.now) }
-    ensures part { (cell : ℕ → Cell) (profile : Profile) (at : ℕ) → IsFlatOf table.now cell → at ≤ length text.now
-        → state.old ≡ part_start false profile at
+    ensures part { (cell : ℕ → Cell) (profile : Profile) (goes_on : Bool) (at : ℕ) → IsFlatOf table.now cell
+        → at ≤ length text.now
+        → state.old ≡ part_start goes_on profile at
         → PositionsCome pieces_of_utf16 cell table.now text.now state.old
-        (map (moved at) (positions_of_utf16 profile cell (drop at text.now))) }
+        (map (moved at) (positions_of_part_of goes_on profile cell (pieces_of_utf16 (drop at text.now)))) }
     ensures count { (cell : ℕ → Cell) (to_come : List Break)
         → PositionsCome pieces_of_utf16 cell table.now text.now state.old to_come
         → result ≡ min (length out.old) (length to_come) }
@@ -127,7 +130,7 @@ pub extern "C" fn lbk_positions_utf16(
         ≡ map (placed_in encode_utf16_all scalars) (positions_of_utf32 profile cell scalars) }
     ensures ended { 0 < state.old.ended → (result ≡ 0) × (state.new ≡ state.old) }
     ensures past { length text.now < state.old.at → (result ≡ 0) × (state.new ≡ state.old) }
-    ensures unknown { 1 < state.old.profile → (result ≡ 0) × (state.new ≡ state.old) }
+    ensures unknown { 3 < state.old.profile → (result ≡ 0) × (state.new ≡ state.old) }
     ensures no_room { length out.old ≡ 0 → (result ≡ 0) × (state.new ≡ state.old) }
 {
     next_positions(table, state, text, out)
@@ -155,14 +158,15 @@ pub extern "C" fn lbk_positions_utf32(
     ensures onward { state.old.at ≤ state.new.at }
     ensures inside { state.old.at ≤ length text.now → state.new.at ≤ length text.now }
     ensures at_end { state.old.ended ≡ 0 → 0 < state.new.ended → state.new.at ≡ length text.now }
-    ensures all { state.old.profile ≤ 1 → state.old.at ≤ length text.now → result < length out.old
+    ensures all { state.old.profile ≤ 3 → state.old.at ≤ length text.now → result < length out.old
         → 0 < state.new.ended }
     ensures start { (cell : ℕ → Cell) (profile : Profile) → IsFlatOf table.now cell → state.old ≡ start_in profile
         → PositionsCome pieces_of_utf32 cell table.now text.now state.old (positions_of_utf32 profile cell text.now) }
-    ensures part { (cell : ℕ → Cell) (profile : Profile) (at : ℕ) → IsFlatOf table.now cell → at ≤ length text.now
-        → state.old ≡ part_start false profile at
+    ensures part { (cell : ℕ → Cell) (profile : Profile) (goes_on : Bool) (at : ℕ) → IsFlatOf table.now cell
+        → at ≤ length text.now
+        → state.old ≡ part_start goes_on profile at
         → PositionsCome pieces_of_utf32 cell table.now text.now state.old
-        (map (moved at) (positions_of_utf32 profile cell (drop at text.now))) }
+        (map (moved at) (positions_of_part_of goes_on profile cell (pieces_of_utf32 (drop at text.now)))) }
     ensures count { (cell : ℕ → Cell) (to_come : List Break)
         → PositionsCome pieces_of_utf32 cell table.now text.now state.old to_come
         → result ≡ min (length out.old) (length to_come) }
@@ -177,7 +181,7 @@ pub extern "C" fn lbk_positions_utf32(
         → breaks_among (positions_of_utf32 profile cell text.now) ≡ breaks_of_utf32 profile cell text.now }
     ensures ended { 0 < state.old.ended → (result ≡ 0) × (state.new ≡ state.old) }
     ensures past { length text.now < state.old.at → (result ≡ 0) × (state.new ≡ state.old) }
-    ensures unknown { 1 < state.old.profile → (result ≡ 0) × (state.new ≡ state.old) }
+    ensures unknown { 3 < state.old.profile → (result ≡ 0) × (state.new ≡ state.old) }
     ensures no_room { length out.old ≡ 0 → (result ≡ 0) × (state.new ≡ state.old) }
 {
     next_positions(table, state, text, out)

@@ -193,16 +193,6 @@ spent-ended state len (inl unnamed) few within = absurd (named-few state.profile
 spent-ended state len (inr (inl ended)) few within = ended
 spent-ended state len (inr (inr past)) few within = absurd (omega arith)
 
-named-plain : (n : ℕ) → n ≤ 1 → profile_numbered n ≡ None → ⊥
-named-plain zero few none = (let no : ⊥ = cc in no)
-named-plain (suc zero) few none = (let no : ⊥ = cc in no)
-named-plain (suc (suc n)) few none = absurd (omega (arith, few))
-
-pub spent-plain : (state : State) (len : ℕ) → IsSpent state len → state.profile ≤ 1 → state.at ≤ len → 0 < state.ended
-spent-plain state len (inl unnamed) few within = absurd (named-plain state.profile few unnamed)
-spent-plain state len (inr (inl ended)) few within = ended
-spent-plain state len (inr (inr past)) few within = absurd (omega arith)
-
 -- what a call gives of the breaks to come
 pub Comes-goes : (from : Onward) (profile : Profile) (cell : ℕ → Cell) (table : FlatTable) (text : List ℕ) (old new : State) (to_come given : List Break) (count room : ℕ)
     → ((cell : ℕ → Cell) (to_come : List Break) → IsFlatOf table cell

@@ -1,5 +1,5 @@
 -- The breaks or the positions of a text of units from its start on, and some of them given.
-use Rattle.std.proofs.Common.{◌≡◌, ℕ, ◌+◌, ◌<◌, ◌≤◌, false, true, inl, inr, List, [], ◌++◌, length, map, drop, refl, sym, ap, subst, ◌∙◌, arith, lit<}
+use Rattle.std.proofs.Common.{Bool, ◌≡◌, ℕ, ◌<◌, ◌≤◌, false, true, inl, inr, List, [], ◌++◌, length, map, drop, refl, sym, ap, subst, ◌∙◌, arith, lit<}
 use Rattle.std.specs.Str.{encode_utf8_all}
 use Rattle.std.proofs.lemmas.List.{append-nil}
 use Rattle.std.proofs.lemmas.Str.{chars-encodes}
@@ -10,31 +10,34 @@ use Rattle.lbk_rules.specs.declared.Break.{Break}
 use Rattle.lbk_rules.specs.declared.Cell.{Cell}
 use Rattle.lbk_rules.specs.declared.flat_table.FlatTable.{FlatTable}
 use Rattle.lbk_values.specs.declared.profile.Profile.{Profile}
+use Rattle.lbk_values.specs.declared.profile.Profile.TheVariants.{First, Second}
 use Rattle.lbk_rules.specs.Breaks.{breaks}
 use Rattle.lbk_rules.specs.Joins.{moved}
 use Rattle.lbk_rules.specs.FlatTable.{IsFlatOf, KnowsTaken}
 use Rattle.lbk_rules.proofs.FlatLemmas.{left-start}
 use Rattle.lbk_bytes.specs.declared.fill_state.FillState.{FillState}
 use Rattle.lbk_bytes.specs.declared.raw_break.RawBreak.{RawBreak}
-use Rattle.lbk_bytes.specs.Reached.{Onward, onward}
+use Rattle.lbk_bytes.specs.Bytes.{end_in}
+use Rattle.lbk_bytes.specs.Reached.{Onward, onward_to}
 use Rattle.lbk_bytes.specs.Shown.{given_in}
 use Rattle.lbk_units.specs.Encodings.{placed_in}
 use Rattle.lbk_units.specs.Reached.{UnitsReachedBy, on_from}
-use Rattle.lbk_units.specs.Units.{breaks_of_pieces, breaks_of_utf32}
+use Rattle.lbk_units.specs.Units.{breaks_of_part_of, breaks_of_utf32, units_of}
 use Rattle.lbk_units.proofs.EncodingLemmas as encoding
+use Rattle.lbk_units.proofs.UnitLemmas.{units-sizes}
 use Rattle.lbk_calls.specs.declared.interface.State.{State}
 use Rattle.lbk_calls.specs.Coming.{IsGoing, IsSpent, from_state}
-use Rattle.lbk_calls.specs.State.{part_start, profile_numbered, start_in}
+use Rattle.lbk_calls.specs.State.{goes_on, part_start, plain, profile_number, profile_numbered, start_in}
 use Rattle.lbk_calls.specs.UnitsComing.{UnitsComeBy, UnitsGo}
 use Rattle.lbk_calls.proofs.ComingLemmas.{breaks-utf8, gives, same-profile}
-use Rattle.lbk_bytes.proofs.PartLemmas.{onward-moved}
-use Rattle.lbk_bytes.proofs.ReachedLemmas.{given-many, onward-start, profile-same}
+use Rattle.lbk_bytes.proofs.PartLemmas.{pieces-onward}
+use Rattle.lbk_bytes.proofs.ReachedLemmas.{given-many, profile-same}
 
 module _ {A : Type 0} (from : Onward) (pieces_of : List A → List Decoded) where
-  pub units-part : (cell : ℕ → Cell) (table : FlatTable) (text : List A) (profile : Profile) (at : ℕ) (state : State) (to_come : List Break) → IsFlatOf table cell → at ≤ length text
-      → state ≡ part_start false profile at → to_come ≡ from profile cell [] at (pieces_of (drop at text))
+  units-begun : (cell : ℕ → Cell) (table : FlatTable) (text : List A) (profile : Profile) (at : ℕ) (state : State) (to_come : List Break) → IsFlatOf table cell → at ≤ length text
+      → state ≡ record { at = at; row = 0; profile = profile_number profile; ended = 0 } → to_come ≡ from profile cell [] at (pieces_of (drop at text))
       → UnitsComeBy from pieces_of cell table text state to_come
-  units-part cell table text profile at state to_come flat within starts whole =
+  units-begun cell table text profile at state to_come flat within starts whole =
       subst (λ s. UnitsComeBy from pieces_of cell table text s to_come) (sym starts) (record {
         profile = profile;
         named = profile-same profile;
@@ -50,11 +53,6 @@ module _ {A : Type 0} (from : Onward) (pieces_of : List A → List Decoded) wher
           none_come = λ more. absurd (omega arith);
         };
       })
-
-  pub units-start : (cell : ℕ → Cell) (table : FlatTable) (text : List A) (profile : Profile) (state : State) (to_come : List Break) → IsFlatOf table cell → state ≡ start_in profile
-      → to_come ≡ from profile cell [] 0 (pieces_of text)
-      → UnitsComeBy from pieces_of cell table text state to_come
-  units-start cell table text profile state to_come flat starts whole = units-part cell table text profile 0 state to_come flat (omega arith) starts whole
 
   -- whatever stands before the state's place
   pub units-other : (cell : ℕ → Cell) (table : FlatTable) (text other : List A) (state : State) (to_come : List Break)
@@ -158,11 +156,30 @@ module _ {A : Type 0} (from : Onward) (pieces_of : List A → List Decoded) wher
     onto = goes.onto;
   }
 
+-- at the start of a part of a text, after which the text goes on or ends, by what comes then
+module _ {A : Type 0} (from_in : Bool → Onward) (pieces_of : List A → List Decoded) where
+  pub units-part : (cell : ℕ → Cell) (table : FlatTable) (text : List A) (goes : Bool) (profile : Profile) (at : ℕ) (state : State) (to_come : List Break) → IsFlatOf table cell → at ≤ length text
+      → state ≡ part_start goes profile at → to_come ≡ from_in goes profile cell [] at (pieces_of (drop at text))
+      → UnitsComeBy (from_in (goes_on state.profile)) pieces_of cell table text (plain state) to_come
+  units-part cell table text goes profile at state to_come flat within starts whole =
+      subst (λ s. UnitsComeBy (from_in (goes_on s.profile)) pieces_of cell table text (plain s) to_come) (sym starts) (flagged goes profile whole)
+    where
+      flagged : (goes : Bool) (profile : Profile) → to_come ≡ from_in goes profile cell [] at (pieces_of (drop at text))
+          → UnitsComeBy (from_in (goes_on (part_start goes profile at).profile)) pieces_of cell table text (plain (part_start goes profile at)) to_come
+      flagged true First whole = units-begun (from_in true) pieces_of cell table text First at _ to_come flat within refl whole
+      flagged true Second whole = units-begun (from_in true) pieces_of cell table text Second at _ to_come flat within refl whole
+      flagged false First whole = units-begun (from_in false) pieces_of cell table text First at _ to_come flat within refl whole
+      flagged false Second whole = units-begun (from_in false) pieces_of cell table text Second at _ to_come flat within refl whole
+
+  pub units-start : (cell : ℕ → Cell) (table : FlatTable) (text : List A) (profile : Profile) (state : State) (to_come : List Break) → IsFlatOf table cell → state ≡ start_in profile
+      → to_come ≡ from_in false profile cell [] 0 (pieces_of text)
+      → UnitsComeBy (from_in (goes_on state.profile)) pieces_of cell table text (plain state) to_come
+  units-start cell table text profile state to_come flat starts whole = units-part cell table text false profile 0 state to_come flat (omega arith) starts whole
+
 -- the breaks of a part, at their places in the text
-pub pieces-part : (profile : Profile) (cell : ℕ → Cell) (at : ℕ) (ps : List Decoded) → map (moved at) (breaks_of_pieces profile cell ps) ≡ onward profile cell [] at ps
-pieces-part profile cell at ps =
-    let place : at + 0 ≡ at = omega arith in
-    ap (map (moved at)) (onward-start profile cell ps) ∙ onward-moved false profile cell [] at 0 ps ∙ ap (λ n. onward profile cell [] n ps) place
+pub pieces-part : (goes : Bool) (profile : Profile) (cell : ℕ → Cell) (at : ℕ) (ps : List Decoded)
+    → map (moved at) (breaks_of_part_of goes profile cell ps) ≡ onward_to (end_in goes) profile cell [] at ps
+pieces-part goes profile cell at ps = pieces-onward goes profile cell at ps (units_of ps) (units-sizes ps)
 
 -- the breaks of scalars, by their places in UTF-8
 pub breaks-scalars : (profile : Profile) (cell : ℕ → Cell) (cs : List ℕ) → scalars cs ≡ true

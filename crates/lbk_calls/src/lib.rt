@@ -14,6 +14,7 @@ mod class_labels;
 mod columns;
 mod interface;
 mod labels;
+mod last_position;
 mod packed_tables;
 mod packing;
 mod padding;

@@ -1,6 +1,6 @@
 //! The breaks of a text in UTF-16 or UTF-32, a block at a time.
 
-ghost use Rattle.std.specs.Prelude.{◌≡◌, ℕ, suc, ◌<◌, ◌≤◌, ◌⊎◌, false, true, [], List, drop, length, map, min, take};
+ghost use Rattle.std.specs.Prelude.{◌≡◌, ℕ, Bool, suc, ◌<◌, ◌≤◌, ◌⊎◌, true, [], List, drop, length, map, min, take};
 ghost use Rattle.std.specs.Str.{all_scalars};
 ghost use Rattle.lbk_rules.specs.declared.Break.{Break};
 ghost use Rattle.lbk_rules.specs.declared.Cell.{Cell};
@@ -9,18 +9,18 @@ ghost use Rattle.lbk_rules.specs.Breaks.{breaks};
 ghost use Rattle.lbk_rules.specs.Joins.{moved};
 ghost use Rattle.lbk_rules.specs.FlatTable.{IsFlatOf};
 ghost use Rattle.lbk_bytes.specs.Order.{AreInOrder};
-ghost use Rattle.lbk_bytes.specs.Reached.{onward};
 ghost use Rattle.lbk_bytes.specs.Shown.{given_in};
 ghost use Rattle.lbk_units.specs.Encodings.{encode_utf16_all, placed_in};
-ghost use Rattle.lbk_units.specs.Reached.{UnitsReached, on_from};
-ghost use Rattle.lbk_units.specs.Units.{breaks_of_pieces, breaks_of_utf16, breaks_of_utf32, pieces_of_utf16};
-ghost use Rattle.lbk_calls.specs.Coming.{IsGoing, from_state};
-ghost use Rattle.lbk_calls.specs.State.{part_start, start_in};
+ghost use Rattle.lbk_units.specs.Reached.{UnitsReachedBy, on_from};
+ghost use Rattle.lbk_units.specs.Units.{breaks_of_part_of, breaks_of_pieces, breaks_of_utf16, breaks_of_utf32};
+ghost use Rattle.lbk_units.specs.Units.{pieces_of_utf16};
+ghost use Rattle.lbk_calls.specs.Coming.{IsGoing, from_state, onward_in};
+ghost use Rattle.lbk_calls.specs.State.{part_start, plain, start_in};
 ghost use Rattle.lbk_calls.specs.UnitsComing.{UnitsCome, UnitsGo};
 
-use crate::breaking::going_profile;
+use crate::breaking::{going_profile, plain};
 use crate::interface::State;
-use lbk_bytes::{FillState, RawBreak, put_end};
+use lbk_bytes::{FillState, RawBreak, goes_on, put_end};
 use lbk_rules::{FlatTable, Profile, number_at, place_by};
 use lbk_units::{Unit, fill_units};
 
@@ -46,15 +46,16 @@ pub extern "C" fn lbk_breaks_utf16(
     ensures onward { state.old.at ≤ state.new.at }
     ensures inside { state.old.at ≤ length text.now → state.new.at ≤ length text.now }
     ensures at_end { state.old.ended ≡ 0 → 0 < state.new.ended → state.new.at ≡ length text.now }
-    ensures all { state.old.profile ≤ 1 → state.old.at ≤ length text.now → result < length out.old
+    ensures all { state.old.profile ≤ 3 → state.old.at ≤ length text.now → result < length out.old
         → 0 < state.new.ended }
     ensures start { (cell : ℕ → Cell) (profile : Profile) → IsFlatOf table.now cell → state.old ≡ start_in profile
         → UnitsCome pieces_of_utf16 cell table.now text.now state.old (breaks_of_utf16 profile cell text.now) }
-    // Of a part of the text that begins at any of its units.
-    ensures part { (cell : ℕ → Cell) (profile : Profile) (at : ℕ) → IsFlatOf table.now cell → at ≤ length text.now
-        → state.old ≡ part_start false profile at
+    // A part of the text that begins at any of its units, and after which the text may go on.
+    ensures part { (cell : ℕ → Cell) (profile : Profile) (goes_on : Bool) (at : ℕ) → IsFlatOf table.now cell
+        → at ≤ length text.now
+        → state.old ≡ part_start goes_on profile at
         → UnitsCome pieces_of_utf16 cell table.now text.now state.old
-        (map (moved at) (breaks_of_utf16 profile cell (drop at text.now))) }
+        (map (moved at) (breaks_of_part_of goes_on profile cell (pieces_of_utf16 (drop at text.now)))) }
     ensures count { (cell : ℕ → Cell) (to_come : List Break)
         → UnitsCome pieces_of_utf16 cell table.now text.now state.old to_come
         → result ≡ min (length out.old) (length to_come) }
@@ -71,7 +72,7 @@ pub extern "C" fn lbk_breaks_utf16(
         ≡ map (placed_in encode_utf16_all scalars) (breaks_of_utf32 profile cell scalars) }
     ensures ended { 0 < state.old.ended → (result ≡ 0) × (state.new ≡ state.old) }
     ensures past { length text.now < state.old.at → (result ≡ 0) × (state.new ≡ state.old) }
-    ensures unknown { 1 < state.old.profile → (result ≡ 0) × (state.new ≡ state.old) }
+    ensures unknown { 3 < state.old.profile → (result ≡ 0) × (state.new ≡ state.old) }
     ensures no_room { length out.old ≡ 0 → (result ≡ 0) × (state.new ≡ state.old) }
 {
     next_breaks(table, state, text, out)
@@ -92,15 +93,16 @@ pub fn next_breaks<U: Unit>(
     ensures onward { state.old.at ≤ state.new.at }
     ensures inside { state.old.at ≤ length text.now → state.new.at ≤ length text.now }
     ensures at_end { state.old.ended ≡ 0 → 0 < state.new.ended → state.new.at ≡ length text.now }
-    ensures all { state.old.profile ≤ 1 → state.old.at ≤ length text.now → result < length out.old
+    ensures all { state.old.profile ≤ 3 → state.old.at ≤ length text.now → result < length out.old
         → 0 < state.new.ended }
     ensures start { (cell : ℕ → Cell) (profile : Profile) → IsFlatOf table.now cell → state.old ≡ start_in profile
         → UnitsCome U.pieces_of cell table.now text.now state.old
         (breaks_of_pieces profile cell (U.pieces_of text.now)) }
-    ensures part { (cell : ℕ → Cell) (profile : Profile) (at : ℕ) → IsFlatOf table.now cell → at ≤ length text.now
-        → state.old ≡ part_start false profile at
+    ensures part { (cell : ℕ → Cell) (profile : Profile) (goes_on : Bool) (at : ℕ) → IsFlatOf table.now cell
+        → at ≤ length text.now
+        → state.old ≡ part_start goes_on profile at
         → UnitsCome U.pieces_of cell table.now text.now state.old
-        (map (moved at) (breaks_of_pieces profile cell (U.pieces_of (drop at text.now)))) }
+        (map (moved at) (breaks_of_part_of goes_on profile cell (U.pieces_of (drop at text.now)))) }
     ensures count { (cell : ℕ → Cell) (to_come : List Break)
         → UnitsCome U.pieces_of cell table.now text.now state.old to_come
         → result ≡ min (length out.old) (length to_come) }
@@ -112,10 +114,10 @@ pub fn next_breaks<U: Unit>(
         → UnitsCome U.pieces_of cell table.now text.now state.new (drop result to_come) }
     ensures ended { 0 < state.old.ended → (result ≡ 0) × (state.new ≡ state.old) }
     ensures past { length text.now < state.old.at → (result ≡ 0) × (state.new ≡ state.old) }
-    ensures unknown { 1 < state.old.profile → (result ≡ 0) × (state.new ≡ state.old) }
+    ensures unknown { 3 < state.old.profile → (result ≡ 0) × (state.new ≡ state.old) }
     ensures no_room { length out.old ≡ 0 → (result ≡ 0) × (state.new ≡ state.old) }
 {
-    let Some(profile) = going_profile(state, text.len()) else {
+    let Some(profile) = going_profile(&plain(state), text.len()) else {
         return 0;
     };
     go_on(table, profile, state, text, out)
@@ -129,7 +131,7 @@ fn go_on<U: Unit>(
     text: &[U],
     out: &mut [RawBreak],
 ) -> usize
-    requires { IsGoing profile state.old (length text.now) }
+    requires { IsGoing profile (plain state.old) (length text.now) }
     ensures within { result ≤ length out.old }
     ensures profile_same { state.new.profile ≡ state.old.profile }
     ensures in_order { AreInOrder out.new result state.old.at (suc (length text.now)) }
@@ -139,9 +141,10 @@ fn go_on<U: Unit>(
     ensures at_end { 0 < state.new.ended → state.new.at ≡ length text.now }
     ensures all { result < length out.old → 0 < state.new.ended }
     ensures goes { (cell : ℕ → Cell) (to_come : List Break) → IsFlatOf table.now cell
-        → UnitsReached profile cell (on_from U.pieces_of text.now) to_come (from_state state.old) []
-        → UnitsGo onward U.pieces_of profile cell text.now to_come state.new (given_in out.new result) result
-        (length out.old) }
+        → UnitsReachedBy (onward_in state.old.profile) profile cell (on_from U.pieces_of text.now) to_come
+        (from_state (plain state.old)) []
+        → UnitsGo (onward_in state.old.profile) U.pieces_of profile cell text.now to_come (plain state.new)
+        (given_in out.new result) result (length out.old) }
     ensures no_room { length out.old ≡ 0 → (result ≡ 0) × (state.new ≡ state.old) }
 {
     let start = FillState {
@@ -156,5 +159,6 @@ fn go_on<U: Unit>(
         return here.count;
     }
     state.ended = 1;
-    put_end(false, here.row, out, here.count, text.len())
+    let goes_on = goes_on(state.profile);
+    put_end(goes_on, here.row, out, here.count, text.len())
 }

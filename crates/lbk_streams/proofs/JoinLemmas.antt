@@ -1,5 +1,5 @@
 -- The breaks of the parts of a text of any bytes, joined.
-use Rattle.std.proofs.Common.{◌≡◌, ℕ, ◌+◌, ◌-◌, ◌<◌, ◌≤◌, Bool, true, false, cond, ◌&&◌, not, List, [], ◌∷◌, ◌++◌, length, map, take, drop, refl, sym, ap, ap₂, ◌∙◌, append-nil, arith, length-append, length-take-le}
+use Rattle.std.proofs.Common.{◌≡◌, ℕ, ◌+◌, ◌-◌, ◌<◌, ◌≤◌, Bool, true, false, cond, ◌&&◌, not, List, [], ◌∷◌, ◌++◌, length, map, take, drop, refl, sym, ap, ap₂, ◌∙◌, append-nil, arith, length-append}
 use Rattle.std.specs.List.{flat_map}
 use Rattle.std.proofs.lemmas.Bool.{false≢true}
 use Rattle.std.proofs.lemmas.List.{drop-drop, drop_at, length-map, map-append, take_at}
@@ -19,12 +19,13 @@ use Rattle.lbk_rules.specs.Verdict.{verdict_between_in}
 use Rattle.lbk_rules.proofs.EndLemmas.{start_of_text}
 use Rattle.lbk_rules.proofs.JoinLemmas.{end_before_more-must, joined-marks, map-moved, map-moved-none}
 use Rattle.lbk_rules.proofs.MarkLemmas.{last-marks}
-use Rattle.lbk_bytes.specs.Bytes.{breaks_after, breaks_of_bytes, breaks_of_part, open_end}
-use Rattle.lbk_units.specs.Positions.{breaks_among, positions_after, positions_of_bytes, positions_of_pieces}
-use Rattle.lbk_units.specs.Units.{breaks_of_pieces}
+use Rattle.lbk_bytes.specs.Bytes.{breaks_after, breaks_of_bytes, breaks_of_part, of_part, open_end}
+use Rattle.lbk_units.specs.Positions.{breaks_among, positions_after, positions_of_part_of, positions_of_pieces}
+use Rattle.lbk_units.specs.Units.{breaks_of_part_of, breaks_of_pieces, units_of}
 use Rattle.lbk_units.proofs.EncodingLemmas.{after-among, among-moved, breaks-among}
-use Rattle.lbk_streams.specs.Cuts.{AreByteParts, EndsBefore, JoinsAt, breaks_of_parts, positions_of_part}
-use Rattle.lbk_streams.proofs.PieceStartLemmas.{pieces-cut, sizes-append, sizes-front}
+use Rattle.lbk_units.proofs.UnitLemmas.{units-sizes}
+use Rattle.lbk_streams.specs.Cuts.{AreByteParts, EndsBefore, EndsIn, JoinsAt, JoinsIn, breaks_of_parts}
+use Rattle.lbk_streams.proofs.PieceStartLemmas.{pieces-cut, sizes-append, sizes-front, sizes-pieces}
 
 abbrev is_break : Break → Bool
 is_break position = not (is_no position.kind)
@@ -163,44 +164,53 @@ module _ (profile : Profile) (cell : ℕ → Cell) where
       ∙ ap₂ (λ xs ys. xs ++ ys)
       (ap breaks_among (but_last-is p ps) ∙ sym (take-front front last) ∙ ap (λ l. take (length l - 1) l) (sym all)) end
 
-  positions-at : (text : List ℕ) (place : ℕ) → place ≤ length text → EndsBefore cell text place
-      → positions_of_bytes profile cell text
-      ≡ positions_of_part profile cell (take place text) ++ map (moved place) (drop 1 (positions_of_bytes profile cell (drop place text)))
-  positions-at text place within ends =
-      let before = pieces (take place text) in
-      let behind = pieces (drop place text) in
-      let few = sizes-front text place within in
-      let at : 0 + sizes before ≡ place + 0 = omega arith in
-      let size : length (take place text) ≡ sizes before = omega (arith, length-take-le place text within) in
-      let long : length before ≡ length (marks_in profile cell true (scalars before)) =
-      length-marks_of before ∙ sym (length-ended (end_before_more cell (scalars before)) (marks profile cell (scalars before))) in
-      let start = start_of before in
-      let all = scalars (before ++ behind) in
-      ap (positions_of_pieces profile cell) ends.0
-      ∙ ap (λ (v : Verdict). break_by 0 v ∷ positions_after 0 (before ++ behind) (marks profile cell all))
-      (start_of_text profile (map cell all) ∙ sym (start_of_text profile (map cell (scalars before))))
-      ∙ ap (λ cs. start ∷ positions_after 0 (before ++ behind) (marks profile cell cs)) (map-append (λ (p : Decoded). or_replacement p.char) before behind)
-      ∙ ap (λ ms. start ∷ positions_after 0 (before ++ behind) ms) (joined-marks profile cell (scalars before) (scalars behind) ends.1)
-      ∙ ap (λ l. start ∷ l) (after-joined 0 before behind (marks_in profile cell true (scalars before)) (marks profile cell (scalars behind)) long)
-      ∙ ap (λ l. l ++ positions_after (0 + sizes before) behind (marks profile cell (scalars behind)))
-      (positions-before before (scalars behind) (length (take place text)) ends.1 size)
-      ∙ ap (λ n. positions_of_part profile cell (take place text) ++ positions_after n behind (marks profile cell (scalars behind))) at
-      ∙ ap (λ l. positions_of_part profile cell (take place text) ++ l) (after-moved place 0 behind (marks profile cell (scalars behind)))
+  module _ (pieces_of : List ℕ → List Decoded) where
+    positions-at : (text : List ℕ) (place : ℕ) → sizes (pieces_of (take place text)) ≡ place → EndsIn pieces_of cell text place
+        → positions_of_pieces profile cell (pieces_of text)
+        ≡ positions_of_part_of true profile cell (pieces_of (take place text))
+        ++ map (moved place) (drop 1 (positions_of_pieces profile cell (pieces_of (drop place text))))
+    positions-at text place few ends =
+        let before = pieces_of (take place text) in
+        let behind = pieces_of (drop place text) in
+        let at : 0 + sizes before ≡ place + 0 = omega arith in
+        let long : length before ≡ length (marks_in profile cell true (scalars before)) =
+        length-marks_of before ∙ sym (length-ended (end_before_more cell (scalars before)) (marks profile cell (scalars before))) in
+        let start = start_of before in
+        let all = scalars (before ++ behind) in
+        ap (positions_of_pieces profile cell) ends.0
+        ∙ ap (λ (v : Verdict). break_by 0 v ∷ positions_after 0 (before ++ behind) (marks profile cell all))
+        (start_of_text profile (map cell all) ∙ sym (start_of_text profile (map cell (scalars before))))
+        ∙ ap (λ cs. start ∷ positions_after 0 (before ++ behind) (marks profile cell cs)) (map-append (λ (p : Decoded). or_replacement p.char) before behind)
+        ∙ ap (λ ms. start ∷ positions_after 0 (before ++ behind) ms) (joined-marks profile cell (scalars before) (scalars behind) ends.1)
+        ∙ ap (λ l. start ∷ l) (after-joined 0 before behind (marks_in profile cell true (scalars before)) (marks profile cell (scalars behind)) long)
+        ∙ ap (λ l. l ++ positions_after (0 + sizes before) behind (marks profile cell (scalars behind)))
+        (positions-before before (scalars behind) (units_of before) ends.1 (units-sizes before))
+        ∙ ap (λ n. positions_of_part_of true profile cell before ++ positions_after n behind (marks profile cell (scalars behind))) at
+        ∙ ap (λ l. positions_of_part_of true profile cell before ++ l) (after-moved place 0 behind (marks profile cell (scalars behind)))
 
-  -- where a line must end at a piece's start, the breaks and the positions before and behind it are those of two texts
+    -- where a line must end at a piece's start, the breaks and the positions before and behind it are those of two texts
+    pub joins-in : (text : List ℕ) (place : ℕ) → sizes (pieces_of (take place text)) ≡ place → EndsIn pieces_of cell text place → JoinsIn pieces_of profile cell text place
+    joins-in text place few ends =
+        let before = pieces_of (take place text) in
+        let behind = pieces_of (drop place text) in
+        let after = positions_after 0 behind (marks profile cell (scalars behind)) in
+        let positions = positions-at text place few ends in
+        record {
+          breaks = sym (breaks-among profile cell (pieces_of text))
+              ∙ ap breaks_among positions
+              ∙ filter-append is_break (positions_of_part_of true profile cell before) (map (moved place) after)
+              ∙ ap₂ (λ xs ys. xs ++ ys) (breaks-before before (scalars behind) (units_of before) ends.1)
+              (among-moved (moved place) (λ one. refl) after ∙ ap (map (moved place)) (after-among 0 behind (marks profile cell (scalars behind))));
+          positions = positions;
+        }
+
+  -- of bytes
   pub joins-at : (text : List ℕ) (place : ℕ) → place ≤ length text → EndsBefore cell text place → JoinsAt profile cell text place
-  joins-at text place within ends =
-      let behind = pieces (drop place text) in
-      let after = positions_after 0 behind (marks profile cell (scalars behind)) in
-      let positions = positions-at text place within ends in
-      record {
-        breaks = sym (breaks-among profile cell (pieces text))
-            ∙ ap breaks_among positions
-            ∙ filter-append is_break (positions_of_part profile cell (take place text)) (map (moved place) after)
-            ∙ ap₂ (λ xs ys. xs ++ ys) (breaks-before (pieces (take place text)) (scalars behind) (length (take place text)) ends.1)
-            (among-moved (moved place) (λ one. refl) after ∙ ap (map (moved place)) (after-among 0 behind (marks profile cell (scalars behind))));
-        positions = positions;
-      }
+  joins-at text place within ends = joins-in pieces text place (sizes-front text place within) ends
+
+  part-bytes : (part : List ℕ) → breaks_of_part_of true profile cell (pieces part) ≡ breaks_of_part true profile cell part
+  part-bytes part =
+      ap (λ n. of_part true (breaks_of_bytes profile cell part) (open_end profile cell (scalars (pieces part)) n)) (units-sizes (pieces part) ∙ sizes-pieces part)
 
   no-breaks : breaks_of_bytes profile cell [] ≡ []
   no-breaks = ap (λ ps. breaks_after 0 ps (marks profile cell (scalars ps))) pieces-nil
@@ -213,7 +223,9 @@ module _ (profile : Profile) (cell : ℕ → Cell) where
       let rest = flat_map (λ p. p) (next ∷ parts) in
       let n = length part in
       let within : n ≤ length (part ++ rest) = omega (arith, length-append part rest) in
-      ap (map (moved at)) (joins-at (part ++ rest) n within are.0).breaks
+      let front = take n (part ++ rest) in
+      let behind = map (moved n) (breaks_of_bytes profile cell (drop n (part ++ rest))) in
+      ap (map (moved at)) ((joins-at (part ++ rest) n within are.0).breaks ∙ ap (λ l. l ++ behind) (part-bytes front))
       ∙ map-append (moved at) (breaks_of_part true profile cell (take n (part ++ rest))) (map (moved n) (breaks_of_bytes profile cell (drop n (part ++ rest))))
       ∙ ap₂ (λ first second. map (moved at) (breaks_of_part true profile cell first) ++ map (moved at) (map (moved n) (breaks_of_bytes profile cell second)))
       (take_at part rest n refl) (drop_at part rest n refl)

@@ -9,3 +9,4 @@ pub mod PieceStartLemmas
 pub mod JoinLemmas
 pub mod SafeLemmas
 pub mod NearLemmas
+pub mod PairLemmas

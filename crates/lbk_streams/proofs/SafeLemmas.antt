@@ -14,7 +14,7 @@ use Rattle.lbk_streams.specs.Looking.{LastIs, NextIs}
 use Rattle.lbk_streams.proofs.PieceStartLemmas.{StartsNext, none-within}
 use Rattle.lbk_streams.proofs.JoinLemmas.{joins-at}
 
-must_end_between-snoc : (cell : ℕ → Cell) (front : List ℕ) (x y : ℕ) (more : List ℕ)
+pub must_end_between-snoc : (cell : ℕ → Cell) (front : List ℕ) (x y : ℕ) (more : List ℕ)
     → must_end_between cell (front ++ x ∷ []) (y ∷ more) ≡ ends_between (cell x).class (cell y).class
 must_end_between-snoc cell [] x y more = refl
 must_end_between-snoc cell (a ∷ []) x y more = refl

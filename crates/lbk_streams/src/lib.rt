@@ -12,9 +12,11 @@ mod skimming;
 mod stream;
 mod streaming;
 mod taking;
+mod utf16_cuts;
 
 pub use joining::{joined_parts, only_bytes_near_a_cut};
 pub use laws::bytes_that_could_go_on;
 pub use safe_cuts::{cut, cut_before};
 pub use stream::{Fed, Stream};
 pub use streaming::feed;
+pub use utf16_cuts::{cut_before_utf16, cut_utf16};

@@ -143,7 +143,7 @@ fn class_before(table: &FlatTable, text: &[u8], place: usize) -> (Class, usize)
 }
 
 /// Whether a line must end between scalars of these classes (rules LB4 and LB5).
-fn must_end(last: Class, next: Class) -> bool
+pub(crate) fn must_end(last: Class, next: Class) -> bool
     ensures { result ≡ ends_between last next }
 {
     last.ends_line() && !(last.is(Class::CarriageReturn) && next.is(Class::LineFeed))

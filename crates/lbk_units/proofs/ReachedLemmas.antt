@@ -21,12 +21,12 @@ use Rattle.lbk_bytes.specs.declared.deciding.Decided.{Decided}
 use Rattle.lbk_bytes.specs.declared.fill_state.FillState.{FillState}
 use Rattle.lbk_bytes.specs.declared.raw_break.RawBreak.{RawBreak}
 use Rattle.lbk_bytes.specs.Bytes.{with_break}
-use Rattle.lbk_bytes.specs.Reached.{Onward, onward, onward_all, scalars_of}
+use Rattle.lbk_bytes.specs.Reached.{Ahead, Onward, onward_all, onward_to, scalars_of}
 use Rattle.lbk_bytes.specs.Shown.{given_in}
 use Rattle.lbk_bytes.proofs.ReachedLemmas.{with_break-more}
 use Rattle.lbk_bytes.proofs.StepLemmas.{IsSwiftStep, decides-text, knows-more, swift-step}
 use Rattle.lbk_units.specs.declared.unit.Piece.{Piece}
-use Rattle.lbk_units.specs.Reached.{IsUnitDecided, UnitsReached, UnitsReachedBy, on_from}
+use Rattle.lbk_units.specs.Reached.{IsUnitDecided, PositionsReached, UnitsReached, UnitsReachedBy, on_from}
 use Rattle.lbk_units.proofs.UnitLemmas.{IsFrontAt}
 
 -- one more scalar, before which `add` adds what is given
@@ -76,7 +76,7 @@ module _ (from : Onward) (add : ℕ → Verdict → List Break → List Break)
       given after d.piece (verdict_shown found.shown) r d.begins d.moved d.some d.knows d.decides front
 
 -- by a step that decides
-pub reached-swift : (profile : Profile) (cell : ℕ → Cell) (on : ℕ → List Decoded) (all : List Break) (steps : List (List Step)) (kinds : List ℕ)
+pub reached-swift : (profile : Profile) (cell : ℕ → Cell) (on : ℕ → List Decoded) (all : Ahead) (steps : List (List Step)) (kinds : List ℕ)
     (out after : List RawBreak) (count next row at c size : ℕ) (p : Decoded) (step : Step)
     → steps ≡ steps_in profile → AreFlatKinds kinds cell → IsScalar c
     → on at ≡ p ∷ on (at + size) → or_replacement p.char ≡ c → p.size ≡ size → 0 < size
@@ -90,7 +90,7 @@ reached-swift profile cell on all steps kinds out after count next row at c size
     let here : IsSwiftStep profile (left_at row) (kind_cell kind) step =
     subst (λ s. IsSwiftStep profile (left_at row) (kind_cell kind) s) (sym same) (swift-step profile steps row (get_or kinds c 0) are r.knows.0) in
     let right = map cell (scalars_of (on (at + size))) in
-    reached-step onward with_break (λ profile cell before at p ps. refl) with_break-more profile cell on all (record { count = count; row = row; at = at }) (record { count = next; row = step.next; at = at + size })
+    reached-step (onward_to all.end) with_break (λ profile cell before at p ps. refl) with_break-more profile cell on all.breaks (record { count = count; row = row; at = at }) (record { count = next; row = step.next; at = at + size })
     (given_in out count) (given_in after next) p (verdict_shown step.shown) r begins (ap (λ n. at + n) (sym sized)) (omega arith)
     (subst (λ x. KnowsTaken cell step.next (r.taken ++ x ∷ [])) (sym reads)
     (knows-more cell row step.next c kind is_kind here.begins here.leads r.taken r.knows))
@@ -100,20 +100,21 @@ reached-swift profile cell on all steps kinds out after count next row at c size
     front
 
 -- of breaks
-pub reached-decided : (profile : Profile) (cell : ℕ → Cell) (on : ℕ → List Decoded) (all : List Break) (here : FillState) (next : ℕ) (given after : List Break) (found : Decided)
+pub reached-decided : (profile : Profile) (cell : ℕ → Cell) (on : ℕ → List Decoded) (all : Ahead) (here : FillState) (next : ℕ) (given after : List Break) (found : Decided)
     → ((taken : List ℕ) → KnowsTaken cell here.row taken → IsUnitDecided profile cell on here.at taken found)
     → (after ≡ given ++ with_break here.at (verdict_shown found.shown) [])
     → UnitsReached profile cell on all here given
     → UnitsReached profile cell on all (record { count = next; row = found.row; at = found.at }) after
-reached-decided = step-decided onward with_break (λ profile cell before at p ps. refl) with_break-more
+reached-decided profile cell on all = step-decided (onward_to all.end) with_break (λ profile cell before at p ps. refl) with_break-more profile cell on all.breaks
 
 -- of positions
-pub position-decided : (profile : Profile) (cell : ℕ → Cell) (on : ℕ → List Decoded) (all : List Break) (here : FillState) (next : ℕ) (given after : List Break) (found : Decided)
+pub position-decided : (profile : Profile) (cell : ℕ → Cell) (on : ℕ → List Decoded) (all : Ahead) (here : FillState) (next : ℕ) (given after : List Break) (found : Decided)
     → ((taken : List ℕ) → KnowsTaken cell here.row taken → IsUnitDecided profile cell on here.at taken found)
     → (after ≡ given ++ break_by here.at (verdict_shown found.shown) ∷ [])
-    → UnitsReachedBy onward_all profile cell on all here given
-    → UnitsReachedBy onward_all profile cell on all (record { count = next; row = found.row; at = found.at }) after
-position-decided = step-decided onward_all (λ at verdict more. break_by at verdict ∷ more) (λ profile cell before at p ps. refl) (λ at verdict more. refl)
+    → PositionsReached profile cell on all here given
+    → PositionsReached profile cell on all (record { count = next; row = found.row; at = found.at }) after
+position-decided profile cell on all =
+    step-decided (onward_all all.end) (λ at verdict more. break_by at verdict ∷ more) (λ profile cell before at p ps. refl) (λ at verdict more. refl) profile cell on all.breaks
 
 pub unit-decided : {A : Type 0} (pieces_of : List A → List Decoded) (text rest : List A) (at : ℕ) (found : Piece)
     (profile : Profile) (cell : ℕ → Cell) (taken kinds : List ℕ) (row shown : ℕ) (step : Step)

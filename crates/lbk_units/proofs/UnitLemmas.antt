@@ -9,18 +9,24 @@ use Rattle.std.proofs.lemmas.List.{drop-drop, length-drop, take_all}
 use Rattle.std.proofs.lemmas.Str.{utf16_chars_lone, utf16_chars_pair}
 use lib.Utf8.{scalar, scalar_cases}
 use Rattle.bstr.specs.Utf8.{Decoded, bad, decoded, good, or_replacement, pieces}
-use Rattle.bstr.proofs.lemmas.PieceLemmas.{piece-bounds, pieces-step}
+use Rattle.bstr.proofs.lemmas.PieceLemmas.{piece-bounds, pieces-step, sizes}
 use Rattle.lbk_rules.specs.declared.Cell.{Cell}
 use Rattle.lbk_rules.specs.Normal.{normal}
 use Rattle.lbk_bytes.specs.Reached.{scalars_of}
 use Rattle.lbk_units.specs.declared.unit.Piece.{Piece}
 use Rattle.lbk_units.specs.Front.{IsFront}
 use Rattle.lbk_units.specs.Reached.{on_from}
-use Rattle.lbk_units.specs.Units.{pieces_of_utf16, pieces_of_utf32, utf16_piece}
+use Rattle.lbk_units.specs.Units.{pieces_of_utf16, pieces_of_utf32, units_of, utf16_piece}
 
 -- what is left of a text
 pub rest-of : {A : Type 0} (text : List A) (at : ℕ) → take (length text - at) (drop at text) ≡ drop at text
 rest-of text at = take_all (length text - at) (drop at text) (omega (arith, length-drop at text))
+
+-- how many units some pieces have, as it is counted elsewhere
+pub units-sizes : (ps : List Decoded) → units_of ps ≡ sizes ps
+unfolding sizes
+units-sizes [] = refl
+units-sizes (p ∷ ps) = ap (λ n. p.size + n) (units-sizes ps)
 
 -- two surrogates that make a scalar
 abbrev pub IsPair : ℕ → ℕ → Type 0

@@ -9,7 +9,7 @@ use Rattle.lbk_rules.specs.FlatTable.{KnowsTaken}
 use Rattle.lbk_rules.specs.Rows.{verdict_shown}
 use Rattle.lbk_bytes.specs.declared.deciding.Decided.{Decided}
 use Rattle.lbk_bytes.specs.declared.fill_state.FillState.{FillState}
-use Rattle.lbk_bytes.specs.Reached.{Onward, onward, scalars_of}
+use Rattle.lbk_bytes.specs.Reached.{Ahead, Onward, onward_all, onward_to, scalars_of}
 
 -- the pieces of a text from each of its units on
 abbrev pub on_from : {A : Type 0} → (List A → List Decoded) → List A → ℕ → List Decoded
@@ -33,5 +33,9 @@ pub record UnitsReachedBy (from : Onward) (profile : Profile) (cell : ℕ → Ce
   pub joined : all ≡ given ++ from profile cell taken here.at (on here.at)
 
 -- the same of breaks
-abbrev pub UnitsReached : Profile → (ℕ → Cell) → (ℕ → List Decoded) → List Break → FillState → List Break → Type 0
-UnitsReached = UnitsReachedBy onward
+abbrev pub UnitsReached : Profile → (ℕ → Cell) → (ℕ → List Decoded) → Ahead → FillState → List Break → Type 0
+UnitsReached profile cell on all here given = UnitsReachedBy (onward_to all.end) profile cell on all.breaks here given
+
+-- the same of positions
+abbrev pub PositionsReached : Profile → (ℕ → Cell) → (ℕ → List Decoded) → Ahead → FillState → List Break → Type 0
+PositionsReached profile cell on all here given = UnitsReachedBy (onward_all all.end) profile cell on all.breaks here given

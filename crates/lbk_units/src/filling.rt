@@ -1,12 +1,11 @@
 //! A block that is filled with breaks.
 
 ghost use Rattle.std.specs.Prelude.{◌≡◌, ℕ, ◌+◌, ◌<◌, ◌≤◌, List, length};
-ghost use Rattle.lbk_rules.specs.declared.Break.{Break};
 ghost use Rattle.lbk_rules.specs.declared.Cell.{Cell};
 ghost use Rattle.lbk_values.specs.declared.profile.Profile.{Profile};
 ghost use Rattle.lbk_rules.specs.FlatTable.{AreFlatKinds, IsFlatOf};
 ghost use Rattle.lbk_rules.specs.Rows.{AreSteps, IsPlace, steps_in};
-ghost use Rattle.lbk_bytes.specs.Reached.{IsInOrder};
+ghost use Rattle.lbk_bytes.specs.Reached.{Ahead, IsInOrder};
 ghost use Rattle.lbk_bytes.specs.Shown.{given_in};
 ghost use Rattle.lbk_units.specs.Reached.{UnitsReached, on_from};
 
@@ -33,7 +32,7 @@ pub fn fill_units<U: Unit>(
     ensures no_room { length out.old ≡ 0 → result ≡ start }
     ensures in_order { (from : ℕ) → IsInOrder out.old start.count from start.at
         → IsInOrder out.new result.count from result.at }
-    ensures reached { (cell : ℕ → Cell) (all : List Break) → IsFlatOf table.now cell
+    ensures reached { (cell : ℕ → Cell) (all : Ahead) → IsFlatOf table.now cell
         → UnitsReached profile cell (on_from U.pieces_of text.now) all start (given_in out.old start.count)
         → UnitsReached profile cell (on_from U.pieces_of text.now) all result (given_in out.new result.count) }
 {
@@ -59,7 +58,7 @@ fn further<U: Unit>(
     ensures in_order { (from : ℕ) → IsInOrder out.old here.count from here.at
         → IsInOrder out.new result.count from result.at }
     ensures both { (here.count ≤ result.count) × (here.at ≤ result.at) }
-    ensures reached { (cell : ℕ → Cell) (all : List Break) → IsFlatOf table.now cell
+    ensures reached { (cell : ℕ → Cell) (all : Ahead) → IsFlatOf table.now cell
         → UnitsReached profile cell (on_from U.pieces_of text.now) all here (given_in out.old here.count)
         → UnitsReached profile cell (on_from U.pieces_of text.now) all result (given_in out.new result.count) }
 {
@@ -86,7 +85,7 @@ fn run<U: Unit>(
     ensures onward { (start.at ≤ result.at) × (start.count ≤ result.count) }
     ensures in_order { (from : ℕ) → IsInOrder out.old start.count from start.at
         → IsInOrder out.new result.count from result.at }
-    ensures reached { (profile : Profile) (cell : ℕ → Cell) (all : List Break)
+    ensures reached { (profile : Profile) (cell : ℕ → Cell) (all : Ahead)
         → steps.now ≡ steps_in profile → AreFlatKinds kinds.now cell
         → UnitsReached profile cell (on_from U.pieces_of text.now) all start (given_in out.old start.count)
         → UnitsReached profile cell (on_from U.pieces_of text.now) all result (given_in out.new result.count) }
@@ -120,7 +119,7 @@ fn take_one<U: Unit>(
     ensures onward { (here.at < result.at) × (here.count ≤ result.count) }
     ensures in_order { (from : ℕ) → IsInOrder out.old here.count from here.at
         → IsInOrder out.new result.count from result.at }
-    ensures reached { (cell : ℕ → Cell) (all : List Break) → IsFlatOf table.now cell
+    ensures reached { (cell : ℕ → Cell) (all : Ahead) → IsFlatOf table.now cell
         → UnitsReached profile cell (on_from U.pieces_of text.now) all here (given_in out.old here.count)
         → UnitsReached profile cell (on_from U.pieces_of text.now) all result (given_in out.new result.count) }
 {

@@ -1,15 +1,14 @@
 //! A block that is filled with positions.
 
 ghost use Rattle.std.specs.Prelude.{◌≡◌, ℕ, ◌+◌, ◌<◌, ◌≤◌, ◌++◌, [], ◌∷◌, List, length};
-ghost use Rattle.lbk_rules.specs.declared.Break.{Break};
 ghost use Rattle.lbk_rules.specs.declared.Cell.{Cell};
 ghost use Rattle.lbk_rules.specs.Breaks.{break_by};
 ghost use Rattle.lbk_rules.specs.FlatTable.{IsFlatOf};
 ghost use Rattle.lbk_rules.specs.Rows.{IsPlace, IsShown, verdict_shown};
 ghost use Rattle.lbk_bytes.specs.Order.{ArePositionsInOrder, IsPosition};
-ghost use Rattle.lbk_bytes.specs.Reached.{IsInOrderBy, onward_all};
+ghost use Rattle.lbk_bytes.specs.Reached.{Ahead, IsInOrderBy};
 ghost use Rattle.lbk_bytes.specs.Shown.{given_in};
-ghost use Rattle.lbk_units.specs.Reached.{UnitsReachedBy, on_from};
+ghost use Rattle.lbk_units.specs.Reached.{PositionsReached, on_from};
 
 use crate::deciding::decide_unit;
 use crate::unit::Unit;
@@ -31,11 +30,9 @@ pub fn fill_positions<U: Unit>(
     ensures no_room { length out.old ≡ 0 → result ≡ start }
     ensures in_order { (from : ℕ) → IsInOrderBy IsPosition out.old start.count from start.at
         → IsInOrderBy IsPosition out.new result.count from result.at }
-    ensures reached { (cell : ℕ → Cell) (all : List Break) → IsFlatOf table.now cell
-        → UnitsReachedBy onward_all profile cell (on_from U.pieces_of text.now) all start
-        (given_in out.old start.count)
-        → UnitsReachedBy onward_all profile cell (on_from U.pieces_of text.now) all result
-        (given_in out.new result.count) }
+    ensures reached { (cell : ℕ → Cell) (all : Ahead) → IsFlatOf table.now cell
+        → PositionsReached profile cell (on_from U.pieces_of text.now) all start (given_in out.old start.count)
+        → PositionsReached profile cell (on_from U.pieces_of text.now) all result (given_in out.new result.count) }
 {
     let mut here = start;
     while here.count < out.len() && here.at < text.len() {

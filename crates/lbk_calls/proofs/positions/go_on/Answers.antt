@@ -1,23 +1,13 @@
-use Rattle.std.proofs.Common.{◌≡◌, [], length, inl, refl, sym, subst, arith}
-use Rattle.lbk_rules.specs.declared.Kind.TheVariants.{Must, No}
-use Rattle.lbk_rules.specs.declared.Rule.TheVariants.{Lb2, Lb3}
-use Rattle.lbk_rules.specs.Rows.{IsShown}
+use Rattle.std.proofs.Common.{[], ◌++◌, length, inl, refl, sym, ap, subst, ◌∙◌, arith}
 use Rattle.lbk_calls.specs.declared.interface.State.{State}
+use Rattle.lbk_calls.specs.State.{goes_on, plain}
 use Rattle.lbk_bytes.specs.Order.{IsPosition}
-use Rattle.lbk_bytes.specs.Reached.{IsInOrderBy, onward_all}
+use Rattle.lbk_bytes.specs.Reached.{IsInOrderBy, onward_all, position_end_in}
 use Rattle.lbk_bytes.specs.Shown.{given_in}
 use Rattle.lbk_units.specs.Reached.{UnitsReachedBy, on_from}
 use Rattle.lbk_calls.proofs.UnitsComingLemmas.{units-ended, units-full}
 use Rattle.lbk_bytes.proofs.OrderLemmas.{AreInOrder-none, AreInOrder-wider}
-use Rattle.lbk_calls.proofs.PositionLemmas.{put-end, put-start}
 use Rattle.lbk_calls.proofs.positions.go_on.Goals as goal
-use Rattle.lbk_calls.proofs.positions.go_on.Goals.{then-row-eq0, else-row-eq0}
-
-pub put_position-requires-clause-shown : goal.put_position-requires-clause-shown
-put_position-requires-clause-shown g c = elim c.if-row-eq0.branch [
-  | then-row-eq0 w ↦ subst IsShown (sym w.shown-is) (record { kind = No; rule = Lb2 }, refl)
-  | else-row-eq0 w ↦ subst IsShown (sym w.shown-is) (record { kind = Must; rule = Lb3 }, refl)
-]
 
 pub returns-then-here-out-clause-goes : goal.returns-then-here-out-clause-goes
 returns-then-here-out-clause-goes g c = λ cell to_come flat start.
@@ -25,29 +15,27 @@ returns-then-here-out-clause-goes g c = λ cell to_come flat start.
     let within = fill.ensures.within in
     let old = c.args.state.now in
     let state : State = record { at = fill.result.at; row = c.number_at-state.result; profile = old.profile; ended = old.ended } in
-    units-full onward_all g.U.Unit.pieces_of c.args.profile cell c.args.text.now to_come fill.result state fill.new.out (length c.args.out.now)
-    (fill.ensures.reached cell to_come flat
-    (subst (λ n. UnitsReachedBy onward_all c.args.profile cell (on_from g.U.Unit.pieces_of c.args.text.now) to_come (record { count = 0; row = n; at = old.at }) []) (sym (c.place_by.ensures.same start.knows.0)) start)) within.2 refl
+    let end = position_end_in (goes_on old.profile) in
+    units-full (onward_all end) g.U.Unit.pieces_of c.args.profile cell c.args.text.now to_come fill.result (plain state) fill.new.out (length c.args.out.now)
+    (fill.ensures.reached cell (record { breaks = to_come; end = end }) flat
+    (subst (λ n. UnitsReachedBy (onward_all end) c.args.profile cell (on_from g.U.Unit.pieces_of c.args.text.now) to_come (record { count = 0; row = n; at = old.at }) []) (sym (c.place_by.ensures.same start.knows.0)) start)) within.2 refl
     (c.number_at-state.ensures.same start.knows.0) c.requires.unended (omega (arith, within.0)) (omega arith)
 
 pub returns-clause-goes : goal.returns-clause-goes
 returns-clause-goes g c = λ cell to_come flat start.
     let fill = c.fill_positions-here in
-    let put = c.put_position in
-    let text = c.args.text.now in
+    let put = c.put_last in
     let old = c.args.state.now in
-    let given = given_in fill.new.out fill.result.count in
     let state : State = record { at = fill.result.at; row = c.number_at-state.result; profile = old.profile; ended = 1 } in
-    let ends : fill.result.at ≡ length text = fill.ensures.stops (omega arith) in
-    units-ended onward_all g.U.Unit.pieces_of c.args.profile cell text to_come fill.result state fill.new.out put.new.out put.result (length c.args.out.now)
-    g.met.U.Unit.ends (fill.ensures.reached cell to_come flat
-    (subst (λ n. UnitsReachedBy onward_all c.args.profile cell (on_from g.U.Unit.pieces_of c.args.text.now) to_come (record { count = 0; row = n; at = old.at }) []) (sym (c.place_by.ensures.same start.knows.0)) start)) ends refl refl
-    (λ taken knows some. elim c.if-row-eq0.branch [
-      | then-row-eq0 w ↦ put-start c.args.profile cell taken given (given_in put.new.out put.result) (length text) fill.result.row c.if-row-eq0.shown
-          knows (omega arith) w.shown-is put.ensures.front
-      | else-row-eq0 w ↦ put-end c.args.profile cell given (given_in put.new.out put.result) (length text) c.if-row-eq0.shown taken (some (omega arith)) w.shown-is put.ensures.front
-    ])
-    (omega arith) (omega arith)
+    let ends = fill.ensures.stops (omega arith) in
+    let end = position_end_in (goes_on old.profile) in
+    units-ended (onward_all end) g.U.Unit.pieces_of c.args.profile cell c.args.text.now to_come fill.result (plain state) fill.new.out put.new.out put.result (length c.args.out.now)
+    g.met.U.Unit.ends (fill.ensures.reached cell (record { breaks = to_come; end = end }) flat
+    (subst (λ n. UnitsReachedBy (onward_all end) c.args.profile cell (on_from g.U.Unit.pieces_of c.args.text.now) to_come (record { count = 0; row = n; at = old.at }) []) (sym (c.place_by.ensures.same start.knows.0)) start)) ends refl refl
+    (λ taken knows some.
+    put.ensures.front c.args.profile cell taken knows some
+    ∙ ap (λ b. given_in fill.new.out fill.result.count ++ position_end_in b c.args.profile cell taken (length c.args.text.now)) c.goes_on-goes_on.ensures)
+    (omega (arith, put.ensures.within)) (omega arith)
 
 pub returns-then-here-out-clause-in_order : goal.returns-then-here-out-clause-in_order
 returns-then-here-out-clause-in_order g c =
@@ -75,7 +63,7 @@ returns-clause-in_order g c =
     let fill = c.fill_positions-here in
     let order = fill.ensures.in_order c.args.state.now.at (omega arith, AreInOrder-none c.args.out.now c.args.state.now.at c.args.state.now.at) in
     let ends = fill.ensures.stops (omega arith) in
-    c.put_position.ensures.in_order c.args.state.now.at _ (omega arith) (subst (λ n. IsInOrderBy IsPosition fill.new.out fill.result.count c.args.state.now.at n) ends order)
+    c.put_last.ensures.in_order c.args.state.now.at _ (omega arith) (subst (λ n. IsInOrderBy IsPosition fill.new.out fill.result.count c.args.state.now.at n) ends order)
 
 pub returns-clause-onward : goal.returns-clause-onward
 returns-clause-onward g c =

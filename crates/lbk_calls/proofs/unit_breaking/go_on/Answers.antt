@@ -1,7 +1,10 @@
-use Rattle.std.proofs.Common.{[], length, refl, sym, subst, inl, arith}
+use Rattle.std.proofs.Common.{[], ◌++◌, length, refl, sym, ap, subst, ◌∙◌, inl, arith}
 use Rattle.lbk_calls.specs.declared.interface.State.{State}
-use Rattle.lbk_bytes.specs.Reached.{IsInOrder, onward}
-use Rattle.lbk_units.specs.Reached.{UnitsReached, on_from}
+use Rattle.lbk_calls.specs.State.{goes_on, plain}
+use Rattle.lbk_bytes.specs.Bytes.{end_in}
+use Rattle.lbk_bytes.specs.Reached.{IsInOrder, onward_to}
+use Rattle.lbk_bytes.specs.Shown.{given_in}
+use Rattle.lbk_units.specs.Reached.{UnitsReachedBy, on_from}
 use Rattle.lbk_calls.proofs.UnitsComingLemmas.{units-ended, units-full}
 use Rattle.lbk_bytes.proofs.OrderLemmas.{AreInOrder-none, AreInOrder-wider}
 use Rattle.lbk_calls.proofs.unit_breaking.go_on.Goals as goal
@@ -12,9 +15,10 @@ returns-then-here-out-clause-goes g c = λ cell to_come flat start.
     let within = fill.ensures.within in
     let old = c.args.state.now in
     let state : State = record { at = fill.result.at; row = c.number_at-state.result; profile = old.profile; ended = old.ended } in
-    units-full onward g.U.Unit.pieces_of c.args.profile cell c.args.text.now to_come fill.result state fill.new.out (length c.args.out.now)
-    (fill.ensures.reached cell to_come flat
-    (subst (λ n. UnitsReached c.args.profile cell (on_from g.U.Unit.pieces_of c.args.text.now) to_come (record { count = 0; row = n; at = old.at }) []) (sym (c.place_by.ensures.same start.knows.0)) start)) within.2 refl
+    let end = end_in (goes_on old.profile) in
+    units-full (onward_to end) g.U.Unit.pieces_of c.args.profile cell c.args.text.now to_come fill.result (plain state) fill.new.out (length c.args.out.now)
+    (fill.ensures.reached cell (record { breaks = to_come; end = end }) flat
+    (subst (λ n. UnitsReachedBy (onward_to end) c.args.profile cell (on_from g.U.Unit.pieces_of c.args.text.now) to_come (record { count = 0; row = n; at = old.at }) []) (sym (c.place_by.ensures.same start.knows.0)) start)) within.2 refl
     (c.number_at-state.ensures.same start.knows.0) c.requires.unended (omega (arith, within.0)) (omega arith)
 
 pub returns-clause-goes : goal.returns-clause-goes
@@ -25,10 +29,13 @@ returns-clause-goes g c = λ cell to_come flat start.
     let old = c.args.state.now in
     let state : State = record { at = fill.result.at; row = c.number_at-state.result; profile = old.profile; ended = 1 } in
     let ends = fill.ensures.stops (omega arith) in
-    units-ended onward g.U.Unit.pieces_of c.args.profile cell c.args.text.now to_come fill.result state fill.new.out put.new.out put.result (length c.args.out.now)
-    g.met.U.Unit.ends (fill.ensures.reached cell to_come flat
-    (subst (λ n. UnitsReached c.args.profile cell (on_from g.U.Unit.pieces_of c.args.text.now) to_come (record { count = 0; row = n; at = old.at }) []) (sym (c.place_by.ensures.same start.knows.0)) start)) ends refl refl
-    (λ taken knows some. put.ensures.front c.args.profile cell taken knows some)
+    let end = end_in (goes_on old.profile) in
+    units-ended (onward_to end) g.U.Unit.pieces_of c.args.profile cell c.args.text.now to_come fill.result (plain state) fill.new.out put.new.out put.result (length c.args.out.now)
+    g.met.U.Unit.ends (fill.ensures.reached cell (record { breaks = to_come; end = end }) flat
+    (subst (λ n. UnitsReachedBy (onward_to end) c.args.profile cell (on_from g.U.Unit.pieces_of c.args.text.now) to_come (record { count = 0; row = n; at = old.at }) []) (sym (c.place_by.ensures.same start.knows.0)) start)) ends refl refl
+    (λ taken knows some.
+    put.ensures.front c.args.profile cell taken knows some
+    ∙ ap (λ b. given_in fill.new.out fill.result.count ++ end_in b c.args.profile cell taken (length c.args.text.now)) c.goes_on-goes_on.ensures)
     (omega (arith, put.ensures.within)) (omega arith)
 
 pub returns-then-here-out-clause-in_order : goal.returns-then-here-out-clause-in_order

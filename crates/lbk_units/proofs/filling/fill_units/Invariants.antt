@@ -1,9 +1,8 @@
-use Rattle.std.proofs.Common.{◌≡◌, ◌+◌, ◌-◌, ◌≤◌, ℕ, List, length}
-use Rattle.lbk_rules.specs.declared.Break.{Break}
+use Rattle.std.proofs.Common.{◌≡◌, ◌+◌, ◌-◌, ◌≤◌, ℕ, length}
 use Rattle.lbk_rules.specs.declared.Cell.{Cell}
 use Rattle.lbk_rules.specs.FlatTable.{IsFlatOf}
 use Rattle.lbk_rules.specs.Rows.{IsPlace}
-use Rattle.lbk_bytes.specs.Reached.{IsInOrder}
+use Rattle.lbk_bytes.specs.Reached.{Ahead, IsInOrder}
 use Rattle.lbk_units.specs.Reached.{UnitsReached, on_from}
 use Rattle.lbk_bytes.specs.Shown.{given_in}
 use Rattle.lbk_units.proofs.filling.fill_units.Given as goal
@@ -15,7 +14,7 @@ invariant-loop-here g l = record {
   within : l.here.at ≤ length l.text;
   no_room : length l.out ≡ 0 → l.here ≡ l.fn.start;
   in_order : (from : ℕ) → IsInOrder l.fn.out l.fn.start.count from l.fn.start.at → IsInOrder l.out l.here.count from l.here.at;
-  reached : (cell : ℕ → Cell) (all : List Break) → IsFlatOf l.fn.table cell
+  reached : (cell : ℕ → Cell) (all : Ahead) → IsFlatOf l.fn.table cell
       → UnitsReached l.fn.profile cell (on_from g.U.Unit.pieces_of l.text) all l.fn.start (given_in l.fn.out l.fn.start.count)
       → UnitsReached l.fn.profile cell (on_from g.U.Unit.pieces_of l.text) all l.here (given_in l.out l.here.count);
 }

@@ -1,12 +1,11 @@
-use Rattle.std.proofs.Common.{◌≡◌, ◌-◌, ◌≤◌, ℕ, List, length}
-use Rattle.lbk_rules.specs.declared.Break.{Break}
+use Rattle.std.proofs.Common.{◌≡◌, ◌-◌, ◌≤◌, ℕ, length}
 use Rattle.lbk_rules.specs.declared.Cell.{Cell}
 use Rattle.lbk_rules.specs.FlatTable.{IsFlatOf}
 use Rattle.lbk_rules.specs.Rows.{IsPlace}
 use Rattle.lbk_bytes.specs.Order.{IsPosition}
-use Rattle.lbk_bytes.specs.Reached.{IsInOrderBy, onward_all}
+use Rattle.lbk_bytes.specs.Reached.{Ahead, IsInOrderBy}
 use Rattle.lbk_bytes.specs.Shown.{given_in}
-use Rattle.lbk_units.specs.Reached.{UnitsReachedBy, on_from}
+use Rattle.lbk_units.specs.Reached.{PositionsReached, on_from}
 use Rattle.lbk_units.proofs.positions.fill_positions.Given as goal
 
 abbrev pub invariant-loop-here : goal.invariant-loop-here
@@ -16,9 +15,9 @@ invariant-loop-here g l = record {
   within : l.here.at ≤ length l.text;
   no_room : length l.out ≡ 0 → l.here ≡ l.fn.start;
   in_order : (from : ℕ) → IsInOrderBy IsPosition l.fn.out l.fn.start.count from l.fn.start.at → IsInOrderBy IsPosition l.out l.here.count from l.here.at;
-  reached : (cell : ℕ → Cell) (all : List Break) → IsFlatOf l.fn.table cell
-      → UnitsReachedBy onward_all l.fn.profile cell (on_from g.U.Unit.pieces_of l.text) all l.fn.start (given_in l.fn.out l.fn.start.count)
-      → UnitsReachedBy onward_all l.fn.profile cell (on_from g.U.Unit.pieces_of l.text) all l.here (given_in l.out l.here.count);
+  reached : (cell : ℕ → Cell) (all : Ahead) → IsFlatOf l.fn.table cell
+      → PositionsReached l.fn.profile cell (on_from g.U.Unit.pieces_of l.text) all l.fn.start (given_in l.fn.out l.fn.start.count)
+      → PositionsReached l.fn.profile cell (on_from g.U.Unit.pieces_of l.text) all l.here (given_in l.out l.here.count);
 }
 
 abbrev pub decreases-loop-here : goal.decreases-loop-here

@@ -1,0 +1,59 @@
+//! The position at the end of a text, or of a part of one.
+
+ghost use Rattle.std.specs.Prelude.{◌≡◌, ℕ, ◌+◌, ◌<◌, ◌≤◌, ◌++◌, List, length};
+ghost use Rattle.lbk_rules.specs.declared.Cell.{Cell};
+ghost use Rattle.lbk_values.specs.declared.profile.Profile.{Profile};
+ghost use Rattle.lbk_rules.specs.FlatTable.{KnowsTaken};
+ghost use Rattle.lbk_rules.specs.Rows.{IsPlace};
+ghost use Rattle.lbk_bytes.specs.Bytes.{open_end};
+ghost use Rattle.lbk_bytes.specs.Order.{ArePositionsInOrder, IsPosition};
+ghost use Rattle.lbk_bytes.specs.Reached.{IsInOrderBy, position_end_in};
+ghost use Rattle.lbk_bytes.specs.Shown.{given_in};
+
+use lbk_bytes::{END, RawBreak, START, end_shown};
+use lbk_rules::shows_break;
+use lbk_units::put_position;
+
+/// Writes what comes at an end after the positions in the front of the block, and returns how many these are now.
+/// Where the text ends, that is its last position; where it goes on, a position by rule 4 or 5, if a line must end
+/// there whatever follows.
+pub(crate) fn put_last(
+    goes_on: bool,
+    row: usize,
+    out: &mut [RawBreak],
+    count: usize,
+    at: usize,
+) -> usize
+    requires { (count < length out.old) × IsPlace row }
+    ensures within { (result ≤ length out.old) × (count ≤ result) × (result ≤ count + 1) }
+    ensures in_order { (from to : ℕ) → at < to → IsInOrderBy IsPosition out.old count from at
+        → ArePositionsInOrder out.new result from to }
+    ensures front { (profile : Profile) (cell : ℕ → Cell) (taken : List ℕ)
+        → KnowsTaken cell row taken
+        → (0 < row → 0 < length taken) → given_in out.new result ≡ given_in out.old count
+        ++ position_end_in goes_on profile cell taken at }
+{
+    if goes_on {
+        return put_open(row, out, count, at);
+    }
+    let shown = if row == 0 { START } else { END };
+    put_position(out, count, at, shown)
+}
+
+/// The same where the text goes on.
+fn put_open(row: usize, out: &mut [RawBreak], count: usize, at: usize) -> usize
+    requires { (count < length out.old) × IsPlace row }
+    ensures within { (result ≤ length out.old) × (count ≤ result) × (result ≤ count + 1) }
+    ensures in_order { (from to : ℕ) → at < to → IsInOrderBy IsPosition out.old count from at
+        → ArePositionsInOrder out.new result from to }
+    ensures front { (profile : Profile) (cell : ℕ → Cell) (taken : List ℕ)
+        → KnowsTaken cell row taken
+        → (0 < row → 0 < length taken) → given_in out.new result ≡ given_in out.old count
+        ++ open_end profile cell taken at }
+{
+    let shown = end_shown(true, row);
+    if shows_break(shown) {
+        return put_position(out, count, at, shown);
+    }
+    count
+}

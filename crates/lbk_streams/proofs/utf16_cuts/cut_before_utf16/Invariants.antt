@@ -1,0 +1,16 @@
+use Rattle.std.proofs.Common.{◌<◌, ◌≤◌, ℕ}
+use Rattle.lbk_rules.specs.declared.Cell.{Cell}
+use Rattle.lbk_rules.specs.FlatTable.{AreFlatKinds}
+use Rattle.lbk_units.specs.Units.{pieces_of_utf16}
+use Rattle.lbk_streams.specs.Cuts.{IsSafeIn}
+use Rattle.lbk_streams.proofs.utf16_cuts.cut_before_utf16.Given as goal
+
+-- at none of the places behind this one a part may begin
+abbrev pub invariant-loop-place : goal.invariant-loop-place
+invariant-loop-place l = record {
+  before : l.place ≤ l.fn.at;
+  none : (cell : ℕ → Cell) (place : ℕ) → AreFlatKinds l.table.kinds cell → l.place < place → place ≤ l.fn.at → ¬ (IsSafeIn pieces_of_utf16 cell l.text place);
+}
+
+abbrev pub decreases-loop-place : goal.decreases-loop-place
+decreases-loop-place l = l.place
