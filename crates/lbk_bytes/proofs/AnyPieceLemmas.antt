@@ -3,6 +3,7 @@ use Rattle.std.proofs.Common.{◌≡◌, ℕ, ◌+◌, ◌-◌, ◌<◌, ◌≤�
 use Rattle.std.specs.Char.{IsScalar}
 use Rattle.std.proofs.lemmas.List.{drop-append-le}
 use Rattle.bstr.specs.Utf8.{Decoded, decoded, lossy_chars, or_replacement}
+use Rattle.bstr.proofs.lemmas.PieceLemmas.{piece-bounds}
 use Rattle.lbk_rules.specs.declared.Cell.{Cell}
 use Rattle.lbk_rules.specs.declared.steps.Step.{Step}
 use Rattle.lbk_rules.specs.declared.steps.TheConstants.{HELD}
@@ -29,6 +30,7 @@ pub record ReadsAs (text : List ℕ) (at code size : ℕ) : Type 0 where
   pub scalar : IsScalar code
   pub below : code < 0x110000
   pub some : 0 < size
+  pub few : size ≤ 4
   pub within : at + size ≤ length text
 
 pub reads-as : (text : List ℕ) (at code size : ℕ) → at < length text
@@ -46,6 +48,7 @@ reads-as text at code size inside is_char is_size =
       scalar = scalar;
       below = scalar-below code scalar;
       some = omega (arith, bounds.0, same);
+      few = omega (arith, (piece-bounds (drop at text) (omega (arith, length-drop at text))).1, same);
       within = omega (arith, bounds.1, same);
     }
 
@@ -57,6 +60,7 @@ as-read text at code size r = record {
   scalar = r.scalar;
   below = r.below;
   some = r.some;
+  few = r.few;
   within = r.within;
 }
 
@@ -73,6 +77,7 @@ reads-as-more text more at code size four r =
       scalar = r.scalar;
       below = r.below;
       some = r.some;
+      few = r.few;
       within = (let within = r.within in omega arith);
     }
 

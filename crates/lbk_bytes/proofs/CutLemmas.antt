@@ -161,5 +161,6 @@ reads-more text more at code size inside r =
       scalar = r.scalar;
       below = r.below;
       some = r.some;
+      few = r.few;
       within = (let within = r.within in omega arith);
     }

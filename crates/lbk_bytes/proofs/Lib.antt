@@ -19,3 +19,4 @@ pub mod MarkLemmas
 pub mod MarkPlaceLemmas
 pub mod MarkBitLemmas
 pub mod MarkBlockLemmas
+pub mod GatherLemmas

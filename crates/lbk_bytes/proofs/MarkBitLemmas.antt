@@ -1,11 +1,10 @@
 -- Bits of one number joined to those of some words.
-use Rattle.std.proofs.Common.{◌≡◌, ◌⊎◌, ℕ, ◌+◌, ◌-◌, ◌*◌, ◌/◌, ◌%◌, ◌^◌, ◌==◌, ◌<◌, ◌≤◌, ◌&&◌, ◌||◌, false, leb, List, length, get_or, set, get_or-set_other, get_or-set_same, refl, sym, ap, ap₂, ◌∙◌, ⊎_elim, inl, inr, arith}
-use Rattle.std.specs.Int.Bits.{bit_or}
+use Rattle.std.proofs.Common.{◌≡◌, ◌⊎◌, ℕ, ◌+◌, ◌-◌, ◌*◌, ◌/◌, ◌%◌, ◌^◌, ◌==◌, ◌<◌, ◌≤◌, ◌&&◌, ◌||◌, false, leb, List, refl, sym, ap, ap₂, ◌∙◌, ⊎_elim, inl, inr, arith}
 use Rattle.std.proofs.lemmas.Bool.{and_left, and_right, cases_eq, cases_lt, eq-eqb, le-leb, lt-leb, ne_eqb}
 use Rattle.std.proofs.lemmas.Nat.{shr-shr}
 use Rattle.std.proofs.lemmas.Nat.Bits.{bit_at_above}
 use Rattle.lbk_masks.proofs.WordLemmas.{or-none}
-use Rattle.lbk_masks.proofs.BitLemmas.{set-or, set-raised}
+use Rattle.lbk_masks.proofs.BitLemmas.{set-raised}
 use Rattle.lbk_masks.specs.Sets.{is_set}
 use Rattle.lbk_bytes.specs.Marks.{is_marked}
 use Rattle.lbk_bytes.proofs.MarkLemmas.{or-assoc}

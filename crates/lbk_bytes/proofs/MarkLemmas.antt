@@ -32,7 +32,7 @@ or-assoc true y z = refl
 or-assoc false y z = refl
 
 -- one bit, if it is to be set
-set-one : (s : Bool) (k j : ℕ) → k < 64 → is_set (from_bool s * 2 ^ k % 2 ^ 64) j ≡ (s && (k == j))
+pub set-one : (s : Bool) (k j : ℕ) → k < 64 → is_set (from_bool s * 2 ^ k % 2 ^ 64) j ≡ (s && (k == j))
 set-one false k j few = ap (λ n. is_set n j) (let e : 0 * 2 ^ k % 2 ^ 64 ≡ 0 = omega arith in e) ∙ set-none j
 set-one true k j few =
     ap (λ n. is_set n j) (one_shl k 64 few)

@@ -39,6 +39,7 @@ pub record Reads (text : List ℕ) (at code size : ℕ) : Type 0 where
   pub scalar : IsScalar code
   pub below : code < 0x110000
   pub some : 0 < size
+  pub few : size ≤ 4
   pub within : at + size ≤ length text
 
 pub reads : (text : List ℕ) (at code size : ℕ) → at < length text → decoded (take (length text - at) (drop at text)) ≡ good code size → Reads text at code size
@@ -48,12 +49,14 @@ reads text at code size inside found =
     let bounds = piece-within text at inside in
     let some = bounds.0 in
     let fits = bounds.1 in
+    let few = (piece-bounds (drop at text) (omega (arith, length-drop at text))).1 in
     let scalar = (SpellsChar-decoded (drop at text) code (ap (λ (p : Decoded). p.char) read)).scalar in
     record {
       read = read;
       scalar = scalar;
       below = scalar-below code scalar;
       some = omega arith;
+      few = omega arith;
       within = omega arith;
     }
 

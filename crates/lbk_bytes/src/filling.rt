@@ -241,6 +241,9 @@ pub(crate) fn quick(
     ensures onward { (start.at ≤ result.at) × (start.count ≤ result.count) }
     ensures in_order { (from : ℕ) → IsInOrder out.old start.count from start.at
         → IsInOrder out.new result.count from result.at }
+    ensures near { start.at ≤ stop → result.at ≤ stop + 3 }
+    ensures before { (from place : ℕ) → stop ≤ place → start.at ≤ place → IsInOrder out.old start.count from start.at
+        → AreInOrder out.new result.count from place }
     ensures boundary { (more : List ℕ) (place : ℕ) → stop ≤ place
         → boundary_from (text.now ++ more) result.at place ≡ boundary_from (text.now ++ more) start.at place }
     ensures reached { (profile : Profile) (cell : ℕ → Cell) (more : List ℕ) (all : Ahead)
@@ -279,6 +282,9 @@ fn scalars(
     ensures onward { (start.at ≤ result.at) × (start.count ≤ result.count) }
     ensures in_order { (from : ℕ) → IsInOrder out.old start.count from start.at
         → IsInOrder out.new result.count from result.at }
+    ensures near { start.at ≤ stop → result.at ≤ stop + 3 }
+    ensures before { (from place : ℕ) → stop ≤ place → start.at ≤ place → IsInOrder out.old start.count from start.at
+        → AreInOrder out.new result.count from place }
     ensures boundary { (more : List ℕ) (place : ℕ) → stop ≤ place
         → boundary_from (text.now ++ more) result.at place ≡ boundary_from (text.now ++ more) start.at place }
     ensures reached { (profile : Profile) (cell : ℕ → Cell) (more : List ℕ) (all : Ahead)
@@ -314,6 +320,9 @@ pub(crate) fn runs(
     ensures onward { (start.at ≤ result.at) × (start.count ≤ result.count) }
     ensures in_order { (from : ℕ) → IsInOrder out.old start.count from start.at
         → IsInOrder out.new result.count from result.at }
+    ensures near { start.at ≤ stop → result.at ≤ stop + 3 }
+    ensures before { (from place : ℕ) → stop ≤ place → start.at ≤ place → IsInOrder out.old start.count from start.at
+        → AreInOrder out.new result.count from place }
     ensures boundary { (more : List ℕ) (place : ℕ) → stop ≤ place
         → boundary_from (text.now ++ more) result.at place ≡ boundary_from (text.now ++ more) start.at place }
     ensures reached { (profile : Profile) (cell : ℕ → Cell) (more : List ℕ) (all : Ahead)
@@ -350,6 +359,9 @@ fn run(
     ensures onward { (start.at ≤ result.at) × (start.count ≤ result.count) }
     ensures in_order { (from : ℕ) → IsInOrder out.old start.count from start.at
         → IsInOrder out.new result.count from result.at }
+    ensures near { start.at ≤ stop → result.at ≤ stop + 3 }
+    ensures before { (from place : ℕ) → stop ≤ place → start.at ≤ place → IsInOrder out.old start.count from start.at
+        → AreInOrder out.new result.count from place }
     ensures boundary { (more : List ℕ) (place : ℕ) → stop ≤ place
         → boundary_from (text.now ++ more) result.at place ≡ boundary_from (text.now ++ more) start.at place }
     ensures reached { (profile : Profile) (cell : ℕ → Cell) (more : List ℕ) (all : Ahead)

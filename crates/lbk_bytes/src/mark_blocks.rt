@@ -14,14 +14,19 @@ ghost use Rattle.lbk_bytes.specs.Reached.{Ahead};
 
 use crate::blocks::{BLOCK, CODES, Marks, behind_byte, kept_up_to, marks_ahead};
 use crate::fill_state::FillState;
-use crate::mark_runs::mark_left;
+use crate::mark_runs::{NO_BREAK, mark_left};
 use crate::marks::mark_bits;
 use crate::raw_break::RawBreak;
+use crate::tries::are_short;
 use lbk_masks::kept_from;
 use lbk_rules::{Neighbours, Rows};
 
+/// How many breaks before bytes that are left to steps are examined together.
+const ROOM: usize = 8;
+
 /// Takes blocks of bytes, as many as come one after the other, up to a scalar that no step takes, or from which on
-/// fewer than 64 bytes are left, or many of them to steps.
+/// fewer than 64 bytes are left, or many of them to steps. Where scalars of three bytes or more begin a text, it takes
+/// none.
 #[inline(never)]
 pub(crate) fn mark_blocks(
     pairs: &Neighbours,
@@ -30,7 +35,6 @@ pub(crate) fn mark_blocks(
     start: FillState,
     from: usize,
     text: &[u8],
-    block: &mut [RawBreak],
     words: &mut [u64],
 ) -> FillState
     requires place { IsPlace start.row × (from ≤ start.at) × (start.at ≤ length text.now)
@@ -43,11 +47,15 @@ pub(crate) fn mark_blocks(
         → Marked profile cell (text.now ++ more) all from (length text.now) start words.old
         → Marked profile cell (text.now ++ more) all from (length text.now) result words.new }
 {
+    if text.len() - start.at < BLOCK || !are_short(&text[start.at..]) {
+        return start;
+    }
+    let mut block = [NO_BREAK; ROOM];
     let mut behind = start.at;
-    let mut here = mark_block(pairs, kinds, steps, start, from, text, block, words);
+    let mut here = mark_block(pairs, kinds, steps, start, from, text, &mut block, words);
     while BLOCK <= here.at - behind {
         behind = here.at;
-        here = mark_block(pairs, kinds, steps, here, from, text, block, words);
+        here = mark_block(pairs, kinds, steps, here, from, text, &mut block, words);
     }
     here
 }

@@ -7,6 +7,7 @@ ghost use Rattle.lbk_rules.specs.FlatTable.{AreFlatKinds};
 ghost use Rattle.lbk_rules.specs.Rows.{AreSteps, IsPlace, steps_in};
 ghost use Rattle.lbk_bytes.specs.Marking.{Marked};
 ghost use Rattle.lbk_bytes.specs.Marks.{boundary_from, is_marked};
+ghost use Rattle.lbk_bytes.specs.Order.{AreInOrder};
 ghost use Rattle.lbk_bytes.specs.Reached.{Ahead, IsInOrder, Reached};
 ghost use Rattle.lbk_bytes.specs.Shown.{given_in};
 
@@ -17,6 +18,16 @@ use crate::marks::mark_breaks;
 use crate::raw_break::RawBreak;
 use lbk_rules::Rows;
 
+/// A break that stands nowhere.
+pub(crate) const NO_BREAK: RawBreak = RawBreak {
+    at: 0,
+    kind: 0,
+    rule: 0,
+};
+
+/// How many breaks are examined together.
+const ROOM: usize = 32;
+
 /// Takes scalars that begin before a byte, up to a held position or the last bytes. Their breaks are found a block at a
 /// time.
 pub(crate) fn mark_scalars(
@@ -26,22 +37,26 @@ pub(crate) fn mark_scalars(
     stop: usize,
     from: usize,
     text: &[u8],
-    block: &mut [RawBreak],
     words: &mut [u64],
 ) -> FillState
     requires place { IsPlace start.row × (from ≤ start.at) × (start.at ≤ length text.now) × (stop ≤ length text.now)
-        × (length text.now ≤ from + 64 * length words.old) }
+        × (stop ≤ from + 64 * length words.old) }
     requires steps { AreSteps steps.now }
     ensures within { IsPlace result.row × (start.at ≤ result.at) × (result.at ≤ length text.now) }
+    ensures near { start.at ≤ stop → result.at ≤ stop + 3 }
     ensures after { (i : ℕ) → result.at ≤ from + i → is_marked words.new i ≡ is_marked words.old i }
-    ensures marked { (profile : Profile) (cell : ℕ → Cell) (more : List ℕ) (all : Ahead)
-        → steps.now ≡ steps_in profile → AreFlatKinds kinds.now cell
-        → Marked profile cell (text.now ++ more) all from (length text.now) start words.old
-        → Marked profile cell (text.now ++ more) all from (length text.now) result words.new }
+    ensures marked { (profile : Profile) (cell : ℕ → Cell) (more : List ℕ) (all : Ahead) (last : ℕ)
+        → steps.now ≡ steps_in profile → AreFlatKinds kinds.now cell → stop ≤ last
+        → Marked profile cell (text.now ++ more) all from last start words.old
+        → Marked profile cell (text.now ++ more) all from last result words.new }
 {
+    if stop <= start.at {
+        return start;
+    }
+    let mut block = [NO_BREAK; ROOM];
     let mut here = start;
     while here.at < stop {
-        let past = mark_run::<false>(kinds, steps, here, stop, from, text, block, words);
+        let past = mark_run::<false>(kinds, steps, here, stop, from, text, &mut block, words);
         if past.count < block.len() || past.at == here.at {
             return past;
         }
@@ -62,15 +77,16 @@ pub(crate) fn mark_left(
     block: &mut [RawBreak],
     words: &mut [u64],
 ) -> FillState
-    requires place { IsPlace here.row × (from ≤ here.at) × (here.at ≤ length text.now) × (stop ≤ length text.now)
-        × (length text.now ≤ from + 64 * length words.old) }
+    requires place { IsPlace here.row × (from ≤ here.at) × (here.at ≤ stop) × (stop ≤ length text.now)
+        × (stop ≤ from + 64 * length words.old) }
     requires steps { AreSteps steps.now }
     ensures within { IsPlace result.row × (here.at ≤ result.at) × (result.at ≤ length text.now) }
+    ensures near { result.at ≤ stop + 3 }
     ensures after { (i : ℕ) → result.at ≤ from + i → is_marked words.new i ≡ is_marked words.old i }
-    ensures marked { (profile : Profile) (cell : ℕ → Cell) (more : List ℕ) (all : Ahead)
-        → steps.now ≡ steps_in profile → AreFlatKinds kinds.now cell
-        → Marked profile cell (text.now ++ more) all from (length text.now) here words.old
-        → Marked profile cell (text.now ++ more) all from (length text.now) result words.new }
+    ensures marked { (profile : Profile) (cell : ℕ → Cell) (more : List ℕ) (all : Ahead) (last : ℕ)
+        → steps.now ≡ steps_in profile → AreFlatKinds kinds.now cell → stop ≤ last
+        → Marked profile cell (text.now ++ more) all from last here words.old
+        → Marked profile cell (text.now ++ more) all from last result words.new }
 {
     mark_run::<true>(kinds, steps, here, stop, from, text, block, words)
 }
@@ -88,15 +104,16 @@ fn mark_run<const IN_BLOCK: bool>(
     block: &mut [RawBreak],
     words: &mut [u64],
 ) -> FillState
-    requires place { IsPlace here.row × (from ≤ here.at) × (here.at ≤ length text.now) × (stop ≤ length text.now)
-        × (length text.now ≤ from + 64 * length words.old) }
+    requires place { IsPlace here.row × (from ≤ here.at) × (here.at ≤ stop) × (stop ≤ length text.now)
+        × (stop ≤ from + 64 * length words.old) }
     requires steps { AreSteps steps.now }
     ensures within { IsPlace result.row × (here.at ≤ result.at) × (result.at ≤ length text.now) }
+    ensures near { result.at ≤ stop + 3 }
     ensures after { (i : ℕ) → result.at ≤ from + i → is_marked words.new i ≡ is_marked words.old i }
-    ensures marked { (profile : Profile) (cell : ℕ → Cell) (more : List ℕ) (all : Ahead)
-        → steps.now ≡ steps_in profile → AreFlatKinds kinds.now cell
-        → Marked profile cell (text.now ++ more) all from (length text.now) here words.old
-        → Marked profile cell (text.now ++ more) all from (length text.now) result words.new }
+    ensures marked { (profile : Profile) (cell : ℕ → Cell) (more : List ℕ) (all : Ahead) (last : ℕ)
+        → steps.now ≡ steps_in profile → AreFlatKinds kinds.now cell → stop ≤ last
+        → Marked profile cell (text.now ++ more) all from last here words.old
+        → Marked profile cell (text.now ++ more) all from last result words.new }
 {
     let start = FillState {
         count: 0,
@@ -104,7 +121,7 @@ fn mark_run<const IN_BLOCK: bool>(
         at: here.at,
     };
     let there = taken::<IN_BLOCK>(kinds, steps, start, stop, text, block);
-    mark_breaks(&block[..there.count], from, words);
+    mark_breaks::<IN_BLOCK>(&block[..there.count], from, words);
     there
 }
 
@@ -125,6 +142,9 @@ fn taken<const IN_BLOCK: bool>(
     ensures onward { (start.at ≤ result.at) × (start.count ≤ result.count) }
     ensures in_order { (from : ℕ) → IsInOrder out.old start.count from start.at
         → IsInOrder out.new result.count from result.at }
+    ensures near { start.at ≤ stop → result.at ≤ stop + 3 }
+    ensures before { (from place : ℕ) → stop ≤ place → start.at ≤ place → IsInOrder out.old start.count from start.at
+        → AreInOrder out.new result.count from place }
     ensures boundary { (more : List ℕ) (place : ℕ) → stop ≤ place
         → boundary_from (text.now ++ more) result.at place ≡ boundary_from (text.now ++ more) start.at place }
     ensures reached { (profile : Profile) (cell : ℕ → Cell) (more : List ℕ) (all : Ahead)

@@ -18,19 +18,8 @@ use crate::held::mark_ones;
 use crate::mark_blocks::mark_blocks;
 use crate::mark_runs::mark_scalars;
 use crate::marks::{BITS, clear, mark};
-use crate::raw_break::RawBreak;
 use crate::tries::next_try;
 use lbk_rules::{FlatTable, Profile, rows_of, shows_break};
-
-/// How many breaks are examined together.
-const ROOM: usize = 16;
-
-/// A break that stands nowhere.
-const NO_BREAK: RawBreak = RawBreak {
-    at: 0,
-    kind: 0,
-    rule: 0,
-};
 
 /// Sets a bit for each break from the start on, the first for the byte there, and clears all other bits of the words.
 /// Goes on until each byte with a bit was taken, or the text ends. What comes at the end is not set.
@@ -53,13 +42,10 @@ pub fn fill_marks(
         result words.new }
 {
     clear(words);
-    let mut block = [NO_BREAK; ROOM];
     let stop = stop_of(start.at, text, words.len());
     let mut here = start;
     while here.at < stop {
-        here = mark_further(
-            table, profile, here, start.at, stop, text, &mut block, words,
-        );
+        here = mark_further(table, profile, here, start.at, stop, text, words);
     }
     here
 }
@@ -83,7 +69,6 @@ fn mark_further(
     from: usize,
     stop: usize,
     text: &[u8],
-    block: &mut [RawBreak],
     words: &mut [u64],
 ) -> FillState
     requires { IsPlace here.row × (from ≤ here.at) × (here.at < stop) × (stop ≤ length text.now)
@@ -95,47 +80,40 @@ fn mark_further(
         → Marked profile cell text.now all from stop here words.old
         → Marked profile cell text.now all from stop result words.new }
 {
-    let part = mark_common(table, profile, here, from, &text[..stop], block, words);
+    let part = mark_common(table, profile, here, from, stop, text, words);
     if part.until <= part.here.at {
         return part.here;
     }
     mark_ones(table, profile, part.here, from, stop, text, words)
 }
 
-/// Takes blocks of bytes and then scalars of the front of a text, up to where blocks are tried again, unless a held
-/// position or the front's last bytes come before.
+/// Takes blocks of bytes and then scalars that begin in the front of a text, up to where blocks are tried again, unless
+/// a held position or the text's last bytes come before.
 fn mark_common(
     table: &FlatTable,
     profile: Profile,
     here: FillState,
     from: usize,
-    front: &[u8],
-    block: &mut [RawBreak],
+    stop: usize,
+    text: &[u8],
     words: &mut [u64],
 ) -> Part
-    requires { IsPlace here.row × (from ≤ here.at) × (here.at < length front.now)
-        × (length front.now ≤ from + 64 * length words.old) }
-    ensures within { IsPlace result.here.row × (here.at ≤ result.here.at) × (result.here.at ≤ length front.now)
-        × (here.at < result.until) × (result.until ≤ length front.now) }
+    requires { IsPlace here.row × (from ≤ here.at) × (here.at < stop) × (stop ≤ length text.now)
+        × (stop ≤ from + 64 * length words.old) }
+    ensures within { IsPlace result.here.row × (here.at ≤ result.here.at) × (result.here.at ≤ length text.now)
+        × (here.at < result.until) × (result.until ≤ stop) }
+    ensures near { result.here.at ≤ stop + 3 }
     ensures after { (i : ℕ) → result.here.at ≤ from + i → is_marked words.new i ≡ is_marked words.old i }
-    ensures marked { (cell : ℕ → Cell) (more : List ℕ) (all : Ahead) → IsFlatOf table.now cell
-        → Marked profile cell (front.now ++ more) all from (length front.now) here words.old
-        → Marked profile cell (front.now ++ more) all from (length front.now) result.here words.new }
+    ensures marked { (cell : ℕ → Cell) (all : Ahead) → IsFlatOf table.now cell
+        → Marked profile cell text.now all from stop here words.old
+        → Marked profile cell text.now all from stop result.here words.new }
 {
     let steps = rows_of(profile);
-    let there = mark_blocks(
-        &table.pairs,
-        &table.kinds,
-        steps,
-        here,
-        from,
-        front,
-        block,
-        words,
-    );
+    let front = &text[..stop];
+    let there = mark_blocks(&table.pairs, &table.kinds, steps, here, from, front, words);
     let until = next_try::<true>(there.at, front);
     Part {
-        here: mark_scalars(&table.kinds, steps, there, until, from, front, block, words),
+        here: mark_scalars(&table.kinds, steps, there, until, from, text, words),
         until,
     }
 }

@@ -47,7 +47,22 @@ pub(crate) fn mark_bits(words: &mut [u64], index: usize, bits: u64)
 
 /// Sets the bit of each break, counted from a byte on.
 #[inline(always)]
-pub(crate) fn mark_breaks(breaks: &[RawBreak], from: usize, words: &mut [u64])
+pub(crate) fn mark_breaks<const IN_BLOCK: bool>(breaks: &[RawBreak], from: usize, words: &mut [u64])
+    requires { (k : ℕ) → k < length breaks.now
+        → (from ≤ (slice_index_or breaks.now k no_break).at)
+        × ((slice_index_or breaks.now k no_break).at < from + 64 * length words.old) }
+    ensures { (i : ℕ) → is_marked words.new i
+        ≡ (is_marked words.old i || stands_among (from + i) (map shown breaks.now)) }
+{
+    if !IN_BLOCK && words.len() == 1 {
+        return mark_word(breaks, from, words);
+    }
+    mark_each(breaks, from, words)
+}
+
+/// The same one after another.
+#[inline(always)]
+fn mark_each(breaks: &[RawBreak], from: usize, words: &mut [u64])
     requires { (k : ℕ) → k < length breaks.now
         → (from ≤ (slice_index_or breaks.now k no_break).at)
         × ((slice_index_or breaks.now k no_break).at < from + 64 * length words.old) }
@@ -57,4 +72,22 @@ pub(crate) fn mark_breaks(breaks: &[RawBreak], from: usize, words: &mut [u64])
     for found in breaks {
         mark(words, found.at - from, true);
     }
+}
+
+/// The same of one word, in which no bit waits for the one before it.
+#[inline(always)]
+fn mark_word(breaks: &[RawBreak], from: usize, words: &mut [u64])
+    requires one { length words.old ≡ 1 }
+    requires within { (k : ℕ) → k < length breaks.now
+        → (from ≤ (slice_index_or breaks.now k no_break).at)
+        × ((slice_index_or breaks.now k no_break).at < from + 64) }
+    ensures { (i : ℕ) → is_marked words.new i
+        ≡ (is_marked words.old i || stands_among (from + i) (map shown breaks.now)) }
+{
+    let mut bits = 0;
+    for found in breaks {
+        let index = found.at - from;
+        bits |= 1 << (index % BITS);
+    }
+    join(words, 0, bits);
 }

@@ -1,11 +1,12 @@
 //! Scalars of any width and ill-formed bytes, where they are mixed.
 
-ghost use Rattle.std.specs.Prelude.{◌≡◌, ℕ, ◌<◌, ◌≤◌, ◌++◌, List, length};
+ghost use Rattle.std.specs.Prelude.{◌≡◌, ℕ, ◌+◌, ◌<◌, ◌≤◌, ◌++◌, List, length};
 ghost use Rattle.lbk_rules.specs.declared.Cell.{Cell};
 ghost use Rattle.lbk_values.specs.declared.profile.Profile.{Profile};
 ghost use Rattle.lbk_rules.specs.FlatTable.{AreFlatKinds};
 ghost use Rattle.lbk_rules.specs.Rows.{AreSteps, IsPlace, steps_in};
 ghost use Rattle.lbk_bytes.specs.Marks.{boundary_from};
+ghost use Rattle.lbk_bytes.specs.Order.{AreInOrder};
 ghost use Rattle.lbk_bytes.specs.Reached.{Ahead, IsInOrder, Reached};
 ghost use Rattle.lbk_bytes.specs.Shown.{given_in};
 
@@ -40,6 +41,9 @@ pub(crate) fn pieces(
     ensures onward { (start.at ≤ result.at) × (start.count ≤ result.count) }
     ensures in_order { (from : ℕ) → IsInOrder out.old start.count from start.at
         → IsInOrder out.new result.count from result.at }
+    ensures near { start.at ≤ stop → result.at ≤ stop + 3 }
+    ensures before { (from place : ℕ) → stop ≤ place → start.at ≤ place → IsInOrder out.old start.count from start.at
+        → AreInOrder out.new result.count from place }
     ensures boundary { (more : List ℕ) (place : ℕ) → stop ≤ place
         → boundary_from (text.now ++ more) result.at place ≡ boundary_from (text.now ++ more) start.at place }
     ensures reached { (profile : Profile) (cell : ℕ → Cell) (more : List ℕ) (all : Ahead)

@@ -32,7 +32,7 @@ pub(crate) fn next_try<const MASKS: bool>(at: usize, text: &[u8]) -> usize
     requires { at ≤ length text.now }
     ensures { (at ≤ result) × (result ≤ length text.now) × (at < length text.now → at < result) }
 {
-    if !MASKS || text.len() - at < BLOCK {
+    if !MASKS || text.len() - at <= BLOCK {
         return text.len();
     }
     let pause = pause(&text[at..]);

@@ -1,9 +1,10 @@
-use Rattle.std.proofs.Common.{◌≡◌, ◌-◌, ◌≤◌, ◌++◌, ℕ, List, length}
+use Rattle.std.proofs.Common.{◌≡◌, ◌+◌, ◌-◌, ◌≤◌, ◌++◌, ℕ, List, length}
 use Rattle.lbk_rules.specs.declared.Cell.{Cell}
 use Rattle.lbk_values.specs.declared.profile.Profile.{Profile}
 use Rattle.lbk_rules.specs.FlatTable.{AreFlatKinds}
 use Rattle.lbk_rules.specs.Rows.{IsPlace, steps_in}
 use Rattle.lbk_bytes.specs.Marks.{boundary_from}
+use Rattle.lbk_bytes.specs.Order.{AreInOrder}
 use Rattle.lbk_bytes.specs.Reached.{Ahead, IsInOrder, Reached}
 use Rattle.lbk_bytes.specs.Shown.{given_in}
 use Rattle.lbk_bytes.proofs.filling.quick.Given as goal
@@ -16,6 +17,9 @@ invariant-loop-here l = record {
   onward : l.fn.start.at ≤ l.here.at;
   more : l.fn.start.count ≤ l.here.count;
   in_order : (from : ℕ) → IsInOrder l.fn.out l.fn.start.count from l.fn.start.at → IsInOrder l.out l.here.count from l.here.at;
+  near : l.fn.start.at ≤ l.stop → l.here.at ≤ l.stop + 3;
+  before : (from place : ℕ) → l.stop ≤ place → l.fn.start.at ≤ place → IsInOrder l.fn.out l.fn.start.count from l.fn.start.at
+      → AreInOrder l.out l.here.count from place;
   boundary : (more : List ℕ) (place : ℕ) → l.stop ≤ place
       → boundary_from (l.text ++ more) l.here.at place ≡ boundary_from (l.text ++ more) l.fn.start.at place;
   reached : (profile : Profile) (cell : ℕ → Cell) (more : List ℕ) (all : Ahead) → l.steps ≡ steps_in profile → AreFlatKinds l.kinds cell

@@ -36,6 +36,8 @@ loop-count-preserved c =
       in_order = λ from order.
           let here = l.invariant.in_order from order in
           (omega (arith, here.0), put.ensures.in_order from (l.at + s.size) (omega (arith, r.some)) here);
+      near = λ _. omega (arith, r.few);
+      before = λ from place stop _ order. put.ensures.in_order from place (omega (arith, stop)) (l.invariant.in_order from order);
       boundary = λ more place before.
           boundary-read (c.args.text.now ++ more) l.at s.code s.size place (omega (arith, length-append c.args.text.now more)) (omega arith)
           (reads-more c.args.text.now more l.at s.code s.size inside r)

@@ -1,4 +1,4 @@
-use Rattle.std.proofs.Common.{◌∙◌, arith}
+use Rattle.std.proofs.Common.{length, ◌∙◌, arith}
 use Rattle.lbk_bytes.proofs.mark_blocks.mark_block.Goals as goal
 
 pub returns-then-end-there-clause-marked : goal.returns-then-end-there-clause-marked
@@ -10,7 +10,7 @@ returns-then-end-there-clause-marked c = λ profile cell more all swift are_kind
 pub returns-then-here-there-clause-marked : goal.returns-then-here-there-clause-marked
 returns-then-here-there-clause-marked c = λ profile cell more all swift are_kinds told start.
     let l = c.loop-here in
-    c.mark_left-here.ensures.marked profile cell more all swift are_kinds
+    c.mark_left-here.ensures.marked profile cell more all (length c.args.text.now) swift are_kinds (omega arith)
     (c.mark_told-there.ensures.marked profile cell c.args.steps.now c.args.kinds.now more all swift are_kinds told c.in-Some.ensures
     (l.invariant.marked profile cell more all swift are_kinds told start))
 
@@ -25,7 +25,7 @@ loop-here-preserved c =
       onward = omega (arith, there.within.1, here.within.1);
       after = λ i past. here.after i past ∙ there.after i (omega (arith, here.within.1)) ∙ l.invariant.after i (omega (arith, here.within.1, there.within.1));
       marked = λ profile cell more all swift are_kinds told start.
-          here.marked profile cell more all swift are_kinds
+          here.marked profile cell more all (length c.args.text.now) swift are_kinds (omega arith)
           (there.marked profile cell c.args.steps.now c.args.kinds.now more all swift are_kinds told c.in-Some.ensures
           (l.invariant.marked profile cell more all swift are_kinds told start));
     }

@@ -14,10 +14,11 @@ invariant-loop-here l = record {
   within : l.here.at ≤ length l.text;
   onward : l.fn.start.at ≤ l.here.at;
   after : (i : ℕ) → l.here.at ≤ l.from + i → is_marked l.words i ≡ is_marked l.fn.words i;
-  marked : (profile : Profile) (cell : ℕ → Cell) (more : List ℕ) (all : Ahead) → l.steps ≡ steps_in profile
-      → AreFlatKinds l.kinds cell
-      → Marked profile cell (l.text ++ more) all l.from (length l.text) l.fn.start l.fn.words
-      → Marked profile cell (l.text ++ more) all l.from (length l.text) l.here l.words;
+  near : l.fn.start.at ≤ l.stop → l.here.at ≤ l.stop + 3;
+  marked : (profile : Profile) (cell : ℕ → Cell) (more : List ℕ) (all : Ahead) (last : ℕ) → l.steps ≡ steps_in profile
+      → AreFlatKinds l.kinds cell → l.stop ≤ last
+      → Marked profile cell (l.text ++ more) all l.from last l.fn.start l.fn.words
+      → Marked profile cell (l.text ++ more) all l.from last l.here l.words;
 }
 
 abbrev pub decreases-loop-here : goal.decreases-loop-here

@@ -37,6 +37,8 @@ loop-count-preserved c =
       in_order = λ from order.
           let here = l.invariant.in_order from order in
           (omega (arith, here.0), put.ensures.in_order from (l.at + size) (omega (arith, r.some)) here);
+      near = λ _. omega (arith, r.few);
+      before = λ from place stop _ order. put.ensures.in_order from place (omega (arith, stop)) (l.invariant.in_order from order);
       boundary = λ more place before.
           boundary-read-as (text ++ more) l.at x size place (omega (arith, length-append text more)) (omega arith)
           (reads-as-more text more l.at x size four r)

@@ -3,7 +3,7 @@ use Rattle.lbk_bytes.specs.Marks.{is_marked, stands_among}
 use Rattle.lbk_bytes.specs.Order.{no_break}
 use Rattle.lbk_bytes.specs.Shown.{shown}
 use Rattle.lbk_bytes.proofs.MarkLemmas.{break-more, or-assoc}
-use Rattle.lbk_bytes.proofs.marks.mark_breaks.Goals as goal
+use Rattle.lbk_bytes.proofs.marks.mark_each.Goals as goal
 
 pub loop-found-preserved : goal.loop-found-preserved
 loop-found-preserved c = λ i.
