@@ -7,8 +7,8 @@ ghost use Rattle.lbk_rules.specs.FlatTable.{IsFlatOf};
 ghost use Rattle.lbk_units.specs.Units.{pieces_of_utf16};
 ghost use Rattle.lbk_streams.specs.Cuts.{BeginsIn, IsCutAfterIn, IsCutBeforeIn, JoinsIn};
 
-use lbk_streams::{cut_before_utf16, cut_utf16};
 use lbk_rules::FlatTable;
+use lbk_streams::{cut_before_utf16, cut_utf16};
 
 /// The first unit at or after `at` at which a part of a text in UTF-16 may begin: one before which a line must end
 /// (UAX #14, section 6.1, rules LB4 and LB5), or the end of the text. A place past the text counts as its end, and 0
