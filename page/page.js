@@ -113,7 +113,7 @@ class Views {
     this.#table = table;
     this.#decided = new DecidedText(table);
     const answer = new AnswerView(find("detail"), this.#decided, table);
-    this.#positions = new PositionsView(find("positions"), this.#decided, (before, after) => {
+    this.#positions = new PositionsView(find("positions"), find("detail"), this.#decided, (before, after) => {
       answer.show(before, after);
       this.#showPassage(before.at);
     });

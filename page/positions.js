@@ -11,6 +11,7 @@ export class PositionsView {
   #chose;
   #measure;
   #row;
+  #cover;
   #width = 0;
   #pieces = [];
   #tops = [0];
@@ -20,9 +21,13 @@ export class PositionsView {
   #ofLetter = false;
   #marked = [];
 
-  /** `chose` is called with a position that is chosen and, where a letter is, with the position after this. */
-  constructor(list, decided, chose) {
+  /**
+   * `chose` is called with a position that is chosen and, where a letter is, with the position after this. `cover` may stand over
+   * the list's end.
+   */
+  constructor(list, cover, decided, chose) {
     this.#list = list;
+    this.#cover = cover;
     this.#decided = decided;
     this.#chose = chose;
     this.#inner = element("div", "");
@@ -163,8 +168,8 @@ export class PositionsView {
   /** Chooses the position at a place of the text, or the last one before it, and brings it into view. */
   choose(place) {
     const { at } = this.#decided.positionAt(place);
-    this.#reveal(at);
     this.#take(at, false);
+    this.#reveal(at);
   }
 
   #take(place, ofLetter) {
@@ -213,7 +218,9 @@ export class PositionsView {
     const [box, room] = [piece.sign(at)?.getBoundingClientRect(), this.#list.getBoundingClientRect()];
     if (!box) return;
     // (with the letters above the sign)
-    const [above, below] = [box.top - this.#row / 2 - room.top, box.bottom - room.bottom];
+    const cover = this.#cover.getBoundingClientRect();
+    const end = cover.left < box.right && cover.right > box.left ? Math.min(room.bottom, cover.top) : room.bottom;
+    const [above, below] = [box.top - this.#row / 2 - room.top, box.bottom - end];
     if (above < 0) this.#list.scrollTop += above - this.#row / 4;
     else if (below > 0) this.#list.scrollTop += below + this.#row / 4;
   }

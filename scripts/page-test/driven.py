@@ -53,13 +53,13 @@ const covered = seen.filter(([, box], k) => seen.some(([, other], n) => n < k &&
 const name = ([it, box]) => `${it.className}#${it.id} ${it.textContent.slice(0, 5)} ${box.width} x ${box.height}`;
 return [seen.length > 30, small.map(name).slice(0, 5), covered.map(name).slice(0, 5)];
 """
-# Whether the chosen sign and all of the answer are on the screen, with nothing over them.
+# Whether the chosen sign and all of the answer are on the screen, with nothing over them, and nothing goes beyond its width.
 OPENING = """
 const isIn = (box) => box.top >= 0 && box.left >= 0 && box.bottom <= innerHeight && box.right <= innerWidth;
 const sign = document.querySelector("[aria-selected=true]");
 const [one, other] = [sign, document.getElementById("detail")].map((it) => it.getBoundingClientRect());
 const top = document.elementFromPoint((one.left + one.right) / 2, (one.top + one.bottom) / 2);
-return [isIn(one), isIn(other), top === sign];
+return [isIn(one), isIn(other), top === sign, document.documentElement.scrollWidth <= document.documentElement.clientWidth];
 """
 # Takes down how long it is from each key to the frame that shows what it did, and how much of it is the page's own.
 WATCH_KEYS = """
@@ -226,7 +226,7 @@ def try_opening(count, page, address):
     for width, height in SCREENS:
         show_screen(page, width, height)
         page.open(address)
-        count.equal(f"chromedriver: at {width} x {height} the first screen has the answer", page.run(OPENING), [True, True, True])
+        count.equal(f"chromedriver: at {width} x {height} the first screen has the answer", page.run(OPENING), [True] * 4)
         for fragment in ("", "#text=%D8%A7%D9%84%D8%B3%D8%B9%D8%B1%20123%20abc%0Ax" + "%20iil" * 30):
             page.open(address + fragment)
             found = page.run(TARGETS.replace("LEAST", str(LEAST_TARGET - ROUNDING)))

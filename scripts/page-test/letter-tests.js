@@ -1,5 +1,5 @@
 /** Letters and signs of the page: their order in both directions, numbers, joined letters, and that no two signs are in one place. */
-import { EXAMPLES } from "/page/examples.js";
+import { EXAMPLES } from "/modules/examples.js";
 import { change, equal, follow, matches, openPage, press, say, write } from "./harness.js";
 
 const MIXED = [

@@ -1,6 +1,6 @@
 /** What the page shows of a text, and how it takes one. */
-import { EXAMPLES } from "/page/examples.js";
-import { testLine } from "/page/notation.js";
+import { EXAMPLES } from "/modules/examples.js";
+import { testLine } from "/modules/notation.js";
 import { change, equal, matches, openPage, press, say, signs, untilTrue, write } from "./harness.js";
 
 function shows(page, what, wanted) {
@@ -74,7 +74,8 @@ export async function tryPage(table) {
   equal("no error in the page", page.faults, []);
   const asked = page.window.performance.getEntriesByType("resource").map((it) => new URL(it.name));
   equal("the page asks its own server alone", asked.filter((it) => it.origin !== location.origin).map(String), []);
-  say("and it did ask it", asked.length > 5 ? "" : asked.join(" "));
+  const files = [...new Set(asked.map((it) => it.pathname.replace("/page/", "")))].sort();
+  equal("and asks it for four files", files, ["lbk.table.gz", "lbk.wasm", "page.css", "page.js"]);
   const controls = [...page.document.querySelectorAll("input, select, textarea, button")];
   const unlabelled = controls.filter((it) => !it.labels?.length && !it.textContent.trim());
   equal("each control has a label", unlabelled.map((it) => it.id), []);

@@ -1,7 +1,7 @@
 /** Tries the package and the page in this browser, and posts what was found to the server that scripts/page runs. */
 import { Table as Packaged } from "/package/lbk.js";
 import { Words } from "/package/words.js";
-import { Table } from "/page/lbk.js";
+import { Table } from "/shown/lbk.js";
 import { tryColumns } from "./column-tests.js";
 import { equal, openPage, results, say, untilTrue } from "./harness.js";
 import { tryLetters } from "./letter-tests.js";
