@@ -567,12 +567,12 @@ size_t lbk_cut_before(const lbk_table *table, const char *text, size_t size, siz
 size_t lbk_cut_utf16(const lbk_table *table, const uint16_t *text, size_t size, size_t at);
 size_t lbk_cut_before_utf16(const lbk_table *table, const uint16_t *text, size_t size, size_t at);
 
-/* Returns an offset before the end of the text: the breaks of the text after it are those of the text that begins there,
- * so what is before it can be forgotten, for example while a text grows. `profile` is LBK_FIRST or LBK_SECOND.
+/* Returns an offset before the end of the text: after it, the breaks of the text are those of the text that begins
+ * there. `profile` is LBK_FIRST or LBK_SECOND.
  *
- * It is the last break after which lbk_breaks, from a new state, returns the same next break and comes to the same
- * state, and otherwise the cut of lbk_cut_before; 0 for an empty text. It reads the last paragraph twice. Allocates
- * nothing. */
+ * It is the last break from which lbk_breaks with a new state returns the same next break and comes to the same state,
+ * or the last cut of lbk_cut_before if there is none. It is 0 for an empty text. It reads the last paragraph twice.
+ * Allocates nothing. */
 size_t lbk_safe_break(const lbk_table *table, uint8_t profile, const char *text, size_t size);
 
 /* Returns the name of a rule by its number; an empty name for any other number. */
