@@ -8,6 +8,8 @@ published ones where they are there, and else those of the stored runs.
 
 import os
 import re
+import subprocess
+import tempfile
 
 from checks.harness import TOP, built_crate, built_program
 from checks.program import Long
@@ -46,6 +48,10 @@ SUBCOMMANDS = [
     ("letters of three bytes", PASS_OVER, "mark", 2.5),
 ]
 
+
+# Lines of so many bytes, and the least ratio of a subcommand's speed into a pipe that is read to that into a file: 1.0 to 1.4 are
+# measured. A write for each line costs most where lines are short.
+LENGTHS, PIPED = (8, 60, 1000), 0.4
 
 # How many times md5sum's time over the four published files a run over no text takes at most, and how often both are run.
 MOST_OF_FOLDER, MOST_OF_FILES, STARTS = 9.0, 6.0, 40
@@ -86,6 +92,36 @@ def subcommands(tally, of_all):
         ratio = (min(took[other]) - starts) / (min(took[task]) - starts)
         said = f"{name}: {task}: {ratio:.2f} times {other}, at least {least}"
         tally.tell(said, None if ratio >= least else "it is slower")
+
+
+def written(words, text, into_pipe):
+    """The processor time of a run over a text, of which the output goes into a file or into a pipe that another program reads."""
+    with tempfile.TemporaryFile() as given, tempfile.TemporaryFile() as kept:
+        given.write(text)
+        given.seek(0)
+        reader = subprocess.Popen(["cat"], stdin=subprocess.PIPE, stdout=kept) if into_pipe else None
+        with subprocess.Popen(words, stdin=given, stdout=reader.stdin if reader else kept) as process:
+            if reader:
+                reader.stdin.close()
+            _, status, used = os.wait4(process.pid, 0)
+            process.returncode = os.waitstatus_to_exitcode(status)
+        if reader:
+            reader.wait()
+    return used.ru_utime + used.ru_stime if status == 0 else float("inf")
+
+
+def pipes(tally, pages):
+    """Ratios of the speed of each subcommand into a pipe to that into a file, over lines of several lengths."""
+    plain = pages.replace("\n", " ").encode("ascii", "ignore")
+    plain *= STREAM // len(plain) + 1
+    for length in LENGTHS:
+        text = b"".join(plain[at : at + length - 1] + b"\n" for at in range(0, STREAM, length - 1))
+        for task in ("mark", "show", "segment"):
+            words = [str(built_program()), task, *options(property_files())]
+            took = {pipe: min(written(words, text, pipe) for _ in range(RUNS)) for pipe in (False, True)}
+            ratio = took[False] / took[True]
+            said = f"lines of {length} bytes: {task}: into a pipe {ratio:.2f} times as fast as into a file, at least {PIPED}"
+            tally.tell(said, None if ratio >= PIPED else "it is slower")
 
 
 def started(words):
@@ -132,4 +168,5 @@ def run(tally, _arguments):
     of_all = texts()
     starts(tally)
     subcommands(tally, of_all)
+    pipes(tally, of_all["the pages"])
     layers(tally, of_all)

@@ -1,10 +1,16 @@
 -- What follows for the cells of scalars from what a row knows of their normal cells.
 use Rattle.std.proofs.Common.{◌≡◌, ℕ, ◌%◌, true, false, cond, Some, None, List, [], ◌∷◌, ◌++◌, length, map, reverse, refl, sym, ap, ◌∙◌, arith}
+use Rattle.std.proofs.lemmas.Bool.{true≢false}
 use Rattle.std.proofs.lemmas.List.{length-map, map-append}
 use Rattle.lbk_uax14.specs.declared.cells.Cell.{Cell}
 use Rattle.lbk_values.specs.declared.profile.Profile.{Profile}
 use Rattle.lbk_uax14.specs.declared.verdicts.Verdict.{Verdict}
+use Rattle.lbk_uax14.specs.declared.verdicts.Kind.TheVariants.{Must}
+use Rattle.lbk_uax14.specs.declared.verdicts.Rule.TheVariants.{Lb3}
 use Rattle.lbk_uax14.specs.Chain.{from_cells}
+use Rattle.lbk_uax14.specs.Facts.{facts}
+use Rattle.lbk_uax14.specs.Rules.{cell_rules}
+use Rattle.lbk_uax14.specs.Sides.{Side}
 use Rattle.lbk_uax14.specs.Held.{is_15b, is_held, now_at}
 use Rattle.lbk_rules.specs.Kinds.{kind_cell, kind_of}
 use Rattle.lbk_uax14.specs.Normal.{normal, normals}
@@ -64,6 +70,12 @@ end-normal profile cell taken verdict ends =
     ∙ sym (verdict_in-end profile (normals cell taken))
     ∙ verdict-normal profile (map cell taken) (length (normals cell taken))
     ∙ ap (λ k. verdict_in profile (map cell taken) k) (normals-length cell taken)
+
+-- where some cell is on the left, a line must end at the end of the text
+pub end-must : (profile : Profile) (side : Side) → (facts side).empty ≡ false → from_cells profile side [] ≡ record { kind = Must; rule = Lb3 }
+unfolding facts from_cells cell_rules
+end-must profile [] none = absurd (true≢false none)
+end-must profile (cell ∷ side) some = refl
 
 -- whether the position before a cell is held, by the normal cells
 pub held-chain-normal : (profile : Profile) (cell : ℕ → Cell) (taken : List ℕ) (c : ℕ)

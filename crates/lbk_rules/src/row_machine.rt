@@ -8,9 +8,15 @@ ghost use Rattle.lbk_rules.specs.Rows.{IsPlace, steps_in};
 use crate::ahead::closes_in;
 use crate::kinds::cell_of_kind;
 use crate::source::CellSource;
-use crate::steps::{Rows, Step, left_of, rows_of, step_at, verdict_of};
-use lbk_uax14::{Cell, Left, Profile, Verdict};
+use crate::steps::{Rows, Step, knows_some, left_of, rows_of, step_at, verdict_of};
+use lbk_uax14::{Cell, Kind, Left, Profile, Rule, Verdict};
 use std::alloc::AllocError;
+
+/// The verdict at the end of a text that is not empty (UAX #14, rule LB3).
+const END: Verdict = Verdict {
+    kind: Kind::Must,
+    rule: Rule::Lb3,
+};
 
 /// A row of steps in a profile.
 #[derive(Clone, Copy)]
@@ -193,6 +199,9 @@ impl<'a, C: CellSource> RowMachine<'a, C> {
             → RowMachineFits C.cell_of self.now profile cell taken
             → result ≡ verdict_in profile (map cell taken) (length taken) }
     {
+        if knows_some(self.row.place) {
+            return END;
+        }
         self.left().verdict_at_end()
     }
 }

@@ -1,6 +1,6 @@
 //! Steps: what happens at a cell of some kind after some cells, in either profile.
 
-ghost use Rattle.std.specs.Prelude.{◌≡◌, ◌%◌, ◌/◌, ◌==◌, ℕ, Some, find, map, not};
+ghost use Rattle.std.specs.Prelude.{◌≡◌, ◌%◌, ◌/◌, ◌==◌, ℕ, Some, false, find, map, not, true};
 ghost use Rattle.lbk_uax14.specs.declared.verdicts.Verdict.{Verdict};
 ghost use Rattle.lbk_uax14.specs.Codes.{kind_number, rule_number, rules};
 ghost use Rattle.lbk_uax14.specs.declared.verdicts.Kind.{Kind};
@@ -119,6 +119,24 @@ pub(crate) fn left_of(place: usize) -> Left
     ensures { result ≡ left_at place }
 {
     known_of(&SAMPLES[place / WIDTH])
+}
+
+/// Whether the row at a place knows of some cell: whether its sample has a nearest one. It is asked for at the end of
+/// each text.
+#[inline(always)]
+pub(crate) fn knows_some(place: usize) -> bool
+    requires { IsPlace place }
+    ensures { result ≡ true → (left_at place).empty ≡ false }
+{
+    are_some(&SAMPLES[place / WIDTH])
+}
+
+/// Whether the first of these is the kind of a cell.
+#[inline(always)]
+fn are_some(kinds: &[u8; 3]) -> bool
+    ensures { result ≡ true → (facts (cells_of kinds.now)).empty ≡ false }
+{
+    usize::from(kinds[0]) < KINDS
 }
 
 /// What is known of the cells of these kinds.

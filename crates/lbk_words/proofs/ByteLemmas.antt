@@ -1,5 +1,5 @@
 -- Bytes below 128: their kinds, and the steps from them.
-use Rattle.std.proofs.Common.{◌≡◌, ℕ, ◌<◌, Bool, true, false, not, cond, ◌&&◌, ◌||◌, ◌==◌, nat_lt, List, [], ◌∷◌, slice_index, slice_index_or, ltb-true, refl, sym, ap, ap₂, ◌∙◌, eqb-true}
+use Rattle.std.proofs.Common.{◌≡◌, ℕ, ◌<◌, Bool, true, false, not, cond, ◌&&◌, ◌||◌, ◌==◌, nat_lt, List, [], ◌∷◌, slice_index, slice_index_or, ltb-true, refl, sym, ap, ap₂, ◌∙◌, eqb-true, arith}
 use Rattle.std.specs.Bool.{beq}
 use Rattle.std.proofs.lemmas.Bool.{and_parts, not-true}
 use Rattle.ucd_table.proofs.Computing.{tables}
@@ -77,6 +77,17 @@ is-byte byte low =
       feed = same_from_beq _ _ feed.0;
       space = same_from_beq _ _ feed.1;
     }
+
+abbrev nul_right : ℕ → ℕ → Bool
+nul_right byte k = k == 17
+
+nul_is : passes_below kind_at kind_stepped nul_right 1 ≡ true
+unfolding all_below tables word_break_stepped general_category_stepped is_extended_pictographic_stepped
+nul_is = refl
+
+-- of a NUL the rules ask nothing
+pub nul-kind : kind_at 0 ≡ 17
+nul-kind = eqb-true (kind_at 0) 17 (Stepped-below kind_at kind_stepped nul_right 1 nul_is 0 (omega arith))
 
 -- the step from a row by a kind before another
 abbrev pub stepped : ℕ → ℕ → ℕ → Step

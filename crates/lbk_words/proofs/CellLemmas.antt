@@ -1,15 +1,20 @@
 -- Bytes below 128 and letters of two bytes, as the scalars of a text.
-use Rattle.std.proofs.Common.{◌≡◌, ◌⊎◌, inl, inr, ℕ, ◌+◌, ◌-◌, ◌<◌, ◌≤◌, Bool, true, false, not, cond, ◌||◌, ◌==◌, List, drop, get_or, length, slice_index, refl, sym, ap, ap₂, subst, ◌∙◌, ⊎_elim, eqb-true, arith}
+use Rattle.std.proofs.Common.{◌≡◌, ◌⊎◌, inl, inr, ℕ, ◌+◌, ◌-◌, ◌<◌, ◌≤◌, Bool, true, false, not, cond, ◌||◌, ◌==◌, List, [], drop, get_or, length, slice_index, refl, sym, ap, ap₂, subst, ◌∙◌, ⊎_elim, eqb-true, arith}
 use Rattle.std.proofs.lemmas.Bool.{cases_lt, not-true}
 use Rattle.std.proofs.lemmas.List.{get_or-drop, get_or_past, length-drop}
 use Rattle.bstr.specs.Utf8.{code_of_2, second}
+use Rattle.unicode_segmentation.specs.Word.{is_ignored, significant, value_at}
+use Rattle.unicode_segmentation.proofs.WordLemmas.{significant-kept}
 use Rattle.lbk_words.specs.Blocks.{ArePlain, Class, IsPlain, class_at, class_of, goes_on, is_either, is_first, is_second}
-use Rattle.lbk_words.specs.Kinds.{kind_at}
+use Rattle.lbk_words.specs.Kinds.{kind_at, kind_value}
 use Rattle.lbk_words.specs.Places.{IsReadAt}
+use Rattle.lbk_words.specs.Words.{scalars_on}
 use Rattle.lbk_words.proofs.Booleans.{unless}
-use Rattle.lbk_words.proofs.ByteLemmas.{is-byte, is_plain, kind_class}
+use Rattle.lbk_words.proofs.ByteLemmas.{IsByte, is-byte, is_plain, kept-at, kind_class, nul-kind}
+use Rattle.lbk_words.proofs.KindTrie.{is-kind}
 use Rattle.lbk_words.proofs.LetterLemmas.{first-alone, first-class, first-letter, low-class, low-first, second-class, second-next}
 use Rattle.lbk_words.proofs.ReadLemmas.{one-read, two-read}
+use Rattle.lbk_words.proofs.WalkLemmas.{scalars-end, scalars-next}
 
 -- what bytes tell of the scalars of a text
 pub record Reading : Type 0 where
@@ -34,11 +39,29 @@ pub record IsCell (text : List ℕ) (r : Reading) (p : ℕ) : Type 0 where
   pub feed : (slice_index text p == 10) ≡ (kind r p == 8)
   pub space : (slice_index text p == 32) ≡ (kind r p == 16)
 
--- and of the one behind it
+-- and what is asked of it by the one before: where the text ends a NUL does as well as none
+pub record IsAhead (text : List ℕ) (r : Reading) (p : ℕ) : Type 0 where
+  pub plain : is_plain (kind r p) ≡ true
+  pub class : r.class p ≡ kind_class (kind r p)
+  pub value : value_at (significant (scalars_on text p)) 0 ≡ kind_value (kind r p)
+
+-- what is told of a scalar and of what is behind it
 pub record AreCells (text : List ℕ) (r : Reading) (p : ℕ) : Type 0 where
   pub here : IsCell text r p
-  pub ahead : IsCell text r (r.end p)
+  pub ahead : IsAhead text r (r.end p)
   pub start : r.starts (r.end p) ≡ true
+
+cell-ahead : (text : List ℕ) (r : Reading) (p : ℕ) → IsCell text r p → IsAhead text r p
+cell-ahead text r p cell =
+    let c = r.code p in
+    let is = is-kind c cell.scalar in
+    let kept = ap (λ v. is_ignored v) (sym is.value) ∙ kept-at (kind_at c) cell.plain in
+    record {
+      plain = cell.plain;
+      class = cell.class;
+      value = ap (λ l. value_at (significant l) 0) (scalars-next text p c (r.end p) cell.read)
+          ∙ ap (λ l. value_at l 0) (significant-kept c (scalars_on text (r.end p)) kept) ∙ sym is.value;
+    }
 
 -- of no run, and so of one byte
 pub cell-one : (text : List ℕ) (r : Reading) (p : ℕ) → IsCell text r p → goes_on (r.class p) ≡ false → r.end p ≡ p + 1
@@ -167,10 +190,40 @@ cell-there text base q after inside fit is starts =
     left-only true b is none = refl
     left-only false b is none = absurd (let e : true ≡ false = sym is ∙ none in let never : ⊥ = cc in never)
 
+nul-value : value_at (significant []) 0 ≡ kind_value (kind_at 0)
+unfolding significant
+nul-value = sym (ap kind_value nul-kind)
+
+-- the end of the text
+none-ahead : (text : List ℕ) (base q : ℕ) → base ≤ q → length text ≤ q → ((j : ℕ) → get_or (drop base text) j 0 < 256) → IsAhead text (reading text base) q
+none-ahead text base q after past fit = record {
+  plain = ap is_plain kind_is ∙ nul.plain;
+  class = low-class bytes i fit low ∙ ap class_of none ∙ nul.class ∙ ap kind_class (sym kind_is);
+  value = ap (λ l. value_at (significant l) 0) (scalars-end text q past) ∙ nul-value ∙ ap kind_value (sym kind_is);
+}
+  where
+    bytes : List ℕ
+    bytes = drop base text
+
+    i : ℕ
+    i = q - base
+
+    none : get_or bytes i 0 ≡ 0
+    none = get_or_past bytes i 0 (omega (arith, length-drop base text))
+
+    low : get_or bytes i 0 < 128
+    low = omega (arith, none)
+
+    kind_is : kind (reading text base) q ≡ kind_at 0
+    kind_is = ap kind_at (ap (λ f. cond f (code_of_2 (get_or bytes i 0) (get_or bytes (i + 1) 0)) (get_or bytes i 0)) (low-first bytes i fit low) ∙ none)
+
+    nul : IsByte 0
+    nul = is-byte 0 (omega arith)
+
 -- and what is behind it
-pub cells-there : (text : List ℕ) (base q : ℕ) → base ≤ q → q + 1 < length text → (is_first (drop base text) (q - base) ≡ true → q + 2 < length text) → ((j : ℕ) → get_or (drop base text) j 0 < 256) → ArePlain (drop base text) (q - base)
+pub cells-there : (text : List ℕ) (base q : ℕ) → base ≤ q → q < length text → ((j : ℕ) → get_or (drop base text) j 0 < 256) → ArePlain (drop base text) (q - base)
     → (reading text base).starts q ≡ true → AreCells text (reading text base) q
-cells-there text base q after one two fit are start = by (is_first bytes i) refl
+cells-there text base q after within fit are start = by (is_first bytes i) refl
   where
     bytes : List ℕ
     bytes = drop base text
@@ -185,10 +238,13 @@ cells-there text base q after one two fit are start = by (is_first bytes i) refl
     starts = not-true (is_second bytes i) start
 
     -- from the byte behind it
-    made : (e : ℕ) → r.end q ≡ e → q < e → e < length text → IsPlain bytes (e - base) → is_second bytes (e - base) ≡ false → AreCells text r q
-    made e end grows inside is next = record {
-      here = cell-there text base q after (omega arith) fit are.here starts;
-      ahead = subst (IsCell text r) (sym end) (cell-there text base e (omega arith) inside fit is next);
+    made : (e : ℕ) → r.end q ≡ e → q < e → IsPlain bytes (e - base) → is_second bytes (e - base) ≡ false → AreCells text r q
+    made e end grows is next = record {
+      here = cell-there text base q after within fit are.here starts;
+      ahead = subst (IsAhead text r) (sym end)
+          (⊎_elim (λ (inside : e < length text). cell-ahead text r e (cell-there text base e (omega arith) inside fit is next))
+          (λ (past : length text ≤ e). none-ahead text base e (omega arith) past fit)
+          (cases_lt e (length text)));
       start = ap (λ n. not (is_second bytes (n - base))) end ∙ ap not next;
     }
 
@@ -196,9 +252,9 @@ cells-there text base q after one two fit are start = by (is_first bytes i) refl
     by true first =
         let place : q + 2 - base ≡ i + 2 = omega arith in
         let behind = are.behind first in
-        made (q + 2) (ap (λ f. q + cond f 2 1) first) (omega arith) (two first) (subst (IsPlain bytes) (sym place) behind.1)
+        made (q + 2) (ap (λ f. q + cond f 2 1) first) (omega arith) (subst (IsPlain bytes) (sym place) behind.1)
         (ap (is_second bytes) (let e : q + 2 - base ≡ i + 1 + 1 = omega arith in e) ∙ second-next bytes (i + 1) ∙ first-alone bytes i fit first)
     by false first =
         let place : q + 1 - base ≡ i + 1 = omega arith in
-        made (q + 1) (ap (λ f. q + cond f 2 1) first) (omega arith) one (subst (IsPlain bytes) (sym place) are.next)
+        made (q + 1) (ap (λ f. q + cond f 2 1) first) (omega arith) (subst (IsPlain bytes) (sym place) are.next)
         (ap (is_second bytes) place ∙ second-next bytes i ∙ first)

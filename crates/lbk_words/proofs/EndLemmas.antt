@@ -3,7 +3,7 @@ use Rattle.std.proofs.Common.{◌≡◌, inl, inr, ℕ, zero, suc, ◌+◌, ◌-
 use Rattle.std.proofs.lemmas.Bool.{and_left, and_parts, and_right, cases_lt, le-ltb, lt-ltb, not-true}
 use Rattle.lbk_masks.specs.Bits.{AreCleared, IsLowest}
 use Rattle.lbk_masks.specs.Sets.{is_set}
-use Rattle.lbk_words.specs.Blocks.{begins, class_at, goes_on, is_first, is_joined, is_second, runs_at}
+use Rattle.lbk_words.specs.Blocks.{begins, class_at, goes_on, is_joined, is_second, runs_at}
 use Rattle.lbk_words.specs.Ends.{AreEnds, goes_on_at, is_pair}
 use Rattle.lbk_words.specs.Places.{IsFirstPiece}
 use Rattle.lbk_words.proofs.Booleans.{or_parts}
@@ -67,10 +67,10 @@ pub record IsEnd (text : List ℕ) (base first stop end next : ℕ) : Type 0 whe
   pub part : (is_word : Bool) × IsFirstPiece text (base + first) (base + end) is_word
   pub rest : AreEnds (drop base text) end stop next
 
-pub next-end : (text : List ℕ) (base first stop left end next : ℕ) → AreEnds (drop base text) first stop left → base + stop < length text
-    → ((i : ℕ) → first ≤ i → i < stop → is_first (drop base text) i ≡ true → base + i + 2 < length text) → 0 < left → end < 64
+pub next-end : (text : List ℕ) (base first stop left end next : ℕ) → AreEnds (drop base text) first stop left → base + stop ≤ length text
+    → 0 < left → end < 64
     → IsLowest left end → AreCleared left end next → IsEnd text base first stop end next
-next-end text base first stop left end next are within behind some few_end lowest cleared = record {
+next-end text base first stop left end next are within some few_end lowest cleared = record {
   grows = grows;
   inside = inside;
   part = by (runs_at bytes first) refl;
@@ -115,7 +115,7 @@ next-end text base first stop left end next are within behind some few_end lowes
     plain : (q : ℕ) → base + first ≤ q → q ≤ base + end → r.starts q ≡ true → AreCells text r q
     plain q from upto start =
         let less : q - base < stop = omega (arith, inside) in
-        cells-there text base q (omega arith) (omega (arith, inside)) (λ is. let two = behind (q - base) (omega arith) less is in omega (arith, two)) are.fit
+        cells-there text base q (omega arith) (omega (arith, inside)) are.fit
         (are.plain (q - base) (omega arith) less) start
 
     here : base + first - base ≡ first

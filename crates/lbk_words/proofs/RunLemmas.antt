@@ -3,42 +3,30 @@ use Rattle.std.proofs.Common.{◌≡◌, ℕ, zero, suc, ◌+◌, ◌-◌, ◌<�
 use Rattle.std.proofs.Math.ListN.{set}
 use Rattle.std.proofs.lemmas.Bool.{cases_lt}
 use Rattle.std.proofs.lemmas.List.{append-nil}
-use Rattle.unicode_segmentation.specs.Word.{is_ignored, significant, value_at}
-use Rattle.unicode_segmentation.proofs.WordLemmas.{significant-kept}
+use Rattle.unicode_segmentation.specs.Word.{significant, value_at}
 use Rattle.lbk_words.specs.declared.step_table.TheConstants.{FIRST_ROWS}
 use Rattle.lbk_words.specs.declared.steps.Step.{Step}
 use Rattle.lbk_words.specs.declared.word.Word.{Word}
 use Rattle.lbk_words.specs.Blocks.{Class, begins, goes_on, is_joined}
 use Rattle.lbk_words.specs.Filling.{IsFilled, IsInRow}
-use Rattle.lbk_words.specs.Kinds.{kind_at, kind_value}
+use Rattle.lbk_words.specs.Kinds.{kind_at}
 use Rattle.lbk_words.specs.Places.{IsFirstPiece}
 use Rattle.lbk_words.specs.Rows.{IsStep, answer_number, step_number, told}
 use Rattle.lbk_words.specs.Words.{AreRising, scalars_on}
 use Rattle.lbk_words.proofs.Booleans.{or_parts}
-use Rattle.lbk_words.proofs.ByteLemmas.{IsPassed, first-outside, first-run, is_outside, kept-at, kind_class, outside-ends, outside-next, outside-word, run-ends, run-joins, run-next, run-passes, run-word, run_row, stepped}
+use Rattle.lbk_words.proofs.ByteLemmas.{IsPassed, first-outside, first-run, is_outside, kind_class, outside-ends, outside-next, outside-word, run-ends, run-joins, run-next, run-passes, run-word, run_row, stepped}
 use Rattle.lbk_words.proofs.CellLemmas.{AreCells, IsCell, Reading, cell-inside, cell-one, kind}
 use Rattle.lbk_words.proofs.FillLemmas.{boundary-next, rising-word, words-next}
 use Rattle.lbk_words.proofs.KindTrie.{is-kind}
 use Rattle.lbk_words.proofs.RowLemmas.{few-answers, first-row, step-asked}
 use Rattle.lbk_words.proofs.StepLemmas.{filled-part, first-in_row, row-begins, row-ends, row-goes-on}
-use Rattle.lbk_words.proofs.WalkLemmas.{scalars-next}
-
--- what is ahead of a scalar is the next one
-ahead-plain : (text : List ℕ) (r : Reading) (p : ℕ) → AreCells text r p → value_at (significant (scalars_on text (r.end p))) 0 ≡ kind_value (kind r (r.end p))
-ahead-plain text r p are =
-    let q = r.end p in
-    let c = r.code q in
-    let is = is-kind c are.ahead.scalar in
-    let kept = ap (λ v. is_ignored v) (sym is.value) ∙ kept-at (kind_at c) are.ahead.plain in
-    ap (λ l. value_at (significant l) 0) (scalars-next text q c (r.end q) are.ahead.read)
-    ∙ ap (λ l. value_at l 0) (significant-kept c (scalars_on text (r.end q)) kept) ∙ sym is.value
 
 pub step-plain : (text : List ℕ) (r : Reading) (p row : ℕ) → AreCells text r p → row < 43
     → IsStep row (r.code p) (value_at (significant (scalars_on text (r.end p))) 0) (stepped row (kind r p) (kind r (r.end p)))
 step-plain text r p row are few =
     let c = r.code p in
     let far = value_at (significant (scalars_on text (r.end p))) 0 in
-    subst (λ v. IsStep row c far (told (step_number (answer_number v) row (kind_at c)))) (ahead-plain text r p are)
+    subst (λ v. IsStep row c far (told (step_number (answer_number v) row (kind_at c)))) are.ahead.value
     (step-asked row c (kind_at c) far few (is-kind c are.here.scalar) (few-answers far))
 
 pub first-plain : (text : List ℕ) (r : Reading) (p row : ℕ) → IsCell text r p → slice_index FIRST_ROWS (kind r p) ≡ row → IsInRow text p (r.end p) row

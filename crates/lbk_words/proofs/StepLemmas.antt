@@ -4,6 +4,7 @@ use Rattle.std.specs.Int.{from_bool}
 use Rattle.std.proofs.Math.ListN.{length-set, set}
 use Rattle.std.proofs.lemmas.List.{append-nil}
 use Rattle.ucd_breaks.specs.WordBreak.{word_break}
+use Rattle.ucd_breaks.specs.declared.WordBreak.{WordBreak}
 use Rattle.unicode_segmentation.specs.Word.{significant, starts_with_half_flag, value_at}
 use Rattle.lbk_words.specs.declared.parts.Filling.{Filling}
 use Rattle.lbk_words.specs.declared.steps.Step.{Step}
@@ -52,10 +53,18 @@ pub row-ends : (text : List ℕ) (begin at row c end : ℕ) (step : Step) → Is
 row-ends text begin at row c end step part read is cuts =
     walk-break text begin at c end part.context (row_word row) part.walk read (is.cuts part.context part.like ∙ cuts)
 
+-- its row is that of a part of the scalar alone
+pub first-of-step : {row c : ℕ} {far : WordBreak} (step : Step) → IsStep row c far step → step.cuts ≡ true → IsFirstRow c step.next
+first-of-step {row} {c} step is cuts = record {
+  few = is.next;
+  context = is.fresh cuts;
+  word = is.word ∙ ap (λ b. cond b (is_letter_or_number c) (row_word row || is_letter_or_number c)) cuts;
+}
+
 pub row-begins : (text : List ℕ) (at row c end : ℕ) (step : Step) → IsReadAt text at c end
     → IsStep row c (value_at (significant (scalars_on text end)) 0) step → step.cuts ≡ true → IsInRow text at end step.next
 row-begins text at row c end step read is cuts =
-    begins-row text at c end step.next read is.next (is.fresh cuts) (is.word ∙ ap (λ b. cond b (is_letter_or_number c) (row_word row || is_letter_or_number c)) cuts)
+    first-in_row text at c end step.next read (first-of-step step is cuts)
 
 -- nothing is filled at the start
 pub filled-none : (text : List ℕ) (start : ℕ) (out : List Word) → IsFilled text start start 0 out

@@ -42,7 +42,7 @@ run-taken text start base at begin end count stop left next out after inside som
     (ap (λ i. not (is_second bytes i)) place ∙ starts.1)
     (λ q from upto start_is.
     let plain = are.plain (q - base) (omega arith) (omega arith) in
-    cells-there text base q (omega arith) (omega arith) (λ first. let behind = (plain.behind first).0 in omega (arith, behind)) are.fit plain start_is)
+    cells-there text base q (omega arith) (omega arith) are.fit plain start_is)
     (λ q from before. (or_parts _ _ (run.none (q - base) (omega arith) (omega arith))).0)
     (ap (λ i. begins (class_at bytes i)) place ∙ starts.0)
     (λ q from before. sym (runs-there text base q (omega arith)) ∙ run.joined (q - base) (omega arith) (omega arith))

@@ -4,7 +4,7 @@ use Rattle.std.specs.Prelude.{drop, get_or, length}
 use Rattle.lbk_masks.specs.Sets.{is_set}
 use Rattle.lbk_words.specs.declared.ends.PartEnds.{PartEnds}
 use Rattle.lbk_words.specs.declared.parts.First.{First}
-use Rattle.lbk_words.specs.Blocks.{ArePlain, begins_at, is_first, runs_at}
+use Rattle.lbk_words.specs.Blocks.{ArePlain, begins_at, runs_at}
 use Rattle.lbk_words.specs.Places.{IsReadAt}
 use Rattle.lbk_words.specs.Rows.{IsFirstRow}
 
@@ -28,9 +28,7 @@ pub record AreEnds (bytes : List ℕ) (first stop ends : ℕ) : Type 0 where
 pub record AreNext (text : List ℕ) (at : ℕ) (found : PartEnds) : Type 0 where
   pub after : found.base ≤ at
   pub stop : ℕ
-  pub within : found.base + stop < length text
-  -- what is behind a letter of two bytes is of the text
-  pub behind : (i : ℕ) → at ≤ found.base + i → i < stop → is_first (drop found.base text) i ≡ true → found.base + i + 2 < length text
+  pub within : found.base + stop ≤ length text
   pub ends : AreEnds (drop found.base text) (at - found.base) stop found.ends
 
 -- what was read, if anything, is the scalar at the byte `at`, and its row that of a part of it alone

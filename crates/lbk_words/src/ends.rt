@@ -77,30 +77,28 @@ fn ends_from(text: &[u8], start: usize) -> PartEnds
     requires { start < length text.now }
     ensures { AreFound text.now start result }
 {
-    if text.len() - start < FEW || !are_told(text[start], text[start + 1]) {
+    let rest = &text[start..];
+    if rest.len() < FEW || !are_told(rest[0], rest[1]) {
         return PartEnds::none();
     }
-    if text.len() < BLOCK {
-        return ends_of_few(text, start);
-    }
-    let base = start.min(text.len() - BLOCK);
+    let ends = if rest.len() < BLOCK {
+        ends_of_few(rest)
+    } else {
+        ends_in(rest)
+    };
     PartEnds {
-        base,
-        ends: ends_in(&text[base..], start - base),
+        base: start,
+        ends,
         first: UNREAD,
     }
 }
 
-/// The same of a text of fewer than 64 bytes, of which the last two are left to steps.
-fn ends_of_few(text: &[u8], start: usize) -> PartEnds
-    requires { (start + 2 ≤ length text.now) × (length text.now < 64) }
-    ensures { AreFound text.now start result }
+/// The ends that bits tell of the parts of a text of fewer than 64 bytes, but for the last.
+fn ends_of_few(text: &[u8]) -> u64
+    requires { length text.now < 64 }
+    ensures { (stop : ℕ) × (stop ≤ length text.now) × AreEnds text.now 0 stop result }
 {
-    PartEnds {
-        base: 0,
-        ends: kept_below(ends_in(&padded(text), start), text.len() - 2),
-        first: UNREAD,
-    }
+    kept_below(ends_in(&padded(text)), text.len())
 }
 
 /// The bytes of a text, and zeros behind them.
@@ -126,19 +124,18 @@ fn is_usual(byte: u8) -> bool {
     byte < 0x80 || (0xC3 <= byte && byte <= 0xDB && byte != 0xD7)
 }
 
-/// Where parts end among the first 64 bytes, after one at which one begins.
+/// Where parts end among the first 64 bytes, at the first of which one begins.
 #[inline(always)]
-fn ends_in(bytes: &[u8], first: usize) -> u64
-    requires { (64 ≤ length bytes.now) × (first < 63) }
-    ensures { (stop : ℕ) × AreEnds bytes.now first stop result }
+fn ends_in(bytes: &[u8]) -> u64
+    requires { 64 ≤ length bytes.now }
+    ensures { (stop : ℕ) × AreEnds bytes.now 0 stop result }
 {
     let marks = marks_of(bytes, wides_of(bytes));
-    let runs = kept_from(marks.runs, first);
-    let before = runs << 1;
-    let others = (runs & !before) & !marks.begins;
-    let stop = first_set(kept_from(marks.stops, first) | others);
-    let inside = (before & runs) | pairs_in(bytes);
-    kept_from(kept_below(!inside, stop), first + 1)
+    let before = marks.runs << 1;
+    let others = (marks.runs & !before) & !marks.begins;
+    let stop = first_set(marks.stops | others);
+    let inside = (before & marks.runs) | pairs_in(bytes);
+    kept_from(kept_below(!inside, stop), 1)
 }
 
 /// Which of the first 64 bytes are the second of a pair that is one part.

@@ -104,7 +104,7 @@ pub(crate) fn part_end(text: &[u8], start: usize, first: First) -> PartEnd
             return PartEnd {
                 end: at,
                 next: First {
-                    row: first_row(next.code),
+                    row: step.next,
                     end: next.end,
                 },
             };

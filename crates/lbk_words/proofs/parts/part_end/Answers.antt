@@ -1,5 +1,5 @@
 use Rattle.lbk_words.specs.Rows.{row_word}
-use Rattle.lbk_words.proofs.StepLemmas.{first-in_row, row-ends, row-goes-on}
+use Rattle.lbk_words.proofs.StepLemmas.{first-in_row, first-of-step, row-ends, row-goes-on}
 use Rattle.lbk_words.proofs.WalkLemmas.{walk-end}
 use Rattle.lbk_words.proofs.parts.part_end.Goals as goal
 
@@ -22,7 +22,8 @@ returns-then-step-clause-end c =
     )
 
 pub returns-then-step-clause-next : goal.returns-then-step-clause-next
-returns-then-step-clause-next c = λ _. (c.scalar_at-next.result.code, c.scalar_at-next.ensures.read, c.first_row.ensures)
+returns-then-step-clause-next c = λ _.
+    (c.scalar_at-next.result.code, c.scalar_at-next.ensures.read, first-of-step c.step_of-step.result c.step_of-step.ensures c.if-step.true)
 
 pub loop-at-preserved : goal.loop-at-preserved
 loop-at-preserved c =

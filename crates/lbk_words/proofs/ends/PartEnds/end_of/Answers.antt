@@ -21,7 +21,6 @@ end c =
     let lowest = c.first_set-end.ensures in
     let are = next c in
     next-end c.args.text.now self.base (c.args.start - self.base) are.stop self.ends c.first_set-end.result c.without_first-self.result are.ends are.within
-    (λ i after less first. are.behind i (omega (arith, are.after)) less first)
     (omega (arith, c.if-self-eq0-2.false)) lowest.within lowest.lowest
     (c.without_first-self.ensures.cleared c.first_set-end.result lowest.within lowest.lowest)
 
@@ -45,7 +44,6 @@ returns-clause-found c =
         after = omega arith;
         stop = are.stop;
         within = are.within;
-        behind = λ i after less first. are.behind i (omega (arith, are.after, (end c).grows)) less first;
         ends = subst (λ n. AreEnds (drop self.base c.args.text.now) n are.stop c.without_first-self.result)
             (let e : last ≡ self.base + last - self.base = omega arith in e) (end c).rest;
       };
