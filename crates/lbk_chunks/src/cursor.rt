@@ -27,6 +27,13 @@ pub(crate) struct Filled {
     pub(crate) place: Place,
 }
 
+/// A block without breaks, to be copied: a new array of them is filled one by one.
+static NO_BREAKS: [RawBreak; 64] = [RawBreak {
+    at: 0,
+    kind: 0,
+    rule: 0,
+}; 64];
+
 /// Puts the first cuts from a place on into the front of a block: as many as there is room for, or all.
 pub(crate) fn fill_cuts(
     table: &FlatTable,
@@ -51,11 +58,7 @@ pub(crate) fn fill_cuts(
 {
     let mut here = Filled { count: 0, place };
     while here.count < room {
-        let mut breaks = [RawBreak {
-            at: 0,
-            kind: 0,
-            rule: 0,
-        }; 64];
+        let mut breaks = NO_BREAKS;
         let block = &mut breaks[..room - here.count];
         let next = next_breaks(table, text, here.place.breaks, block);
         if next.count == 0 {
@@ -128,7 +131,13 @@ fn add_cuts(
     let mut here = start;
     let mut k = 0;
     while k < count {
-        here = add_cut(text, breaks[k], here, words, out);
+        let next = add_cut(text, breaks[k], here, words, out);
+        // The state is that of the start, and stays out of the loop.
+        let place = Place {
+            breaks: start.place.breaks,
+            ..next.place
+        };
+        here = Filled { place, ..next };
         k += 1;
     }
     here

@@ -16,6 +16,14 @@ pub struct Cut {
     pub rule: u8,
 }
 
+/// A block without cuts, to be copied: a new array of them is filled one by one.
+pub(crate) static NO_CUTS: [Cut; 64] = [Cut {
+    at: 0,
+    words: 0,
+    kind: 0,
+    rule: 0,
+}; 64];
+
 /// How far the breaks and the words of a text were read. One of zeros stands at the start of a text.
 #[repr(C)]
 #[derive(Clone, Copy)]

@@ -7,7 +7,7 @@ ghost use Rattle.lbk_chunks.specs.declared.cut.Cut.{Cut};
 ghost use Rattle.lbk_chunks.specs.Coming.{AreCutsPast, AreRead, IsBlock, IsMark, IsSafe, breaks_left, no_cut};
 
 use crate::cursor::fill_cuts;
-use crate::cut::{Cut, Place};
+use crate::cut::{Cut, NO_CUTS, Place};
 use crate::word_block::WordBlock;
 use lbk_rules::FlatTable;
 
@@ -37,43 +37,45 @@ pub(crate) struct CutBlock {
 }
 
 impl CutBlock {
-    /// Reads the cuts from a place on.
+    /// No cuts, at a place.
+    pub(crate) fn none(mark: Mark) -> CutBlock {
+        CutBlock {
+            before: mark,
+            behind: mark,
+            room: 0,
+            count: 0,
+            cuts: NO_CUTS,
+        }
+    }
+
+    /// Reads the cuts from a place on, in place of those that it has.
     pub(crate) fn read(
+        &mut self,
         table: &FlatTable,
         text: &[u8],
         mark: Mark,
         room: usize,
         words: &mut WordBlock,
-    ) -> CutBlock
+    )
         requires room { (0 < room) × (room ≤ 64) }
         requires read { AreRead text.now words.old }
         ensures read { AreRead text.now words.new }
-        ensures safe { IsSafe text.now result }
-        ensures before { (result.before ≡ mark) × (result.room ≡ room) }
+        ensures safe { IsSafe text.now self.new }
+        ensures before { (self.new.before ≡ mark) × (self.new.room ≡ room) }
         ensures block { (cell : ℕ → Cell) (cuts : List Cut) → AreCutsPast 0 cuts
-            → IsMark cell table.now text.now cuts mark → IsBlock cell table.now text.now cuts result }
-        ensures shorter { (result.count ≡ 0)
-            ⊎ (breaks_left text.now result.behind.place.breaks < breaks_left text.now mark.place.breaks) }
-        ensures onward { breaks_left text.now result.behind.place.breaks ≤ breaks_left text.now mark.place.breaks }
+            → IsMark cell table.now text.now cuts mark → IsBlock cell table.now text.now cuts self.new }
+        ensures shorter { (self.new.count ≡ 0)
+            ⊎ (breaks_left text.now self.new.behind.place.breaks < breaks_left text.now mark.place.breaks) }
+        ensures onward { breaks_left text.now self.new.behind.place.breaks ≤ breaks_left text.now mark.place.breaks }
     {
-        let mut cuts = [Cut {
-            at: 0,
-            words: 0,
-            kind: 0,
-            rule: 0,
-        }; 64];
-        let filled = fill_cuts(table, text, mark.place, words, room, &mut cuts);
-        let behind = Mark {
+        let filled = fill_cuts(table, text, mark.place, words, room, &mut self.cuts);
+        self.before = mark;
+        self.room = room;
+        self.count = filled.count;
+        self.behind = Mark {
             place: filled.place,
-            at: last_or(&cuts, filled.count, mark.at),
+            at: last_or(&self.cuts, filled.count, mark.at),
         };
-        CutBlock {
-            before: mark,
-            behind,
-            room,
-            count: filled.count,
-            cuts,
-        }
     }
 
     /// Whether the first cut past a byte is one of them.

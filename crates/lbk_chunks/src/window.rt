@@ -1,6 +1,6 @@
 //! The cuts of a text around a place, so that few are read twice.
 
-ghost use Rattle.std.specs.Prelude.{◌≡◌, ◌⊎◌, ℕ, ◌<◌, ◌≤◌, [], ◌∷◌, List, IfSome, MatchOption, length};
+ghost use Rattle.std.specs.Prelude.{◌≡◌, ◌⊎◌, ℕ, ◌<◌, ◌≤◌, [], ◌∷◌, false, true, List, IfSome, MatchOption, length};
 ghost use Rattle.lbk_rules.specs.declared.Cell.{Cell};
 ghost use Rattle.lbk_chunks.specs.declared.cut.Cut.{Cut};
 ghost use Rattle.lbk_chunks.specs.Chunks.{cuts_past};
@@ -8,7 +8,7 @@ ghost use Rattle.lbk_chunks.specs.Coming.{AreKept, IsAhead, IsKept, IsMark, IsSt
 ghost use Rattle.lbk_chunks.specs.Cuts.{AreCutsPast};
 
 use crate::cursor::fill_cuts;
-use crate::cut::{Cut, Place};
+use crate::cut::{Cut, NO_CUTS, Place};
 use crate::cut_block::{BLOCK, CutBlock, Mark};
 use crate::word_block::WordBlock;
 use lbk_rules::FlatTable;
@@ -40,7 +40,8 @@ impl Window {
             → IsMark cell table.now text.now cuts home → AreKept cell table.now text.now cuts result }
     {
         let mut words = WordBlock::none();
-        let newer = CutBlock::read(table, text, home, FIRST, &mut words);
+        let mut newer = CutBlock::none(home);
+        newer.read(table, text, home, FIRST, &mut words);
         Window {
             home,
             older: newer,
@@ -72,7 +73,12 @@ impl Window {
             let k = self.older.first_past(at, 0);
             return Some(self.older.cuts[k]);
         }
-        self.read_past(table, text, at)
+        if !self.read_past(table, text, at) {
+            return None;
+        }
+        let k = self.newer.first_past(at, 0);
+        self.next = k + 1;
+        Some(self.newer.cuts[k])
     }
 
     /// Reads the cuts again from the place that is kept, if the newer are behind a byte.
@@ -87,7 +93,8 @@ impl Window {
         if self.newer.before.at <= at {
             return;
         }
-        self.newer = CutBlock::read(table, text, self.home, BLOCK, &mut self.words);
+        self.newer
+            .read(table, text, self.home, BLOCK, &mut self.words);
     }
 
     /// Reads the cuts behind the newer ones.
@@ -105,38 +112,33 @@ impl Window {
         ensures onward { breaks_left text.now self.new.newer.behind.place.breaks ≤ breaks_left text.now
             self.old.newer.behind.place.breaks }
     {
-        let older = self.newer;
-        let room = (older.room * 2).min(BLOCK);
-        self.newer = CutBlock::read(table, text, older.behind, room, &mut self.words);
-        self.older = older;
+        self.older = self.newer;
+        let behind = self.older.behind;
+        let room = (self.older.room * 2).min(BLOCK);
+        self.newer.read(table, text, behind, room, &mut self.words);
     }
 
-    /// The same where no block has it.
+    /// Reads cuts until the newer reach past a byte, and returns whether they do.
     #[inline(never)]
-    fn read_past(&mut self, table: &FlatTable, text: &[u8], at: usize) -> Option<Cut>
+    fn read_past(&mut self, table: &FlatTable, text: &[u8], at: usize) -> bool
         requires { IsKept text.now self.old }
         ensures kept { IsKept text.now self.new }
         ensures home { self.new.home ≡ self.old.home }
         ensures are { (cell : ℕ → Cell) (cuts : List Cut) → AreCutsPast 0 cuts
             → AreKept cell table.now text.now cuts self.old → AreKept cell table.now text.now cuts self.new }
-        ensures first { (cell : ℕ → Cell) (cuts : List Cut) → AreCutsPast 0 cuts
+        ensures reaches { result ≡ true → (self.new.newer.before.at ≤ at) × (at < self.new.newer.behind.at) }
+        ensures none { (cell : ℕ → Cell) (cuts : List Cut) → AreCutsPast 0 cuts
             → AreKept cell table.now text.now cuts self.old → self.old.home.at ≤ at
-            → MatchOption result (cuts_past at cuts ≡ []) (λ cut. cuts_past at cuts ≡ cut ∷ cuts_past cut.at cuts) }
-        ensures places { IfSome result (λ cut. (at < cut.at) × (cut.at ≤ length text.now)) }
+            → result ≡ false → cuts_past at cuts ≡ [] }
     {
         self.reread(table, text, at);
         while self.newer.behind.at <= at {
             if self.newer.count < self.newer.room {
-                return None;
+                return false;
             }
             self.read_on(table, text);
         }
-        if at < self.newer.before.at {
-            return None;
-        }
-        let k = self.newer.first_past(at, 0);
-        self.next = k + 1;
-        Some(self.newer.cuts[k])
+        self.newer.before.at <= at
     }
 
     /// Keeps a place of a cut at a byte or before it, as near as one is known.
@@ -162,12 +164,7 @@ impl Window {
             × (result.words ≡ words) }
     {
         let mut here = self.near(table, text, at);
-        let mut block = [Cut {
-            at: 0,
-            words: 0,
-            kind: 0,
-            rule: 0,
-        }; 64];
+        let mut block = NO_CUTS;
         while here.at < at {
             let filled = fill_cuts(table, text, here.place, &mut self.words, 1, &mut block);
             if filled.count == 0 {
@@ -190,12 +187,7 @@ impl Window {
             → AreKept cell table.now text.now cuts self.old → IsMark cell table.now text.now cuts result }
     {
         let many = self.many_up_to(at);
-        let mut cuts = [Cut {
-            at: 0,
-            words: 0,
-            kind: 0,
-            rule: 0,
-        }; 64];
+        let mut cuts = NO_CUTS;
         let filled = fill_cuts(
             table,
             text,

@@ -1,4 +1,4 @@
-use Rattle.std.proofs.Common.{◌++◌, ◌+◌, ◌≡◌, drop_of_length-le, [], drop, length, ap, subst, ◌∙◌, arith}
+use Rattle.std.proofs.Common.{◌++◌, ◌+◌, ◌≡◌, drop_of_length-le, [], drop, length, ap, refl, subst, ◌∙◌, arith}
 use Rattle.std.proofs.lemmas.List.{length-map, length-take-le}
 use Rattle.lbk_bytes.specs.Shown.{raw_of}
 use Rattle.lbk_chunks.specs.Coming.{AreAmong}
@@ -8,16 +8,17 @@ use Rattle.lbk_chunks.proofs.cursor.add_cuts.Goals as goal
 pub loop-k-preserved : goal.loop-k-preserved
 loop-k-preserved c =
     let i = c.loop-k.invariant in
-    let a = c.add_cut-here in
+    let a = c.add_cut-next in
     let text = c.args.text.now in
     record {
       few = omega (arith, c.loop-k-test.true);
       read = a.ensures.read;
       among = λ cuts found rest is were. (
           let s = shown-at c.loop-k.k c.args.count found c.args.breaks.now is c.loop-k-test.true c.requires.count in
-          a.ensures.among cuts s.break_at (drop (c.loop-k.k + 1) found ++ rest) s.shown
-          (subst (λ l. AreAmong text cuts (l ++ rest) c.loop-k.here c.loop-k.out) s.joined (i.among cuts found rest is were)));
-      same = a.ensures.same ∙ i.same;
+          subst (λ b. AreAmong text cuts (drop (c.loop-k.k + 1) found ++ rest) (record a.result { place = record a.result.place { breaks = b } }) a.new.out) (a.ensures.same ∙ i.same)
+          (a.ensures.among cuts s.break_at (drop (c.loop-k.k + 1) found ++ rest) s.shown
+          (subst (λ l. AreAmong text cuts (l ++ rest) c.loop-k.here c.loop-k.out) s.joined (i.among cuts found rest is were))));
+      same = refl;
       counts = (omega (arith, a.ensures.few.0, i.counts.0), omega (arith, a.ensures.few.1, i.counts.1));
       within = λ size below before. a.ensures.within size (below c.loop-k.k c.loop-k-test.true) (i.within size below before);
       counted = λ some full. a.ensures.counted (omega (arith, a.ensures.few.1, i.counts.1, full));

@@ -15,3 +15,19 @@ returns-then-reaches-2-clause-first c = λ cell cuts rising kept home.
     let block = c.args.self.now.older in
     let within = reach-le block.before.at block.behind.at c.args.at (sym c.reaches-2.ensures ∙ c.if-reaches-2.true) in
     block-first cell c.args.table.now c.args.text.now cuts rising block k.result c.args.at kept.older c.requires.older k.ensures.few within.0 k.ensures.past k.ensures.first
+
+pub returns-then-not-read_past-clause-first : goal.returns-then-not-read_past-clause-first
+returns-then-not-read_past-clause-first c = λ cell cuts rising kept home. c.read_past.ensures.none cell cuts rising kept home c.if-not-read_past.true
+
+pub returns-clause-first : goal.returns-clause-first
+returns-clause-first c = λ cell cuts rising kept home.
+    let k = c.first_past-k-2 in
+    let read = c.read_past.ensures in
+    let within = read.reaches c.if-not-read_past.false in
+    block-first cell c.args.table.now c.args.text.now cuts rising c.read_past.new.self.newer k.result c.args.at (read.are cell cuts rising kept).newer read.kept.newer
+    k.ensures.few within.0 k.ensures.past k.ensures.first
+
+pub returns-clause-are : goal.returns-clause-are
+returns-clause-are c = λ cell cuts rising kept.
+    let are = c.read_past.ensures.are cell cuts rising kept in
+    record { older = are.older; newer = are.newer; home = are.home }

@@ -1,6 +1,7 @@
-use Rattle.std.proofs.Common.{arith, ap, ◌∙◌}
+use Rattle.std.proofs.Common.{◌≤◌, ◌<◌, arith, ap, ◌∙◌}
+use Rattle.std.proofs.lemmas.Bool.Decides.{nat_tests}
 use Rattle.lbk_chunks.specs.declared.cut_block.Mark.{Mark}
-use Rattle.lbk_chunks.proofs.BlockLemmas.{block-first, block-none}
+use Rattle.lbk_chunks.proofs.BlockLemmas.{block-none}
 use Rattle.lbk_chunks.proofs.window.Window.read_past.Goals as goal
 
 pub loop-self-init : goal.loop-self-init
@@ -19,20 +20,20 @@ loop-self-preserved c =
       before = λ _. (let same = ap (λ (m : Mark). m.at) r.before in omega (arith, same, c.loop-self-test.true));
     }
 
-pub returns-then-self-clause-first : goal.returns-then-self-clause-first
-returns-then-self-clause-first c = λ cell cuts rising kept home.
+pub returns-then-self-clause-none : goal.returns-then-self-clause-none
+returns-then-self-clause-none c = λ cell cuts rising kept home no.
     let i = c.loop-self.invariant in
     let are = i.are cell cuts rising kept in
     block-none cell c.args.table.now c.args.text.now cuts rising c.loop-self.self.newer c.args.at are.newer i.kept.newer c.if-self.true c.loop-self-test.true
 
-pub returns-clause-are : goal.returns-clause-are
-returns-clause-are c = λ cell cuts rising kept.
-    let are = c.loop-self.invariant.are cell cuts rising kept in
-    record { older = are.older; newer = are.newer; home = are.home }
+pub returns-clause-reaches : goal.returns-clause-reaches
+returns-clause-reaches c = λ yes.
+    let self = c.loop-self.self in
+    let early : self.newer.before.at ≤ c.args.at = grind (arith, nat_tests) in
+    (early, c.loop-self-test.false)
 
-pub returns-clause-first : goal.returns-clause-first
-returns-clause-first c = λ cell cuts rising kept home.
-    let i = c.loop-self.invariant in
-    let are = i.are cell cuts rising kept in
-    let k = c.first_past-k in
-    block-first cell c.args.table.now c.args.text.now cuts rising c.loop-self.self.newer k.result c.args.at are.newer i.kept.newer k.ensures.few (i.before home) k.ensures.past k.ensures.first
+pub returns-clause-none : goal.returns-clause-none
+returns-clause-none c = λ cell cuts rising kept home no.
+    let self = c.loop-self.self in
+    let late : c.args.at < self.newer.before.at = grind (arith, nat_tests) in
+    absurd (let none : ⊥ = omega (arith, late, c.loop-self.invariant.before home) in none)
