@@ -42,6 +42,13 @@ SUBCOMMANDS = [
     ("letters of two bytes", "segment", "show", 0.4),
     ("letters of three bytes", "mark", "show", 0.5),
     ("letters of three bytes", "segment", "show", 0.3),
+    # 1.2, 1.6 and 0.8 are measured, and 1.1, 1.2 and 0.7 with texts.
+    ("the pages", "chunk --most 500", "show", 0.5),
+    ("letters of two bytes", "chunk --most 500", "show", 0.6),
+    ("letters of three bytes", "chunk --most 500", "show", 0.3),
+    ("the pages", "chunk --most 500 --text", "show", 0.4),
+    ("letters of two bytes", "chunk --most 500 --text", "show", 0.4),
+    ("letters of three bytes", "chunk --most 500 --text", "show", 0.3),
     # Without the loop over bytes that end no line, 2 to 4 were left where `mark` took 2.4 times as long as now.
     ("the pages", PASS_OVER, "mark", 2.5),
     ("letters of two bytes", PASS_OVER, "mark", 1.8),

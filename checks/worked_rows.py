@@ -47,7 +47,7 @@ ROWS = [
     ("chunk", "--most 4", "ab cd", "C 0 3 1 May 18\nC 3 5 1 Must 3\n", "", 0),
     ("chunk", "--most 4 --words 1 --least 2 --overlap 2 --profile 2 --limit 5", "ab\ncd", "C 0 3 1 Must 5\nC 3 5 1 Must 3\n", "", 0),
     ("chunk", "--most 4", "", "", "", 0),
-    ("chunk", "--most 4 --text", "a\\\"\r\nä", '{"start":0,"end":5,"words":1,"text":"a\\\\\\"\\r\\n"}\n{"start":5,"end":7,"words":1,"text":"ä"}\n', "", 0),
+    ("chunk", "--most 4 --text", "a\\\"\r\nä", '{"start":0,"end":5,"words":1,"text":"a\\\\\\"\\r\\n"}\n{"start":5,"end":7,"words":0,"text":"ä"}\n', "", 0),
     ("chunk", "--most 4 --text --profile 2", "", "", "", 0),
     ("chunk", "--most 1 --limit 4", "a\nbcdef", "", too_long(2, 4), 1),
     ("chunk", "--most 2 --limit 4", "a b\nbcdef", "C 0 2 1 May 18\n", too_long(4, 4), 1),

@@ -48,6 +48,8 @@ PROGRAM = [
     ("lbk mark, no files", b"a", ["mark"]),
     ("lbk segment", TEXT.encode(), ["segment", *FILES]),
     ("lbk segment --limit 4", TEXT.encode(), ["segment", *FILES, "--limit", "4"]),
+    ("lbk chunk", TEXT.encode(), ["chunk", *FILES, "--most", "20", "--overlap", "8"]),
+    ("lbk chunk --text", TEXT.encode(), ["chunk", *FILES, "--most", "20", "--overlap", "8", "--text"]),
     ("lbk replay", TESTS.encode(), ["replay", *FILES]),
     ("lbk replay --kinds", "× 0061 × 0062 !\n".encode(), ["replay", *FILES, "--kinds"]),
     ("lbk --help", b"", ["--help"]),
