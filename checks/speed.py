@@ -42,7 +42,7 @@ SUBCOMMANDS = [
     ("letters of two bytes", "segment", "show", 0.4),
     ("letters of three bytes", "mark", "show", 0.5),
     ("letters of three bytes", "segment", "show", 0.3),
-    # 1.2, 1.6 and 0.8 are measured, and 1.1, 1.2 and 0.7 with texts.
+    # 1.4, 1.4 and 0.8 are measured, and 1.1, 1.1 and 0.6 with texts.
     ("the pages", "chunk --most 500", "show", 0.5),
     ("letters of two bytes", "chunk --most 500", "show", 0.6),
     ("letters of three bytes", "chunk --most 500", "show", 0.3),
