@@ -244,7 +244,8 @@ static void try_utf16(const uint16_t *units, size_t size, size_t room)
 {
     static scalars read;
     read_utf16(&read, units, size);
-    try_cuts((uint8_t)below(2), units, size);
+    if (below(10) == 0)
+        try_cuts((uint8_t)below(2), units, size);
     for (uint8_t profile = 0; profile < 4; profile++) {
         if (profile >= LBK_GOES_ON)
             try_going_on(profile, &read);

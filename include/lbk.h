@@ -563,7 +563,11 @@ size_t lbk_cut(const lbk_table *table, const char *text, size_t size, size_t at)
 size_t lbk_cut_before(const lbk_table *table, const char *text, size_t size, size_t at);
 
 /* As lbk_cut and lbk_cut_before, for UTF-16 as lbk_breaks_utf16 reads it: `size`, `at` and the result count units. No
- * part begins inside a surrogate pair, with a corrupt table, too. */
+ * part begins inside a surrogate pair, with a corrupt table, too.
+ *
+ * UTF-16 that arrives in pieces has no call as lbk_feed. Keep the units that arrived, break those before
+ * lbk_cut_before_utf16 of the last one with LBK_GOES_ON, and move the others to the front: so many are kept as the
+ * longest paragraph has. */
 size_t lbk_cut_utf16(const lbk_table *table, const uint16_t *text, size_t size, size_t at);
 size_t lbk_cut_before_utf16(const lbk_table *table, const uint16_t *text, size_t size, size_t at);
 

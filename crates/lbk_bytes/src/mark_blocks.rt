@@ -17,7 +17,7 @@ use crate::fill_state::FillState;
 use crate::mark_runs::{NO_BREAK, mark_left};
 use crate::marks::mark_bits;
 use crate::raw_break::RawBreak;
-use crate::tries::are_short;
+use crate::tries::are_long;
 use lbk_masks::kept_from;
 use lbk_rules::{Neighbours, Rows};
 
@@ -25,8 +25,8 @@ use lbk_rules::{Neighbours, Rows};
 const ROOM: usize = 8;
 
 /// Takes blocks of bytes, as many as come one after the other, up to a scalar that no step takes, or from which on
-/// fewer than 64 bytes are left, or many of them to steps. Where scalars of three bytes or more begin a text, it takes
-/// none.
+/// fewer than 64 bytes are left, or many of them to steps. Where the next bytes are of scalars of three
+/// bytes or more, it takes none.
 #[inline(never)]
 pub(crate) fn mark_blocks(
     pairs: &Neighbours,
@@ -47,7 +47,7 @@ pub(crate) fn mark_blocks(
         → Marked profile cell (text.now ++ more) all from (length text.now) start words.old
         → Marked profile cell (text.now ++ more) all from (length text.now) result words.new }
 {
-    if text.len() - start.at < BLOCK || !are_short(&text[start.at..]) {
+    if text.len() - start.at < BLOCK || are_long(&text[start.at..]) {
         return start;
     }
     let mut block = [NO_BREAK; ROOM];

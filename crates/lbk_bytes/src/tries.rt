@@ -26,6 +26,14 @@ pub(crate) fn are_short(text: &[u8]) -> bool
     long_scalars(text) < 2
 }
 
+/// Whether a text begins with scalars of three bytes or more, which fill its first sixteen.
+#[inline(always)]
+pub(crate) fn are_long(text: &[u8]) -> bool
+    requires { 16 ≤ length text.now }
+{
+    3 < long_scalars(text)
+}
+
 /// Up to where scalars are taken one by one, before blocks are tried again; without masks that is the text's end.
 #[inline(always)]
 pub(crate) fn next_try<const MASKS: bool>(at: usize, text: &[u8]) -> usize
