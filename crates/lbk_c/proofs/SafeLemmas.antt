@@ -17,7 +17,8 @@ use Rattle.lbk_rules.proofs.NormalLemmas.{between-normal}
 use Rattle.lbk_rules.proofs.RowMachineLemmas.{normals-back}
 use Rattle.lbk_rules.proofs.AlikeLemmas.{facts-alike, from_cells-alike}
 use Rattle.lbk_bytes.specs.declared.raw_break.RawBreak.{RawBreak}
-use Rattle.lbk_bytes.specs.Bytes.{breaks_of_bytes, breaks_of_part, with_break}
+use Rattle.lbk_bytes.specs.Bytes.{breaks_of_bytes, with_break}
+use Rattle.lbk_units.specs.Units.{breaks_of_part_of}
 use Rattle.lbk_bytes.specs.Order.{no_break}
 use Rattle.lbk_bytes.specs.Shown.{given_in, shown}
 use Rattle.lbk_bytes.proofs.BlockLemmas.{order}
@@ -104,7 +105,7 @@ pub safe-start : (rules : Profile) (cell : ℕ → Cell) (text : List ℕ) (cut 
 safe-start rules cell text zero within before joins = ([], sym (moved-none (breaks_of_bytes rules cell text)))
 safe-start rules cell text (suc n) within before joins =
     let joined = joins (omega arith) (before (omega (arith, within))) in
-    (breaks_of_part true rules cell (take (suc n) text), joined.breaks)
+    (breaks_of_part_of true rules cell (pieces (take (suc n) text)), joined.breaks)
 
 -- what comes from the start of a part that goes up to the end of the text
 pub fresh : (rules : Profile) (cell : ℕ → Cell) (table : FlatTable) (text : List ℕ) (at number : ℕ) → IsFlatOf table cell → number ≡ profile_number rules → at ≤ length text
