@@ -23,7 +23,7 @@ ADVICE = (
 )
 # The sentences on a file that is not the published one: the program and lbk_claim_text have those of this definition, and of the
 # languages JavaScript alone, whose module has no such call, has them again.
-CLAIMS = "crates/lbk_database/specs/ClaimTexts.antt"
+CLAIMS = "crates/lbk_ucd/specs/ClaimTexts.antt"
 CLAIM_SOURCES = {
     "Python": ["packages/python/src/calls/calls.c", "packages/python/src/lbk"],
     "Rust": ["packages/rust/src"],
