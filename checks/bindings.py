@@ -52,7 +52,7 @@ JOINTS = [
 
 def listed(page):
     """The folders of the page, in their order."""
-    section = re.search(r"^## A table without a name\n(.*?)^## ", page, re.S | re.M)[1]
+    section = re.search(r"^## Finding the property files\n(.*?)^## ", page, re.S | re.M)[1]
     return re.findall(r"`([/~$][^`]*/unicode[^`]*)`", section)
 
 

@@ -25,8 +25,8 @@
  *
  * Everything else is memory-safe: any bytes in the files, the text, the table, the state and the stream. Each call
  * then returns, and reads and writes only what it was given. A corrupt table, state or stream gives wrong breaks,
- * nothing worse: the rules are in the library and not in the table, so each break of lbk_breaks is by the rule that
- * they give before a character of its class, after some text.
+ * nothing worse. The rules are in the library and not in the table, so each break of lbk_breaks is still one that a
+ * rule gives before a character of its class, after some text.
  *
  * Memory. The caller owns all memory. The library keeps no pointers, and there is nothing to free. Only lbk_read and
  * lbk_read_published allocate, and they free what they allocated before they return.
@@ -164,9 +164,9 @@ typedef struct lbk_neighbours {
  *
  * Callers read only `layout`. The other fields differ between layouts.
  *
- * Any bytes in `kinds` are the classes of some characters, so the calls give the breaks of a text with these. Corrupt
- * `pairs` may hide breaks from lbk_breaks and lbk_marks, make lbk_breaks take a break for one after other text, and
- * make lbk_marks set the bits of other offsets. Time grows no faster than a text in any case (measured). */
+ * Any bytes in `kinds` are the classes of some characters, so the calls return the breaks of a text of these. Corrupt
+ * `pairs` may hide breaks from lbk_breaks and lbk_marks, make lbk_breaks decide as if other text came before, and make
+ * lbk_marks set the bits of other offsets. The time stays linear in the size of the text in any case (measured). */
 typedef struct lbk_table {
     uint64_t layout; /* LBK_LAYOUT in a table that lbk_read filled */
     uint64_t digest; /* of all that follows, for lbk_check */
@@ -177,11 +177,11 @@ typedef struct lbk_table {
 /* How far lbk_breaks went in a text. All zeros mean the start of a text in the first profile. Set `profile` for the
  * second one, and `at` for a part that begins at that byte.
  *
- * A state is a value: copy it, keep it, go back to it. It fits the text that it was used with, and any text that has
- * the same bytes from `at` on and as many bytes before them, whatever those are. */
+ * A state is a value: copy it, keep it, go back to it. Use it with the text that it was used with, or with any text
+ * that has the same bytes from `at` on, and as many bytes before them, whatever those are. */
 typedef struct lbk_state {
     size_t at;       /* the offset of the first byte that was not taken */
-    uint16_t row;    /* what is known of the bytes before it: a number of the library's own */
+    uint16_t row;    /* internal: what is known of the bytes before it */
     uint8_t profile; /* LBK_FIRST or LBK_SECOND, perhaps with LBK_GOES_ON; no call changes it */
     uint8_t ended;   /* not 0 once the end was returned; lbk_breaks then returns 0 */
 } lbk_state;
@@ -191,11 +191,11 @@ typedef struct lbk_state {
  *
  * A stream is a value: copy it, keep it, go back to it. It has no pointers, and no earlier piece is needed again.
  * Callers write `profile` at the start. They may read `at`, `ended`, `cut_size`, whether `held_code` is 0, and
- * `held_at` if it is not. The other fields are numbers of the library's own. */
+ * `held_at` if it is not. The other fields are internal. */
 typedef struct lbk_stream {
     uint64_t at;        /* the offset of the first byte that was not taken */
     uint64_t held_at;   /* the offset that waits for what follows, if one does; only in the second profile */
-    uint16_t row;       /* what is known of the bytes before `at`: a number of the library's own */
+    uint16_t row;       /* internal: what is known of the bytes before `at` */
     uint16_t held_code; /* the break at held_at if what follows leaves the quotation open; 0: no offset waits */
     uint8_t cut[4];     /* the bytes after `at` that arrived already: the start of a character that a piece's end cut */
     uint8_t cut_size;   /* how many bytes that is */
@@ -231,15 +231,15 @@ typedef struct lbk_segment {
 } lbk_segment;
 
 /* How far lbk_segments went in a text. All zeros mean the start of a text in the first profile. Set `breaks.profile`
- * for the second one, and `breaks.at` and `start` for a part that begins at that byte. It is a value, as lbk_state is,
- * and fits the same texts. */
+ * for the second one, and `breaks.at` and `start` for a part that begins at that byte. It is a value like lbk_state,
+ * and can be used with the same texts. */
 typedef struct lbk_segment_state {
     lbk_state breaks; /* how far lbk_breaks went */
     size_t start;     /* where the next segment starts */
 } lbk_segment_state;
 
-/* How far lbk_words went in a text. All zeros mean the start of a text. It is a value, as lbk_state is, and fits any
- * text with the same bytes. `at` may also be set to any offset: the text from there on is then a text of its own. */
+/* How far lbk_words went in a text. All zeros mean the start of a text. It is a value like lbk_state; use it with any
+ * text with the same bytes. `at` may also be set to any offset: the text from there on then counts as a whole text. */
 typedef struct lbk_word_state {
     size_t at; /* the offset at which the next words are looked for */
 } lbk_word_state;
@@ -254,13 +254,13 @@ typedef struct lbk_word {
 typedef struct lbk_limits {
     size_t most;    /* the greatest number of bytes */
     size_t words;   /* the greatest number of words; 0: no limit */
-    size_t least;   /* a chunk may end early, at a required break, once so many of its bytes are in no earlier chunk */
+    size_t least;   /* a chunk may end early, at a required break, once this many of its bytes are in no earlier one */
     size_t overlap; /* how many bytes of a chunk the next one may repeat, and never more than half of it */
 } lbk_limits;
 
 /* How far lbk_chunks went in a text. All zeros mean the start of a text in the first profile; set `breaks.profile` for
- * the second one. It is a value, as lbk_state is, and fits any text with the same bytes. Callers may read `start` and
- * `told`; the other fields are numbers of the library's own. */
+ * the second one. It is a value like lbk_state; use it with any text with the same bytes. Callers may read `start` and
+ * `told`; the other fields are internal. */
 typedef struct lbk_chunk_state {
     lbk_state breaks; /* after the last cut that was read */
     size_t from;      /* the offset from which words were not read */
@@ -311,17 +311,17 @@ lbk_fault lbk_read_published(lbk_table *table, const void *line_break, size_t li
                              const void *east_asian, size_t east_asian_size, const void *category,
                              size_t category_size, const void *emoji, size_t emoji_size);
 
-/* Returns whether a file was cut: its first line claims a name that Unicode published, as `# LineBreak-15.0.0.txt`, and
- * its last line, without white space at the end, is not `# EOF`. lbk_read takes such a file: the code points that were
- * cut off then have the property's default value. Allocates nothing. */
+/* Returns whether a file is truncated: its first line claims a name that Unicode published, for example
+ * `# LineBreak-15.0.0.txt`, and its last line, without trailing white space, is not `# EOF`. lbk_read accepts such a
+ * file: the missing code points then have the property's default value. Allocates nothing. */
 bool lbk_is_cut(const void *file, size_t size);
 
-/* Returns what a file is that Unicode 15.0.0 did not publish, in English: of which version it is, as in "this is of
- * Unicode 14.0.0, and lbk goes by 15.0.0", that it was changed or cut, or that it is another file. `file` is the number
- * of the file that it had to be (lbk_fault.file); the text is empty for any other number. Allocates nothing. */
+/* Describes, in English, a file that Unicode 15.0.0 did not publish: its version ("this is of Unicode 14.0.0, and lbk
+ * goes by 15.0.0"), that it was changed or cut, or that it is another file. `file` is the number of the file that was
+ * expected (lbk_fault.file); the text is empty for any other number. Allocates nothing. */
 lbk_text lbk_claim_text(uint32_t file, const void *contents, size_t size);
 
-/* Returns where the published files are, in English, to follow such a text after a semicolon. */
+/* Returns where to get the published files, in English. It can follow such a text after a semicolon. */
 lbk_text lbk_remedy_text(void);
 
 /* Returns what a cause (lbk_fault.cause) means, in English; an empty text for any other number. */
@@ -340,9 +340,9 @@ lbk_text lbk_file_name(uint32_t file);
  *
  *   - Ill-formed bytes are replaced by U+FFFD, as Python's errors="replace" and Rust's from_utf8_lossy do it
  *     (Unicode Standard, section 3.9, "U+FFFD Substitution of Maximal Subparts"). Offsets count the bytes of `text`.
- *   - With LBK_GOES_ON the end of `text` is no end of a text. It is a break only if a line must end there whatever
- *     follows (LBK_MUST by rule 4 or 5); a CR at the end is none, since LF may follow. So the breaks of the parts
- *     that lbk_cut finds are those of the text.
+ *   - With LBK_GOES_ON the text goes on after the end of `text`. That end is a break only if a line must end there
+ *     whatever follows (LBK_MUST by rule 4 or 5); after a CR it is none, since LF may follow. So the breaks of the
+ *     parts that lbk_cut finds are those of the text.
  *   - Returns 0 and leaves the state unchanged if `room` is 0, if the profile is unknown, if the state's `at`
  *     exceeds `size`, and after the end.
  *   - With a corrupt table or state, each break is still LBK_MAY or LBK_MUST by one of the rules, offsets still rise
@@ -366,8 +366,8 @@ size_t lbk_breaks(const lbk_table *table, lbk_state *state, const char *text, si
  * text. A segment contains the spaces and the line end before its break.
  *
  *   - Ill-formed bytes, LBK_GOES_ON and the cases that return 0 are as for lbk_breaks.
- *   - With a corrupt table, `start` still is at most `end`, and `end` at most `size`; so it is with a corrupt state
- *     whose `start` is at most `breaks.at`, and this at most `size`.
+ *   - With a corrupt table, `start` <= `end` <= `size` still holds. It also holds with a corrupt state, provided that
+ *     its `start` <= `breaks.at` <= `size`.
  *   - Entries of the block after the returned count are unspecified. Allocates nothing. */
 size_t lbk_segments(const lbk_table *table, lbk_segment_state *state, const char *text, size_t size,
                     lbk_segment *block, size_t room);
@@ -375,12 +375,12 @@ size_t lbk_segments(const lbk_table *table, lbk_segment_state *state, const char
 /* As lbk_breaks, for UTF-16 and UTF-32 in the machine's byte order. `size` and all offsets count units of 16 or 32
  * bits.
  *
- * A text has the same breaks by the same rules in all three encodings. A lone surrogate, or a number that is no scalar
- * value, is read as U+FFFD (Unicode Standard, section 3.9, D90 and D91). No break is inside a surrogate pair. Do not
- * use a state with another encoding than the one it began with.
+ * A text has the same breaks by the same rules in all three encodings. A lone surrogate, or a number that is not a
+ * scalar value, is read as U+FFFD (Unicode Standard, section 3.9, D90 and D91). No break is inside a surrogate pair.
+ * Use a state only with the encoding that it began with.
  *
- * With LBK_GOES_ON the end of `text` is no end of a text, as for lbk_breaks: in UTF-16, the breaks of the parts that
- * lbk_cut_utf16 finds are those of the text. */
+ * With LBK_GOES_ON the end of `text` is not the end of the text, as for lbk_breaks: in UTF-16, the breaks of the parts
+ * that lbk_cut_utf16 finds are those of the text. */
 size_t lbk_breaks_utf16(const lbk_table *table, lbk_state *state, const uint16_t *text, size_t size,
                         lbk_break *block, size_t room);
 size_t lbk_breaks_utf32(const lbk_table *table, lbk_state *state, const uint32_t *text, size_t size,
@@ -430,7 +430,7 @@ lbk_fed lbk_feed(const lbk_table *table, lbk_stream *stream, const char *piece, 
  * may or must end, clears all other bits of `count` words, and returns how many offsets the words cover.
  *
  * Bit i % 64 of word i / 64 (bit 0 is the lowest) is for offset `at` + i, where `at` is the state's before the call.
- * The end of the text has a bit, too, for offset `size`.
+ * The end of the text, offset `size`, has a bit, too.
  *
  *     lbk_state state = {0};
  *     uint64_t words[64];
@@ -553,7 +553,7 @@ size_t lbk_chunks(const lbk_table *table, const lbk_limits *limits, lbk_chunk_st
  *   - No part begins between CR and LF, inside a character, or inside ill-formed bytes that are read as one U+FFFD.
  *     The last two hold with a corrupt table, too.
  *   - With a table of property files the result depends only on the bytes from four before `at` to four after the
- *     cut: some bytes of a text that have these, or all that are there, are cut where the text is.
+ *     cut. So an excerpt of the text that has these bytes, or as many as the text has, is cut where the text is.
  *   - Its time does not grow with the size of the text (measured). Allocates nothing. */
 size_t lbk_cut(const lbk_table *table, const char *text, size_t size, size_t at);
 
@@ -574,8 +574,8 @@ size_t lbk_cut_before_utf16(const lbk_table *table, const uint16_t *text, size_t
 /* Returns an offset before the end of the text: after it, the breaks of the text are those of the text that begins
  * there. `profile` is LBK_FIRST or LBK_SECOND.
  *
- * It is the last break from which lbk_breaks with a new state returns the same next break and comes to the same state,
- * or the last cut of lbk_cut_before if there is none. It is 0 for an empty text. It reads the last paragraph twice.
+ * It is the last break from which lbk_breaks with a new state returns the same next break and reaches the same state.
+ * If there is none, it is the last cut of lbk_cut_before; for an empty text it is 0. It reads the last paragraph twice.
  * Allocates nothing. */
 size_t lbk_safe_break(const lbk_table *table, uint8_t profile, const char *text, size_t size);
 
@@ -595,13 +595,13 @@ lbk_text lbk_version(void);
 /* Returns whether a table is intact: its layout is LBK_LAYOUT, and its digest (FNV-1a, 64 bits) is that of its other
  * bytes. It is true for every table that lbk_read of this version filled, and for every copy of one.
  *
- * A change of one number is always found. Several accidental changes go unnoticed with a probability of about 1 in
- * 2^64. It is no protection against deliberate changes. A corrupt table is safe to use, but gives wrong breaks. */
+ * It always detects a change of one number. Several accidental changes go unnoticed with a probability of about 1 in
+ * 2^64. It does not protect against deliberate changes. A corrupt table is safe to use, but gives wrong breaks. */
 bool lbk_check(const lbk_table *table);
 
 /* Writes a table in a packed form of a few kilobytes to the front of `bytes`, for example to ship it with a program,
- * and returns how many bytes that form has, at most 12 + 2 * LBK_CODES. If they are more than `room`, and for a corrupt
- * table (0), nothing is written.
+ * and returns the size of that form in bytes, at most 12 + 2 * LBK_CODES. If it exceeds `room`, nothing is written. For
+ * a corrupt table the call returns 0 and writes nothing.
  *
  * The form is the same on every machine: `lbk` and LBK_LAYOUT as a byte, FNV-1a of what follows (8 bytes, the low one
  * first), and for each run of code points of one kind the kind and how many code points follow the first of them.
@@ -613,7 +613,7 @@ size_t lbk_pack(const lbk_table *table, void *bytes, size_t room);
  *
  *   - LBK_CAUSE_NOT_PACKED and LBK_CAUSE_OTHER_LAYOUT leave the table unchanged.
  *   - LBK_CAUSE_DAMAGED leaves a table that lbk_check calls corrupt.
- *   - Kinds that no lbk_read made, packed on purpose, give wrong breaks, nothing worse. Allocates nothing. */
+ *   - Kinds that did not come from lbk_read, packed on purpose, give wrong breaks, nothing worse. Allocates nothing. */
 uint32_t lbk_unpack(lbk_table *table, const void *bytes, size_t size);
 
 #if defined(__cplusplus)
