@@ -1,12 +1,12 @@
-// lbk.hpp: the breaks of a text as a range. C++17 and later, with exceptions or without (the calls named try_..); lbk.h says
-// what the library does and what a caller owes.
+// lbk.hpp: the breaks of a text as a range. C++17 and later, with exceptions or without (the calls named try_..); lbk.h
+// says what the library does, and lists the preconditions.
 //
 //     lbk::table table = lbk::table::load("/usr/share/unicode");
 //     for (lbk_break found : lbk::breaks(table, text))
 //         .. found.at, found.kind, found.rule ..
 //
-// A range refers to its table and its text, as a std::string_view does, and copies neither: both have to outlive it. So a
-// table or a std::string that is a temporary is refused at compile time.
+// A range refers to its table and its text, as a std::string_view does, and copies neither: both have to outlive it. So
+// a temporary table or std::string does not compile.
 #ifndef LBK_HPP
 #define LBK_HPP
 
@@ -45,26 +45,26 @@
 
 namespace lbk {
 
-/// Which rules decide at quotation marks.
+/// The rules for quotation marks.
 enum class profile : std::uint8_t { first = LBK_FIRST, second = LBK_SECOND };
 
 /// What follows the given text: nothing, or more of a longer text.
 enum class follows : std::uint8_t { nothing = 0, more = LBK_GOES_ON };
 
-/// Why there is no table. It converts to false where nothing is wrong.
+/// Why there is no table. It converts to false if there is no error.
 struct error {
     enum class reason : std::uint8_t {
         none,
-        refused,      ///< the four files have a fault, and `fault` is the first
-        unreadable,   ///< a file cannot be read: `fault.file` names it, 0 for a saved table, and `system` is the errno
-        not_a_table,  ///< the bytes are no whole table of this version
-        out_of_memory ///< memory was refused
+        refused,      ///< the four files have a fault; `fault` is the first one
+        unreadable,   ///< a file cannot be read: `fault.file` is its number, 0 for a saved table, and `system` the errno
+        not_a_table,  ///< the bytes are not an intact table of this version
+        out_of_memory ///< an allocation failed
     };
 
     reason why = reason::none;
     int system = 0;
     lbk_fault fault = {LBK_NO_FILE, 0, LBK_CAUSE_NONE};
-    /// What a file is that is not the published one, as "this is of Unicode 14.0.0, and lbk goes by 15.0.0"; else empty.
+    /// What a file is that is not the published one: "this is of Unicode 14.0.0, and lbk goes by 15.0.0"; else empty.
     lbk_text claim = {};
 
     explicit operator bool() const noexcept { return why != reason::none; }
@@ -93,10 +93,10 @@ struct error {
     }
 };
 
-/// There is no table, and the error says why.
+/// Thrown if there is no table; the error says why.
 class table_error : public std::runtime_error {
 public:
-    /// `before` is put before the error's message, for example a folder's name, and `after` after it.
+    /// The text is `before` (for example a folder's name), the error's message, and `after`.
     explicit table_error(const lbk::error &why, const std::string &before = {}, const std::string &after = {})
         : std::runtime_error(before + why.message() + after), why_(why)
     {
@@ -110,7 +110,7 @@ private:
 
 namespace detail {
 
-/// The path FOLDER/BELOW NAME; empty where it is too long.
+/// The path FOLDER/BELOW NAME; empty if it is too long.
 struct file_path {
     char text[4096];
 
@@ -127,7 +127,7 @@ struct file_path {
 /// The bytes of a file.
 class file_bytes {
 public:
-    /// Reads a file whole. Returns 0, or the errno of what failed.
+    /// Reads a whole file. Returns 0, or the errno of what failed.
     int read(const file_path &path) noexcept
     {
         if (path.text[0] == 0)
@@ -168,8 +168,8 @@ private:
     }
 };
 
-/// Where the files are looked for: in the folder that UNICODE_DATA names, or else in those of the system (Debian's and Fedora's) and of
-/// the user.
+/// The folders to look for the files in: the one that UNICODE_DATA names, or else those of the system (Debian's and
+/// Fedora's) and of the user.
 inline std::vector<std::string> folders()
 {
     auto variable = [](const char *name) {
@@ -188,8 +188,8 @@ inline std::vector<std::string> folders()
 
 } // namespace detail
 
-/// The table that these bytes are, which is not copied; null where they are no whole table of this version, or are not aligned as
-/// one. For a table within the program, or within other memory.
+/// Returns these bytes as a table, without a copy; null if they are not an intact table of this version, or not aligned
+/// as one. Use it for a table inside the program, or in other memory.
 inline const lbk_table *table_in(std::string_view bytes) noexcept
 {
     if (bytes.size() != sizeof(lbk_table) || reinterpret_cast<std::uintptr_t>(bytes.data()) % alignof(lbk_table) != 0)
@@ -198,12 +198,13 @@ inline const lbk_table *table_in(std::string_view bytes) noexcept
     return lbk_check(made) ? made : nullptr;
 }
 
-/// A table on the heap or in a mapped file. It can be moved and not copied; const calls may come from any number of threads.
-/// Each way to make one has a form that throws std::bad_alloc or table_error, and a form try_.. that gives no value and an error.
+/// A table on the heap or in a mapped file. It can be moved, not copied; any number of threads may call its const
+/// functions. Each way to make one throws std::bad_alloc or table_error; its form try_.. returns no value and sets an
+/// error instead.
 class table {
 public:
-    /// From the bytes of four files of any origin. Where it is strict a file that was cut is refused (LBK_CAUSE_CUT): its
-    /// first line claims a name that Unicode published, as `# LineBreak-15.0.0.txt`, and its last is not `# EOF`.
+    /// Makes a table of the bytes of any four files. If `is_strict`, it refuses a truncated file (LBK_CAUSE_CUT): its
+    /// first line claims a name that Unicode published, such as `# LineBreak-15.0.0.txt`, and its last is not `# EOF`.
     static std::optional<table> try_read(std::string_view line_break, std::string_view east_asian, std::string_view category,
                                          std::string_view emoji, error &why, bool is_strict = true) noexcept
     {
@@ -214,10 +215,10 @@ public:
         return read_by(lbk_read, line_break, east_asian, category, emoji, why);
     }
 
-    /// From a folder of the Unicode Character Database, as "/usr/share/unicode": its LineBreak.txt, EastAsianWidth.txt,
-    /// extracted/DerivedGeneralCategory.txt and emoji/emoji-data.txt; the last two may also lie in the folder itself, and all four
-    /// in its folder ucd. (An archive UCD.zip has to be unpacked first.) They have to be those that Unicode published for
-    /// LBK_UNICODE_VERSION.
+    /// Makes a table of a folder of the Unicode Character Database, such as "/usr/share/unicode": of its LineBreak.txt,
+    /// EastAsianWidth.txt, extracted/DerivedGeneralCategory.txt and emoji/emoji-data.txt. The last two may also be in
+    /// the folder itself, and all four in its folder ucd. (Unpack an archive UCD.zip first.) The files have to be those
+    /// that Unicode published for LBK_UNICODE_VERSION.
     static std::optional<table> try_load(const std::string &folder, error &why) noexcept
     {
         static const char *const names[] = {"LineBreak.txt", "EastAsianWidth.txt", "DerivedGeneralCategory.txt", "emoji-data.txt"};
@@ -242,9 +243,9 @@ public:
         return made;
     }
 
-    /// Of the folder that UNICODE_DATA names, or else of the first that has the files of /usr/share/unicode, its ucd, and unicode in
-    /// XDG_DATA_HOME and ~/.local/share. They are read once in a process, where they are found. Null where they are not: `why` says
-    /// what to do, and why each folder was refused.
+    /// Returns the table of the folder that UNICODE_DATA names, or else of the first of these that has the files:
+    /// /usr/share/unicode, its ucd, and unicode in XDG_DATA_HOME and ~/.local/share. The files are read once per
+    /// process. If they are not found, returns null, and `why` says what to do, and why each folder was refused.
     static const table *try_find(std::string &why)
     {
         static std::mutex alone;
@@ -265,7 +266,7 @@ public:
         return found;
     }
 
-    /// From the bytes of a table, as bytes() gave them. They are copied.
+    /// Copies the bytes of a table, as bytes() returned them.
     static std::optional<table> try_copy(std::string_view bytes, error &why) noexcept
     {
         if (bytes.size() != sizeof(lbk_table))
@@ -281,7 +282,7 @@ public:
         return held;
     }
 
-    /// From the bytes of a packed table, as pack() gave them. Where they are none, `why` has the reason `refused` and the cause.
+    /// Unpacks the bytes that pack() returned. For other bytes `why` has the reason `refused` and the cause.
     static std::optional<table> try_unpack(std::string_view bytes, error &why) noexcept
     {
         lbk_table *made = new (std::nothrow) lbk_table;
@@ -295,7 +296,7 @@ public:
         return held;
     }
 
-    /// From a file with the bytes of a table, which is mapped: all processes that map it share its memory.
+    /// Maps a file with the bytes of a table: all processes that map it share its memory.
     static std::optional<table> try_map(const std::string &name, error &why) noexcept
     {
         int file = ::open(name.c_str(), O_RDONLY | O_CLOEXEC);
@@ -334,7 +335,7 @@ public:
         throw table_error(why, folder + '/', why.claim.text[0] != 0 ? std::string("; ") + lbk_remedy_text().text : "");
     }
 
-    /// As try_find, and throws a std::runtime_error where they are not found.
+    /// As try_find, but throws a std::runtime_error if the files are not found.
     static const table &find()
     {
         std::string why;
@@ -367,7 +368,7 @@ public:
     operator const lbk_table &() const & noexcept { return *held_; }
     operator const lbk_table &() const && = delete;
 
-    /// The bytes of the table, to be kept in a file. They depend on the order of bytes of the machine.
+    /// The bytes of the table, to save it to a file. They depend on the machine's byte order.
     std::string_view bytes() const & noexcept { return {reinterpret_cast<const char *>(held_.get()), sizeof(lbk_table)}; }
     std::string_view bytes() const && = delete;
 
@@ -386,7 +387,7 @@ private:
 
     table(const lbk_table *at, release how) noexcept : held_(at, how) {}
 
-    /// The table of four files, by one of the calls that read them.
+    /// Makes the table of four files by `call`, lbk_read or lbk_read_published.
     static std::optional<table> read_by(decltype(&lbk_read) call, std::string_view line_break, std::string_view east_asian,
                                         std::string_view category, std::string_view emoji, error &why) noexcept
     {
@@ -430,15 +431,15 @@ private:
 
 namespace detail {
 
-/// A place among what a call of the library gives, a block at a time. Copies go on by themselves. It holds what was asked for at
-/// once, packed as the call says, and gives it by value. Of a block that is too wide for that it holds as many as `Call::fitting`
-/// says, and at least one.
+/// An iterator over the results of a library call, which it fetches a block at a time. Copies are independent. It holds a
+/// block in the packed form of `Call`, and returns results by value. If not all of a block can be packed, it holds the
+/// first `Call::fitting`, at least one.
 template <typename Call>
 class iterator {
 public:
     using value_type = typename Call::value_type;
 
-    /// What `it->` goes by.
+    /// The result of `it->`.
     class arrow {
     public:
         const value_type *operator->() const noexcept { return &found_; }
@@ -479,7 +480,7 @@ public:
         return before;
     }
 
-    /// Of two places in one range: whether they are the same, or both the end.
+    /// Compares two iterators of one range: the same position, or both the end.
     friend bool operator==(const iterator &a, const iterator &b) noexcept
     {
         if (a.count_ == 0 || b.count_ == 0)
@@ -513,8 +514,8 @@ private:
     }
 };
 
-/// The state of a call of breaks. It is copied number by number, as it was written: as a whole it would wait for that. The library is
-/// given a copy only, so that a loop has the rest of an iterator in registers.
+/// The state of lbk_breaks or lbk_positions. It is copied field by field, as it was written: a wider load would stall on
+/// the narrower stores. The library gets a copy, so that a loop keeps the rest of an iterator in registers.
 class break_state {
 public:
     using state_type = lbk_state;
@@ -534,16 +535,16 @@ private:
     lbk_state now_;
 };
 
-/// What lbk_breaks and lbk_positions have.
+/// The type of lbk_breaks and lbk_positions.
 using break_call = decltype(&lbk_breaks);
 
-/// What one of these gives of a text, in the order of the text: a view that can be gone through any number of times.
+/// A multi-pass view of what one of these calls returns for a text, in the text's order.
 template <break_call Next>
 class break_view {
     struct call : break_state {
         using value_type = lbk_break;
 
-        /// `after` counts from the first break of the block.
+        /// `after` is the distance from the first break of the block.
         struct packed {
             std::uint16_t after;
             std::uint8_t kind, rule;
@@ -599,7 +600,7 @@ public:
     {
     }
 
-    /// A temporary would be gone before the range is gone through.
+    /// A temporary would be destroyed before the range is used.
     break_view(const lbk_table &&, std::string_view, profile = profile::first, follows = follows::nothing) = delete;
     break_view(const table &&, std::string_view, profile = profile::first, follows = follows::nothing) = delete;
     template <typename Text, typename = std::enable_if_t<std::is_same_v<Text, std::string>>>
@@ -614,11 +615,11 @@ private:
 
 } // namespace detail
 
-/// The breaks of a text in their order: a view that can be gone through any number of times.
+/// The breaks of a text in order, as a multi-pass view.
 using breaks = detail::break_view<&lbk_breaks>;
 
-/// All positions of a text in their order, each with what decides there: one before each scalar, and one at the end. The kind of those
-/// that are no break is LBK_NO.
+/// All positions of a text in order, each with its kind and rule: one before each scalar, and one at the end. Those
+/// without a break have the kind LBK_NO.
 using positions = detail::break_view<&lbk_positions>;
 
 /// A part of a text between two breaks.
@@ -628,7 +629,7 @@ struct segment {
     std::uint8_t kind, rule; ///< of the break at its end
 };
 
-/// The segments of a text in their order: a view that can be gone through any number of times. Joined they are the text.
+/// The segments of a text in order, as a multi-pass view. Joined, they are the text.
 class segments {
 public:
     class iterator {
@@ -682,7 +683,7 @@ public:
     {
     }
 
-    /// A temporary would be gone before the range is gone through.
+    /// A temporary would be destroyed before the range is used.
     segments(const lbk_table &&, std::string_view, profile = profile::first) = delete;
     segments(const table &&, std::string_view, profile = profile::first) = delete;
     template <typename Text, typename = std::enable_if_t<std::is_same_v<Text, std::string>>>
@@ -696,7 +697,8 @@ private:
     breaks breaks_;
 };
 
-/// A bit for each byte of a text and one for its end, in words of 64 with the lowest first: set where `breaks` has a break.
+/// A bit for each byte of a text and one for its end, in 64-bit words with the lowest bit first: set where there is a
+/// break.
 inline std::vector<std::uint64_t> marks(const lbk_table &by, std::string_view text, profile rules = profile::first,
                                         follows after = follows::nothing)
 {
@@ -706,29 +708,28 @@ inline std::vector<std::uint64_t> marks(const lbk_table &by, std::string_view te
     return words;
 }
 
-/// The first byte at or after `at` where a part of the text may begin: one before which a line must end, or the text's size where
-/// there is none. The breaks of the parts, each but the last with `follows::more`, are those of the text, if the places of each are moved
-/// by the bytes before it.
+/// The first offset at or after `at` where a part of the text may begin: one with a required break, or the text's size if
+/// there is none. The parts have the breaks of the text: pass `follows::more` for each except the last, and add the
+/// number of bytes before the part to its offsets.
 inline std::size_t cut(const lbk_table &by, std::string_view text, std::size_t at) noexcept
 {
     return lbk_cut(&by, text.data(), text.size(), at);
 }
 
-/// The last such byte at or before `at`: no break after it depends on the bytes before it.
+/// The last such offset at or before `at`: no break after it depends on the bytes before it.
 inline std::size_t cut_before(const lbk_table &by, std::string_view text, std::size_t at) noexcept
 {
     return lbk_cut_before(&by, text.data(), text.size(), at);
 }
 
-/// The last break before the end of a text after which the breaks are those of the text that begins there, as lbk_safe_break finds it; 0
-/// where there is none. It goes over the last line of the text.
+/// An offset before the end of a text such that the breaks after it are those of the text that begins there
+/// (lbk_safe_break); 0 if there is none. It reads the last paragraph of the text.
 inline std::size_t safe_break(const lbk_table &by, std::string_view text, profile rules = profile::first) noexcept
 {
     return lbk_safe_break(&by, static_cast<std::uint8_t>(rules), text.data(), text.size());
 }
 
-/// The words of a text in their order, as the bytes that each has: a view that can be gone through any number of times. It needs no
-/// table.
+/// The words of a text in order, each as its start and end, as a multi-pass view. It needs no table.
 class words {
     struct call {
         using value_type = lbk_word;
@@ -764,7 +765,7 @@ public:
 
     explicit words(std::string_view text) noexcept : start_{text.data(), text.size(), {0}} {}
 
-    /// A temporary would be gone before the range is gone through.
+    /// A temporary would be destroyed before the range is used.
     template <typename Text, typename = std::enable_if_t<std::is_same_v<Text, std::string>>>
     explicit words(Text &&) = delete;
 
@@ -775,28 +776,28 @@ private:
     call start_;
 };
 
-/// A part of a text up to a break where a line must end: a paragraph with its line end, as a range of its segments.
+/// A paragraph with its line end: a part of a text up to a required break, as a range of its segments.
 class passage {
 public:
     std::size_t start;
     std::string_view text;
 
-    passage(std::size_t at, std::string_view of, segments::iterator first, segments::iterator behind) noexcept
-        : start(at), text(of), first_(first), behind_(behind)
+    passage(std::size_t at, std::string_view of, segments::iterator first, segments::iterator past) noexcept
+        : start(at), text(of), first_(first), past_(past)
     {
     }
 
     segments::iterator begin() const noexcept { return first_; }
-    segments::iterator end() const noexcept { return behind_; }
+    segments::iterator end() const noexcept { return past_; }
 
-    /// Its words, with the bytes of `text` that each has.
+    /// Its words, with offsets in `text`.
     lbk::words words() const noexcept { return lbk::words(text); }
 
 private:
-    segments::iterator first_, behind_;
+    segments::iterator first_, past_;
 };
 
-/// The passages of a text in their order: a view that can be gone through any number of times. Joined they are the text.
+/// The passages of a text in order, as a multi-pass view. Joined, they are the text.
 class passages {
 public:
     class iterator {
@@ -813,12 +814,12 @@ public:
 
         iterator(std::string_view text, segments::iterator first) noexcept : text_(text), first_(first) { find(); }
 
-        passage operator*() const noexcept { return {start_, text_.substr(start_, size_), first_, behind_}; }
+        passage operator*() const noexcept { return {start_, text_.substr(start_, size_), first_, past_}; }
 
         iterator &operator++() noexcept
         {
             start_ += size_;
-            first_ = behind_;
+            first_ = past_;
             find();
             return *this;
         }
@@ -836,14 +837,14 @@ public:
     private:
         std::string_view text_;
         std::size_t start_ = 0, size_ = 0;
-        segments::iterator first_, behind_;
+        segments::iterator first_, past_;
 
-        /// Goes over the segments from the first on, up to the one that ends the passage.
+        /// Advances from the first segment past the one that ends the passage.
         void find() noexcept
         {
             std::uint8_t kind = LBK_NO;
-            for (size_ = 0, behind_ = first_; kind != LBK_MUST && behind_ != segments::iterator(); ++behind_) {
-                const segment one = *behind_;
+            for (size_ = 0, past_ = first_; kind != LBK_MUST && past_ != segments::iterator(); ++past_) {
+                const segment one = *past_;
                 size_ += one.text.size();
                 kind = one.kind;
             }
@@ -858,7 +859,7 @@ public:
     {
     }
 
-    /// A temporary would be gone before the range is gone through.
+    /// A temporary would be destroyed before the range is used.
     passages(const lbk_table &&, std::string_view, profile = profile::first) = delete;
     passages(const table &&, std::string_view, profile = profile::first) = delete;
     template <typename Text, typename = std::enable_if_t<std::is_same_v<Text, std::string>>>
@@ -872,17 +873,17 @@ private:
     segments segments_;
 };
 
-/// What a chunk may hold.
+/// The limits of a chunk.
 struct limits {
-    std::size_t most = 500;           ///< at most so many bytes, 1 or more
-    std::size_t words = 0;            ///< at most so many words; 0: any number
-    /// a chunk may end early where a line must end, once it has so many bytes that no chunk before it has; half of most unless given
+    std::size_t most = 500;           ///< the most bytes, 1 or more
+    std::size_t words = 0;            ///< the most words; 0: any number
+    /// a chunk may end early, at a required break, once this many of its bytes are in no earlier one; default: half of most
     std::optional<std::size_t> least = std::nullopt;
-    std::size_t overlap = 0;          ///< the next chunk begins with at most so many bytes of this one, and at most half of it
+    std::size_t overlap = 0;          ///< the next chunk repeats at most this many bytes of this one, and at most half of it
 
     lbk_limits get() const noexcept { return {most, words, least.value_or(most / 2), overlap}; }
 
-    /// Which limit is out of range, in English; empty where none is.
+    /// Says which limit is out of range, in English; empty if none is.
     std::string wrong() const
     {
         const lbk_limits it = get();
@@ -896,9 +897,9 @@ struct limits {
     }
 };
 
-/// The chunks of a text for search and retrieval, in their order, as the bytes that each has: a view that can be gone through any
-/// number of times. None ends within a word or where a line may not break (lbk_chunks). Limits that are out of range throw a
-/// std::invalid_argument that says which; without exceptions they give no chunks.
+/// The chunks of a text for search and retrieval, in order, each as its start and end, as a multi-pass view. Each ends at
+/// a break outside words (lbk_chunks). Limits that are out of range throw a std::invalid_argument that says which; without
+/// exceptions there are no chunks then.
 class chunks {
     struct call {
         using value_type = lbk_chunk;
@@ -945,7 +946,7 @@ public:
         start_.state.breaks.profile = static_cast<std::uint8_t>(rules);
     }
 
-    /// A temporary would be gone before the range is gone through.
+    /// A temporary would be destroyed before the range is used.
     chunks(const lbk_table &&, std::string_view, const limits & = {}, profile = profile::first) = delete;
     chunks(const table &&, std::string_view, const limits & = {}, profile = profile::first) = delete;
     template <typename Text, typename = std::enable_if_t<std::is_same_v<Text, std::string>>>
@@ -958,7 +959,8 @@ private:
     call start_;
 };
 
-/// The breaks of a text that comes in pieces, cut anywhere. It refers to its table, which has to outlive it. A copy goes on by itself.
+/// The breaks of a text that arrives in pieces, cut anywhere. It refers to its table, which has to outlive it. Copies are
+/// independent.
 class stream {
 public:
     explicit stream(const lbk_table &by, profile rules = profile::first) noexcept : table_(&by)
@@ -969,14 +971,14 @@ public:
     explicit stream(const lbk_table &&, profile = profile::first) = delete;
     explicit stream(const table &&, profile = profile::first) = delete;
 
-    /// Takes the next piece, and calls `found` with each break that it settles. Places count from the start of the text.
+    /// Takes the next piece, and calls `found` with each break that it settles. Offsets count from the start of the text.
     template <typename Found>
     void feed(std::string_view piece, Found &&found)
     {
         take(piece, false, found);
     }
 
-    /// Says that the text has ended, and calls `found` with each break that is left. Nothing comes after it.
+    /// Ends the text, and calls `found` with each break that is left. Later calls find nothing.
     template <typename Found>
     void finish(Found &&found)
     {
@@ -1002,18 +1004,18 @@ private:
     }
 };
 
-/// The name of a rule without `LB`, as "8a"; empty for a number that no rule has.
+/// The name of a rule without `LB`, such as "8a"; empty for a number that no rule has.
 inline std::string label(std::uint8_t rule) { return lbk_label(rule).text; }
 
 /// What a rule says, in one line of English; empty for a number that no rule has.
 inline std::string rule_text(std::uint8_t rule) { return lbk_rule_text(rule).text; }
 
-/// The name of a scalar's line breaking class once rule LB1 has resolved it, as "AL"; empty for what is no scalar.
+/// The name of a scalar's line breaking class as rule LB1 resolves it, such as "AL"; empty for what is no scalar.
 inline std::string class_of(const lbk_table &by, char32_t scalar) { return lbk_class(&by, scalar).text; }
 
 namespace detail {
 
-/// What a call gives of a text of units, as break_view does of one in UTF-8. Places are in units, each of which is a Number to C.
+/// A break_view of UTF-16 or UTF-32. Offsets count units; a Number is a unit's type in C.
 template <typename Unit, typename Number, auto Next>
 class unit_view {
     static_assert(sizeof(Unit) == sizeof(Number) && alignof(Unit) == alignof(Number));
@@ -1058,7 +1060,7 @@ public:
     {
     }
 
-    /// A temporary would be gone before the range is gone through.
+    /// A temporary would be destroyed before the range is used.
     unit_view(const lbk_table &&, std::basic_string_view<Unit>, profile = profile::first) = delete;
     unit_view(const table &&, std::basic_string_view<Unit>, profile = profile::first) = delete;
     template <typename Text, typename = std::enable_if_t<std::is_same_v<Text, std::basic_string<Unit>>>>
@@ -1073,16 +1075,16 @@ private:
 
 } // namespace detail
 
-/// The breaks of a text in UTF-16 in their order. A surrogate that stands alone is read as U+FFFD.
+/// The breaks of a text in UTF-16, in order. A lone surrogate is read as U+FFFD.
 using breaks_utf16 = detail::unit_view<char16_t, std::uint16_t, &lbk_breaks_utf16>;
 
-/// The breaks of a text in UTF-32 in their order. A unit that is no scalar value is read as U+FFFD.
+/// The breaks of a text in UTF-32, in order. A unit that is not a scalar value is read as U+FFFD.
 using breaks_utf32 = detail::unit_view<char32_t, std::uint32_t, &lbk_breaks_utf32>;
 
-/// The same of wide characters, which have 32 bits wherever the library is.
+/// The same for wide characters, which have 32 bits on all platforms of the library.
 using breaks_wide = detail::unit_view<wchar_t, std::uint32_t, &lbk_breaks_utf32>;
 
-/// All positions of a text in UTF-16, in UTF-32 or of wide characters, as lbk::positions are those of a text in UTF-8.
+/// All positions of a text in UTF-16, UTF-32 or wide characters, like lbk::positions for UTF-8.
 using positions_utf16 = detail::unit_view<char16_t, std::uint16_t, &lbk_positions_utf16>;
 using positions_utf32 = detail::unit_view<char32_t, std::uint32_t, &lbk_positions_utf32>;
 using positions_wide = detail::unit_view<wchar_t, std::uint32_t, &lbk_positions_utf32>;
