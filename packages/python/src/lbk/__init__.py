@@ -5,9 +5,9 @@
     >>> next(lbk.breaks("naïve text"))
     Break(at=6, kind=<Kind.MAY: 1>, rule=<Rule.LB18: 144>)
 
-Breaks are decided by a table, which is made of four files of the Unicode Character Database:
-`Table.load()` finds them where systems install them. A `Table` has more calls than those here. Any
-number of threads may use it at the same time.
+Breaks need a table, which is made of four files of the Unicode Character Database. `Table.load()`
+finds them where systems install them. A `Table` has more calls than this module. Any number of
+threads may use it at the same time.
 """
 
 from ._calls import UNICODE_VERSION, WORDS_UNICODE_VERSION, Break
@@ -25,7 +25,7 @@ __all__ = [
     "chunks", "segments", "words",
 ]
 
-# These are known by the names that their users know, also in what was pickled.
+# Users, and what they pickle, know these by their public names.
 for _public in (
     Cause, Chunk, ChunkColumns, Columns, Fault, File, Kind, ListColumns, Passage, PassageColumns, Rule, Stream, Table,
     WordColumns, breaks, chunks, segments,

@@ -1,4 +1,4 @@
-"""Texts that are cut into chunks."""
+"""Chunks of a text."""
 
 import copy
 import mmap
@@ -15,8 +15,8 @@ Limits: TypeAlias = "tuple[int, int, int, int]"
 
 
 def limits_of(most: int, words: "int | None", least: "int | None", overlap: int) -> Limits:
-    """The limits as numbers, where 0 stands for any number of words. Raises ValueError for one that
-    is out of range."""
+    """The limits as numbers, with 0 for any number of words. Raises ValueError for a limit that is
+    out of range."""
     most, overlap = index(most), index(overlap)
     least = most // 2 if least is None else index(least)
     if most < 1:
@@ -40,10 +40,10 @@ def is_in_bytes(unit: Unit) -> bool:
 
 
 class Chunks(Iterator[Chunk[Any]]):
-    """The chunks of a text, by their columns."""
+    """An iterator over the chunks of a text, from their columns."""
 
     def __init__(self, columns: ChunkColumns, text: Any) -> None:
-        # A str, bytes or a map of a file gives a str or bytes as its slices.
+        # Slices of a str, of bytes or of a mapped file are str or bytes.
         self._columns, self._text = columns, text if isinstance(text, (str, bytes, mmap.mmap)) else bytes(text)
         self._numbers = iter(range(len(columns.starts)))
 

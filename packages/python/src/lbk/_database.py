@@ -11,7 +11,7 @@ from . import _calls
 
 Folder: TypeAlias = "str | os.PathLike[str]"
 
-# Where each file may stand, as Unicode lays the folder out, and where all are put into one folder.
+# Where each file may be: in Unicode's layout of the folder, or with all files side by side.
 _PLACES = (
     ("LineBreak.txt",),
     ("EastAsianWidth.txt",),
@@ -24,8 +24,8 @@ _SYSTEM = ("/usr/share/unicode", "/usr/share/unicode/ucd")
 
 
 def contents(folder: Folder) -> list[bytes]:
-    """The contents of the four files in a folder, in its folder `ucd` or its archive UCD.zip, or in
-    such an archive itself."""
+    """The contents of the four files in a folder, in its folder `ucd`, in its archive UCD.zip, or
+    in such an archive."""
     root = _root(Path(folder))
     try:
         return [_first_of(root, places).read_bytes() for places in _PLACES]
@@ -34,7 +34,7 @@ def contents(folder: Folder) -> list[bytes]:
 
 
 def place_of(folder: Folder, file: int) -> str:
-    """Where one of them stands, by its number in a `Fault`."""
+    """The path of one of the files, by its number in a `Fault`."""
     return str(_first_of(_root(Path(folder)), _PLACES[file - 1]))
 
 
@@ -62,8 +62,8 @@ def _first_of(root: Path | zipfile.Path, places: tuple[str, ...]) -> Path | zipf
 
 
 def folders() -> list[str]:
-    """The folders where the files are looked for: the one that UNICODE_DATA names, or else those of
-    the system and of the user."""
+    """The folders to look for the files in: the one that UNICODE_DATA names, or else those of the
+    system and of the user."""
     if named := os.environ.get("UNICODE_DATA"):
         return [os.path.abspath(named)]
     users = os.environ.get("XDG_DATA_HOME", ""), os.path.expanduser("~/.local/share")
@@ -71,7 +71,7 @@ def folders() -> list[str]:
 
 
 def not_found(refusals: list[str]) -> FileNotFoundError:
-    """Says what to do, and why each folder was refused."""
+    """The error that says what to do, and why each folder was refused."""
     advice = (
         f"found no files of Unicode {_calls.UNICODE_VERSION}.0; install the package unicode-data (Debian 12), unpack UCD.zip of "
         f"https://www.unicode.org/Public/{_calls.UNICODE_VERSION}.0/ucd/ into ~/.local/share/unicode, or set UNICODE_DATA to a folder "

@@ -1,21 +1,21 @@
-"""Why files are refused."""
+"""Faults of property files."""
 
 from . import _calls
 from ._numbers import Cause, File
 
 
 class Fault(ValueError):
-    """Files of the Unicode Character Database are refused, at the first fault that they have."""
+    """Raised for files of the Unicode Character Database: their first fault."""
 
     file: File
     """The file with the fault, or `File.NO_FILE`."""
     line: int
-    """The number of its line, from 1; 0 where the fault is in no line."""
+    """The number of its line, from 1; 0 if the fault is in no line."""
     cause: Cause
     place: str
-    """Where the file is, where it was read by its name or from a folder, else ""."""
+    """The name of the file, if it was read by its name or from a folder; else ""."""
     claim: str
-    """Of NOT_PUBLISHED what the file is, as "this is of Unicode 14.0.0, and lbk goes by 15.0.0"."""
+    """For NOT_PUBLISHED, what the file is: "this is of Unicode 14.0.0, and lbk goes by 15.0.0"."""
 
     def __init__(self, file: int, line: int, cause: int, place: str = "", claim: str = "") -> None:
         super().__init__(file, line, cause, place, claim)

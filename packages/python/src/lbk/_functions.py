@@ -1,4 +1,4 @@
-"""Calls by the table that `Table.load()` finds."""
+"""Calls with the table that `Table.load()` finds."""
 
 from collections.abc import Iterator
 from typing import Any, overload
@@ -10,7 +10,7 @@ from ._table import Bytes, Table, Text
 
 
 def breaks(text: Text, profile: int = 1) -> Iterator[Break]:
-    """As `Table.breaks`, by the table that `Table.load()` finds."""
+    """As `Table.breaks`, with the table that `Table.load()` finds."""
     return Table.load().breaks(text, profile)
 
 
@@ -19,7 +19,7 @@ def segments(text: str, profile: int = 1) -> Iterator[str]: ...
 @overload
 def segments(text: Bytes, profile: int = 1) -> Iterator[bytes]: ...
 def segments(text: Any, profile: int = 1) -> Iterator[Any]:
-    """As `Table.segments`, by the table that `Table.load()` finds."""
+    """As `Table.segments`, with the table that `Table.load()` finds."""
     return Table.load().segments(text, profile)
 
 
@@ -40,5 +40,5 @@ def chunks(
     text: Any, most: int = 500, words: "int | None" = None, least: "int | None" = None, overlap: int = 0, *,
     unit: Unit = None, profile: int = 1,
 ) -> Iterator[Any]:
-    """As `Table.chunks`, by the table that `Table.load()` finds."""
+    """As `Table.chunks`, with the table that `Table.load()` finds."""
     return Table.load().chunks(text, most, words, least, overlap, unit=unit, profile=profile)

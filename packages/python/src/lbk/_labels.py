@@ -1,4 +1,4 @@
-"""How rules are named."""
+"""The names of rules."""
 
 import enum
 
@@ -6,11 +6,11 @@ from . import _calls
 
 
 class Labelled(enum.IntEnum):
-    """Numbers that are written as the labels of rules."""
+    """Numbers that are printed as the labels of rules."""
 
     @property
     def label(self) -> str:
-        """The number of the rule in the standard, as "8a"."""
+        """The number of the rule in the standard, such as "8a"."""
         return _calls.label(self)
 
     @property

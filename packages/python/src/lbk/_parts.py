@@ -1,6 +1,6 @@
-"""Parts of files: ranges of bytes that are broken apart, and how each is read by itself."""
+"""Parts of files: ranges of bytes that tasks read and break independently."""
 
-# What these need has types in some of its versions.
+# Only some versions of the imported packages have types.
 # mypy: disable-error-code="import"
 
 import copy
@@ -19,24 +19,24 @@ from ._table import Table
 
 Errors = Literal["replace", "strict"]
 
-# So much of a file that is not on this machine is read for a cut at first.
+# How many bytes of a remote file are read at first to find a cut.
 WINDOW = 1 << 16
 
-# A character has so many bytes at most. So many before a place are read for a cut there, and so
-# many after the cut: no others decide (`only_bytes_near_a_cut`, which is proved).
+# The most bytes of a character. A cut depends only on as many bytes before `at` and after the cut
+# (`only_bytes_near_a_cut`, which is proved), so only these are read.
 LONGEST = 4
 
-# A thread keeps memory of up to so many bytes for the parts that it reads, one after the other.
+# How many bytes of memory a thread keeps for the parts that it reads, one after the other.
 KEPT = 1 << 26
 
 
 class TextFault(ValueError):
-    """A file that cannot be read, changed since it was cut, or is ill-formed where `errors` is
-    "strict"."""
+    """A file that cannot be read, that changed since it was cut, or that is ill-formed (with
+    `errors="strict"`)."""
 
     path: str
     at: int
-    """The byte of the file, from 0; the part's first one where the fault is in no byte."""
+    """The offset in the file; that of the part if the fault is at no byte."""
     why: str
 
     def __init__(self, path: str, at: int, why: str) -> None:
@@ -49,8 +49,8 @@ class TextFault(ValueError):
 
 @dataclass(frozen=True)
 class Part:
-    """The bytes `start` to `end` of a file, between two places where a line must end, or where the
-    file begins or ends. `end` is None for a file that is read whole."""
+    """The bytes `start` to `end` of a file, between two required breaks, or from its start or to
+    its end. `end` is None for a file that is read whole."""
 
     file: OpenFile
     start: int
@@ -59,20 +59,20 @@ class Part:
 
     @property
     def path(self) -> str:
-        """The file's name, with its protocol where it is not on this machine."""
+        """The file's name, with its protocol for a remote file."""
         return str(self.file.path if isinstance(self.file.fs, LocalFileSystem) else self.file.full_name)
 
 
 class PartColumns(NamedTuple):
-    """The breaks of a part, in their order, as numpy arrays. The columns of all parts of a file,
-    joined, are those of the file."""
+    """The breaks of a part, in order, as numpy arrays. The columns of all parts of a file, joined,
+    are those of the file."""
 
     path: str
     start: int
     end: int
-    """The part's bytes in the file; in the decompressed text of a compressed one."""
+    """The part's end in the file, or in the decompressed text of a compressed file."""
     places: Any
-    """int64: the bytes of the file that stand before each break."""
+    """int64: the offset of each break in the file."""
     kinds: Any
     """uint8: the numbers of `Kind`."""
     rules: Any
@@ -82,8 +82,8 @@ class PartColumns(NamedTuple):
 def plan(
     paths: Any, table: Table, blocksize: "int | None", compression: "str | None", storage_options: "dict[str, Any] | None"
 ) -> list[Part]:
-    """The parts of all files, in the order of the files. One that cannot be cut is a part, so that
-    the task that reads it reports why."""
+    """The parts of all files, in the order of the files. A file that cannot be cut is one part, so
+    that the task that reads it reports why."""
     fs, _, names = get_fs_token_paths(paths, mode="rb", storage_options=storage_options or {})
     parts = []
     for name in names:
@@ -114,7 +114,7 @@ def _cuts(file: OpenFile, table: Table, blocksize: int) -> list[int]:
 
 
 def _cut_from_afar(file: OpenFile, size: int, table: Table, at: int) -> int:
-    """As Table.cut, of a file of which only what is near the place is read."""
+    """As Table.cut, but reads only the bytes of the file near the offset."""
     start, window = max(0, at - LONGEST), WINDOW
     data = b""
     while True:
@@ -129,8 +129,8 @@ _kept = threading.local()
 
 
 def _memory(size: int) -> memoryview:
-    """Memory for a part: that of the part before, since new memory is cleared by the system, which
-    takes as long as to read into it."""
+    """Memory for a part. It reuses that of the previous part, because the system clears new memory,
+    which takes as long as to read into it."""
     if size > KEPT:
         return memoryview(bytearray(size))
     if len(getattr(_kept, "memory", b"")) < size:
@@ -147,10 +147,10 @@ def _fill(memory: memoryview, file: Any) -> memoryview:
 
 
 def read_part(part: Part, errors: Errors = "replace") -> memoryview:
-    """A part's bytes, up to the next call in this thread. One more is read, to see whether the file
-    goes on as it did."""
+    """A part's bytes, valid up to the next call in this thread. It reads one byte more, to see
+    whether the file goes on as it did."""
     try:
-        # (a copy, since an OpenFile closes what other threads opened by it, too)
+        # (a copy, because an OpenFile also closes what other threads opened by it)
         with copy.copy(part.file) as file:
             if part.end is None:
                 data = memoryview(file.read())
@@ -175,7 +175,7 @@ def read_part(part: Part, errors: Errors = "replace") -> memoryview:
 
 
 def _columns(data: memoryview, part: Part, table: Table, profile: int, start: int) -> tuple[Any, Any, Any]:
-    """The breaks of a part's bytes, the first of which has the place `start`."""
+    """The breaks of a part's bytes, whose first byte has the offset `start`."""
     places, kinds, rules = table.break_columns(data, profile, goes_on=not part.is_last, start=start)
     return np.frombuffer(places, np.int64), np.frombuffer(kinds, np.uint8), np.frombuffer(rules, np.uint8)
 
@@ -187,7 +187,7 @@ def part_columns(part: Part, table: Table, profile: int, errors: Errors) -> Part
 
 
 def part_paragraphs(part: Part, table: Table, errors: Errors) -> list[str]:
-    """The text of a part up to each place where a line must end."""
+    """The paragraphs of a part, each up to its required break."""
     data = read_part(part, errors)
     places, kinds, _ = _columns(data, part, table, 1, 0)
     ends = places[kinds == Kind.MUST].tolist()

@@ -1,4 +1,4 @@
-"""Texts that are cut into passages."""
+"""Passages of a text."""
 
 import contextlib
 import copy
@@ -12,7 +12,7 @@ from ._results import Kind, Passage
 
 
 class Passages(Iterator[Passage[Any]]):
-    """The passages of a text, of its breaks."""
+    """An iterator over the passages of a text, from its breaks."""
 
     def __init__(self, breaks: Iterator[Break], text: Any) -> None:
         self._breaks, self._text = breaks, text

@@ -1,4 +1,4 @@
-"""What is found in a text."""
+"""The results of the calls."""
 
 import enum
 from array import array
@@ -10,7 +10,7 @@ from ._numbers import Rule
 
 
 class Kind(enum.IntEnum):
-    """Whether a line may or must end at a place. That of a break is MAY or MUST."""
+    """Whether a line may or must end at an offset. A break has MAY or MUST."""
 
     NO = _calls.LBK_NO
     MAY = _calls.LBK_MAY
@@ -18,7 +18,7 @@ class Kind(enum.IntEnum):
 
 
 def _pickled(columns: tuple[Any, ...]) -> tuple[Any, ...]:
-    """Columns with each memoryview as an array, since it cannot be pickled."""
+    """Pickles columns, with each memoryview as an array, because memoryviews cannot be pickled."""
     arrays = (array(one.format, one.tobytes()) if isinstance(one, memoryview) else one for one in columns)
     return _unpickled, (type(columns), *arrays)
 
@@ -28,11 +28,10 @@ def _unpickled(kind: type[Any], *arrays: Any) -> Any:
 
 
 class Columns(NamedTuple):
-    """The breaks of a text, in their order: numbers of the same place in each column belong
-    together."""
+    """The breaks of a text, in order: the k-th break has the k-th entry of each column."""
 
     places: memoryview
-    """Numbers of 8 bytes with a sign, of the format "q": those of `Break.at`."""
+    """The offsets, as in `Break.at`: signed numbers of 8 bytes (format "q")."""
     kinds: bytearray
     """The numbers of `Kind`."""
     rules: bytearray
@@ -43,11 +42,11 @@ class Columns(NamedTuple):
 
 
 class ListColumns(NamedTuple):
-    """The breaks of many texts, one text after the other. Those of `texts[k]` stand at `offsets[k]`
-    to `offsets[k + 1]`, as in a list array of Apache Arrow."""
+    """The breaks of many texts, one text after the other. Those of `texts[k]` have the indices
+    `offsets[k]` up to `offsets[k + 1]`, as in a list array of Apache Arrow."""
 
     offsets: memoryview
-    """Numbers of the format "q", one more than there are texts."""
+    """Numbers of format "q", one more than there are texts."""
     places: memoryview
     kinds: bytearray
     rules: bytearray
@@ -57,10 +56,10 @@ class ListColumns(NamedTuple):
 
 
 class WordColumns(NamedTuple):
-    """The words of a text, in their order: `starts[k]` up to `ends[k]`, not counting that."""
+    """The words of a text, in order: word k is the text from `starts[k]` up to `ends[k]`."""
 
     starts: memoryview
-    """Numbers of the format "q"."""
+    """Numbers of format "q"."""
     ends: memoryview
 
     def __reduce__(self) -> tuple[Any, ...]:
@@ -68,9 +67,9 @@ class WordColumns(NamedTuple):
 
 
 class PassageColumns(NamedTuple):
-    """The passages of a text, in their order, as list arrays of Apache Arrow: numbers of the format
-    "q". The k-th has the segments `segment_offsets[k]` to `segment_offsets[k + 1]` and the words
-    `word_offsets[k]` to `word_offsets[k + 1]`, neither counting the last."""
+    """The passages of a text, in order, as list arrays of Apache Arrow: numbers of format "q". The
+    k-th has the segments `segment_offsets[k]` up to `segment_offsets[k + 1]` and the words
+    `word_offsets[k]` up to `word_offsets[k + 1]`."""
 
     segment_offsets: memoryview
     places: memoryview
@@ -85,11 +84,10 @@ class PassageColumns(NamedTuple):
 
 
 class ChunkColumns(NamedTuple):
-    """The chunks of a text, in their order: numbers of the same place in each column belong
-    together."""
+    """The chunks of a text, in order: the k-th chunk has the k-th entry of each column."""
 
     starts: memoryview
-    """Numbers of the format "q": those of `Chunk.start`."""
+    """Numbers of format "q", as in `Chunk.start`."""
     ends: memoryview
     words: memoryview
     kinds: bytearray
@@ -97,35 +95,35 @@ class ChunkColumns(NamedTuple):
     rules: bytearray
     """The numbers of `Rule`."""
     alone: bytearray
-    """1 for each chunk that is larger than the limits, else 0."""
+    """1 for each chunk that exceeds the limits, else 0."""
 
     def __reduce__(self) -> tuple[Any, ...]:
         return _pickled(self)
 
 
 class Chunk(NamedTuple, Generic[AnyStr]):
-    """A part of a text that ends neither within a word nor where a line may not break."""
+    """A part of a text that ends at a break outside words."""
 
     start: int
-    """How many code points of a `str` stand before it; of an object of bytes, how many bytes."""
+    """Its offset, in code points of a `str` or in bytes."""
     end: int
-    """The place after its last one."""
+    """The offset of its end."""
     text: AnyStr
     words: int
-    """How many words (UAX #29) it has."""
+    """The number of its words (UAX #29)."""
     kind: Kind
-    """Whether the line may or must end at its end."""
+    """Whether a line may or must end at its end."""
     rule: Rule
     """The rule of UAX #14 that decided there."""
     alone: bool
-    """It is larger than the limits: it has no place where it could have ended."""
+    """Whether it exceeds the limits, because it has no cut within them."""
 
 
 class Passage(NamedTuple, Generic[AnyStr]):
-    """A part of a text up to a place where a line must end: a paragraph with its line end."""
+    """A paragraph with its line end: a part of a text up to a required break."""
 
     start: int
-    """How many code points of a `str` stand before it; of an object of bytes, how many bytes."""
+    """Its offset, in code points of a `str` or in bytes."""
     text: AnyStr
     segments: list[AnyStr]
     """The passage cut at each of its breaks."""
@@ -134,7 +132,7 @@ class Passage(NamedTuple, Generic[AnyStr]):
 
 
 def _members(numbers: Iterable[int]) -> tuple[int, ...]:
-    """For each number of a byte its member, or else the number."""
+    """The member of each number from 0 to 255, or else the number itself."""
     members = {int(number): number for number in numbers}
     return tuple(members.get(number, number) for number in range(256))
 

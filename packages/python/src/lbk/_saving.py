@@ -1,6 +1,6 @@
-"""Results that are saved, a file for each partition."""
+"""Saves results, a file for each partition."""
 
-# What these need has types in some of its versions.
+# Only some versions of the imported packages have types.
 # mypy: disable-error-code="import"
 
 import io
@@ -20,21 +20,21 @@ Format = Literal["parquet", "npz", "jsonl"]
 
 
 class Saved(NamedTuple):
-    """What was saved of a partition."""
+    """A saved partition."""
 
     name: str
     """The file."""
     items: int
-    """How many items are in it."""
+    """The number of items in it."""
     faults: int
-    """How many are in the file of faults, which is there where this is not 0."""
+    """The number of faults in its file of faults, which exists if this is not 0."""
 
 
 def save_items(items: Iterable[Any], numbers: Iterable[int], folder: str, format: "Format | None") -> list[Saved]:
     items = list(items)
     faults = [item for item in items if isinstance(item, TextFault)]
     items = [item for item in items if not isinstance(item, TextFault)]
-    # (what is empty has columns of no items)
+    # (an empty partition has empty columns)
     are_columns = all(isinstance(item, (Columns, PartColumns)) for item in items)
     chosen = format or ("parquet" if _has_pyarrow() else "npz" if are_columns else "jsonl")
     if chosen == "npz" and not are_columns:
@@ -58,21 +58,21 @@ def _has_pyarrow() -> bool:
 
 
 def _put(name: str, data: bytes) -> None:
-    """Writes a file in one step, so that a worker that dies leaves none or a whole one."""
+    """Writes a file atomically, so that a worker that dies leaves a whole file or none."""
     fs, path = url_to_fs(name)
     if not isinstance(fs, LocalFileSystem):
         fs.makedirs(fs._parent(path), exist_ok=True)
         fs.pipe_file(path, data)
         return
     os.makedirs(os.path.dirname(path), exist_ok=True)
-    beside = f"{path}.{os.getpid()}.new"
+    new = f"{path}.{os.getpid()}.new"
     try:
-        with open(beside, "wb") as file:
+        with open(new, "wb") as file:
             file.write(data)
-        os.replace(beside, path)
+        os.replace(new, path)
     finally:
-        if os.path.exists(beside):
-            os.unlink(beside)
+        if os.path.exists(new):
+            os.unlink(new)
 
 
 def _lines(items: list[Any], are_columns: bool) -> bytes:
@@ -85,7 +85,7 @@ def _row(item: Any) -> dict[str, Any]:
 
 
 def _arrays(items: list[Any]) -> tuple[dict[str, Any], dict[str, Any]]:
-    """The fields that each item has one of, and those that it has many of, joined."""
+    """The fields with one value per item, and those with many, joined."""
     offsets = np.zeros(len(items) + 1, np.int64)
     np.cumsum([len(item.places) for item in items], out=offsets[1:])
     kinds = {"places": np.int64, "kinds": np.uint8, "rules": np.uint8}

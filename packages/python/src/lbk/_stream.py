@@ -1,4 +1,4 @@
-"""Texts that come in pieces."""
+"""Texts that arrive in pieces."""
 
 from collections.abc import Iterable, Iterator
 from typing import Any, Self
@@ -9,17 +9,17 @@ from ._table import Table, Text
 
 
 class Stream:
-    """The breaks of a text that comes in pieces of any size, as from a socket or a file:
+    """The breaks of a text that arrives in pieces of any size, for example from a socket:
 
         stream = lbk.Stream(table)
         while piece := socket.recv(4096):
             for found in stream.feed(piece): ...
         for found in stream.finish(): ...
 
-    However the text is cut, the breaks are those of the whole text, each once, with its place
-    counted from the start of the stream. The pieces are all `str`, or all objects of bytes, which
-    may end within a character. No earlier piece is kept. A stream can be copied and pickled, to go
-    back to a place. One thread feeds it at a time.
+    However the text is cut, the breaks are those of the whole text, each once, with offsets from
+    the start of the stream. The pieces are all `str`, or all bytes, and may end inside a character.
+    A stream keeps no earlier piece. Copy or pickle it to come back to an offset. Only one thread
+    may feed it at a time.
     """
 
     __slots__ = ("_table", "_state", "_is_str", "_ended")
@@ -33,24 +33,23 @@ class Stream:
         self._ended = False
 
     def feed(self, piece: Text) -> list[Break]:
-        """Takes the next piece, which may be empty, and returns the breaks that it settles: each
-        whose following character is there. Profile 2 may need more at a quotation mark, for
-        which one break at most waits.
+        """Takes the next piece, which may be empty, and returns the breaks that it settles. A break
+        is settled once the character after it has arrived; with profile 2 one break before a
+        quotation mark may wait for more.
 
-        Raises TypeError where a piece is of another kind than those before it, and ValueError after
-        the end.
+        Raises TypeError if some pieces are `str` and others bytes, and ValueError after the end.
         """
         return self._take(piece, False)
 
     def finish(self, piece: "Text | None" = None) -> list[Break]:
-        """Takes the last piece, where there is one, and returns the breaks that are left. The last
-        one is the text's end."""
+        """Takes the last piece, if there is one, and returns the breaks that are left. The last one
+        is the end of the text."""
         if piece is None:
             piece = "" if self._is_str else b""
         return self._take(piece, True)
 
     def breaks(self, pieces: Iterable[Text]) -> Iterator[Break]:
-        """The breaks of all pieces up to the end, each as soon as it is settled."""
+        """The breaks of all pieces, each as soon as it is settled."""
         for piece in pieces:
             yield from self.feed(piece)
         yield from self.finish()

@@ -1,4 +1,4 @@
-"""The table of the rules, and what it finds."""
+"""A table of character properties, and the calls that use it."""
 
 import functools
 import mmap
@@ -20,7 +20,7 @@ from ._results import Chunk, ChunkColumns, Columns, ListColumns, Passage, Passag
 
 
 class _Buffer(Protocol):
-    """What `memoryview` takes, where checkers know it (PEP 688)."""
+    """The arguments of `memoryview`, for type checkers that know PEP 688."""
 
     def __buffer__(self, flags: int, /) -> memoryview: ...
 
@@ -36,26 +36,26 @@ Name: TypeAlias = "str | bytes | os.PathLike[str] | os.PathLike[bytes]"
 
 _new = tuple.__new__
 
-# What load() without a folder found, and who looks for it. No process forks while another thread does.
+# What load() without a folder found, and the lock for finding it. No process forks while another thread holds it.
 _found: "tuple[bytearray, str] | None" = None
 _finding = threading.Lock()
 os.register_at_fork(before=_finding.acquire, after_in_parent=_finding.release, after_in_child=_finding.release)
 
 
 class Table:
-    """What the rules know of each code point, and their steps: some 2 MB, of which one is enough
-    for a program.
+    """The properties of each code point that the rules use, some 2 MB. A program needs only one.
 
     Make one by `load`, `from_files`, `read`, `from_bytes` or `open`. It never changes, so any
-    number of threads may use it. Pickled it is its bytes; one that `open` mapped is the name of its
-    file, and one of `load` its folder and digest: where the folder then gives another table,
-    ValueError names it.
+    number of threads may use it. A table is pickled as its bytes; one that `open` mapped as the
+    name of its file; one of `load` as its folder and digest, and ValueError names the folder if it
+    has another table when it is unpickled.
 
-    Texts are `str`, with places in code points, or objects of bytes in UTF-8, with places in bytes:
-    `bytes`, `bytearray`, `memoryview`, `mmap`, and others with the buffer protocol and items of a
-    byte. Ill-formed bytes are read as U+FFFD, as `decode("utf-8", "replace")` does, and so is each
-    surrogate in a `str`. `profile` 1 has the rules of Unicode 15.0; 2 has LB15a and LB15b in the
-    place of LB15. TypeError comes for what is no text, and ValueError for what is no profile.
+    Texts are `str`, with offsets in code points, or bytes of UTF-8, with offsets in bytes: `bytes`,
+    `bytearray`, `memoryview`, `mmap`, and other objects with the buffer protocol and one-byte
+    items. Ill-formed bytes are read as U+FFFD, as `decode("utf-8", "replace")` does, and so is each
+    surrogate in a `str`. `profile` 1 has the rules of Unicode 15.0; 2 has LB15a and LB15b in place
+    of LB15. The calls raise TypeError for what is not a text, and ValueError for an unknown
+    profile.
     """
 
     __slots__ = ("_memory", "_origin")
@@ -74,26 +74,26 @@ class Table:
 
     @classmethod
     def load(cls, folder: "_database.Folder | None" = None) -> Self:
-        """The table of the Unicode Character Database in a folder: LineBreak.txt,
+        """Loads the table of a folder of the Unicode Character Database: LineBreak.txt,
         EastAsianWidth.txt, extracted/DerivedGeneralCategory.txt and emoji/emoji-data.txt, or all
-        four beside each other, in the folder, in its folder `ucd` or its archive UCD.zip; or in
-        such an archive.
+        four side by side. They may be in the folder, in its folder `ucd`, or in its archive
+        UCD.zip; `folder` may also be such an archive.
 
-        Without a folder it is the one that UNICODE_DATA names, or else the first that has the files
-        of /usr/share/unicode, its `ucd`, and `unicode` in XDG_DATA_HOME and ~/.local/share. It is
-        read once in a process.
+        Without a folder, uses the one that UNICODE_DATA names, or else the first of these that has
+        the files: /usr/share/unicode, its `ucd`, and `unicode` in XDG_DATA_HOME and ~/.local/share.
+        It is read once per process.
 
-        Raises OSError where a file cannot be read, FileNotFoundError with all places where none is
-        found, and Fault where a file is not that which Unicode published for the version
-        UNICODE_VERSION.
+        Raises OSError if a file cannot be read, FileNotFoundError with all places searched if no
+        folder has the files, and Fault if a file is not the one that Unicode published for the
+        version UNICODE_VERSION.
         """
         memory, place = _find() if folder is None else (_read_folder(folder, f"; {_calls.remedy_text()}"), os.path.abspath(folder))
         return cls._of(memory, _load_again, place, _digest_of(memory))
 
     @classmethod
     def from_files(cls, line_break: Name, east_asian: Name, category: Name, emoji: Name, *, strict: bool = True) -> Self:
-        """The table of four files of any origin, given by their names. Raises OSError where one
-        cannot be read, and Fault as `read` does."""
+        """Loads the table of any four files, given by their names. Raises OSError if one cannot be
+        read, and Fault as `read` does."""
         names = [os.fsdecode(name) for name in (line_break, east_asian, category, emoji)]
         try:
             return cls.read(*(Path(name).read_bytes() for name in names), strict=strict)
@@ -103,10 +103,10 @@ class Table:
 
     @classmethod
     def read(cls, line_break: Bytes, east_asian: Bytes, category: Bytes, emoji: Bytes, *, strict: bool = True) -> Self:
-        """The table of the contents of four files. Raises Fault at the first fault that they have,
-        and MemoryError where memory is refused. With `strict` a file that was cut is a fault
-        (CUT), too: its first line claims a name that Unicode published, as
-        `# LineBreak-15.0.0.txt`, and its last is not `# EOF`."""
+        """Makes the table of the contents of four files. Raises Fault for the first fault in them,
+        and MemoryError. With `strict`, also refuses a truncated file (CUT): its first line claims a
+        name that Unicode published, such as `# LineBreak-15.0.0.txt`, and its last is not
+        `# EOF`."""
         files = [_unchanging(one) for one in (line_break, east_asian, category, emoji)]
         cut = next((number for number, one in enumerate(files, 1) if _calls.is_cut(one)), None) if strict else None
         if cut is not None:
@@ -115,18 +115,17 @@ class Table:
 
     @classmethod
     def from_bytes(cls, data: Bytes) -> Self:
-        """The table of the bytes that `to_bytes` returned. Raises ValueError where they are no
-        whole table of this version."""
+        """Makes a table of the bytes that `to_bytes` returned. Raises ValueError if they are not an
+        intact table of this version."""
         memory = bytearray(_view(data))
         _check(memory, "the bytes")
         return cls._of(memory)
 
     @classmethod
     def open(cls, name: Name) -> Self:
-        """The table that `save` put into a file, which is mapped, so that the processes of a
-        machine share its memory.
+        """Maps a file that `save` wrote, so that the processes of a machine share its memory.
 
-        Raises OSError where the file cannot be read, and ValueError where it is no whole table of
+        Raises OSError if the file cannot be read, and ValueError if it is not an intact table of
         this version.
         """
         path = os.path.abspath(os.fsdecode(name))
@@ -142,13 +141,13 @@ class Table:
         return bytes(self._memory)
 
     def pack(self) -> bytes:
-        """The table in a packed form of a few kilobytes, for `unpack`: the same on every
+        """The table in a packed form of a few kilobytes, for `unpack`. It is the same on every
         machine."""
         return _calls.pack(self._memory)
 
     @classmethod
     def unpack(cls, data: Bytes) -> Self:
-        """The table that `pack` packed. Raises ValueError where the bytes are no packed table of
+        """Unpacks the result of `pack`. Raises ValueError if the bytes are not a packed table of
         this version."""
         memory = bytearray(_calls.TABLE_SIZE)
         cause = _calls.unpack(memory, _unchanging(data))
@@ -157,23 +156,22 @@ class Table:
         return cls._of(memory)
 
     def save(self, name: Name) -> None:
-        """Puts the table into a file, for `open`. A file of this name is replaced in one step."""
+        """Saves the table to a file, for `open`. A file of this name is replaced atomically."""
         path = Path(os.fsdecode(name))
-        beside = path.with_name(f"{path.name}.{os.getpid()}.new")
+        new = path.with_name(f"{path.name}.{os.getpid()}.new")
         try:
-            beside.write_bytes(self._memory)
-            beside.replace(path)
+            new.write_bytes(self._memory)
+            new.replace(path)
         finally:
-            beside.unlink(missing_ok=True)
+            new.unlink(missing_ok=True)
 
     def breaks(self, text: Text, profile: int = 1) -> Iterator[Break]:
-        """The breaks of a text, in their order. The last one of a text that is not empty is its
-        end."""
+        """The breaks of a text, in order. The last break of a text that is not empty is its end."""
         return _calls.Found.of(self._memory, text, profile, _calls.BREAKS)
 
     def positions(self, text: Text, profile: int = 1) -> Iterator[Break]:
-        """All positions of a text, in their order: one before each character and one at the end,
-        each with the rule that decided. The kind of those that are no break is NO."""
+        """All positions of a text, in order: one before each character and one at the end, each
+        with the rule that decided. Positions without a break have the kind NO."""
         return _calls.Found.of(self._memory, text, profile, _calls.POSITIONS)
 
     @overload
@@ -185,40 +183,41 @@ class Table:
         return _calls.Found.of(self._memory, text, profile, _calls.SEGMENTS)
 
     def break_columns(self, text: Text, profile: int = 1, *, goes_on: bool = False, start: int = 0) -> Columns:
-        """All breaks of a text, in columns. Where it is a part of a text that goes on, its end is
-        one only if a line must end there whatever follows but LF after CR, and by LB4 or LB5.
-        `start` is where the part starts in that text, and is added to each place."""
+        """All breaks of a text, in columns. For a part of a text that goes on, pass `goes_on`: its
+        end is then a break only if a line must end there whatever follows, by LB4 or LB5 (not after
+        a CR, which LF may follow). `start`, the part's start in that text, is added to each
+        offset."""
         places, kinds, rules = _calls.columns(self._memory, text, profile, goes_on, start)
         return _new(Columns, (memoryview(places).cast("q"), kinds, rules))
 
     def break_list_columns(self, texts: Iterable[Text], profile: int = 1) -> ListColumns:
-        """All breaks of each of many texts, in columns."""
+        """All breaks of many texts, in columns."""
         if isinstance(texts, (str, bytes, bytearray, memoryview)):
             raise TypeError(f"many texts are expected, and not one {type(texts).__name__}")
         offsets, places, kinds, rules = _calls.list_columns(self._memory, texts, profile)
         return ListColumns(memoryview(offsets).cast("q"), memoryview(places).cast("q"), kinds, rules)
 
     def cut(self, text: Text, at: int) -> int:
-        """The first place at or after `at` where a part of the text may begin: one before which a
-        line must end, or the text's end where there is none.
+        """The first offset at or after `at` where a part of the text may begin: one with a required
+        break, or the text's end if there is none.
 
-        The breaks of the parts, each with its `start`, and with `goes_on` for all but the last, are
-        those of the text (`break_columns`). ValueError comes for a negative place.
+        The breaks of the parts are those of the text, if `break_columns` gets the `start` of each
+        part, and `goes_on` for each except the last. Raises ValueError for a negative offset.
         """
         return _calls.cut(self._memory, text, at)
 
     def cut_before(self, text: Text, at: int) -> int:
-        """The last such place at or before `at`: no break after it depends on the text before it."""
+        """The last such offset at or before `at`: no break after it depends on the text before it."""
         return _calls.cut_before(self._memory, text, at)
 
     def safe_break(self, text: Text, profile: int = 1) -> int:
-        """The last break before the end of a text after which the breaks are those of the text that
-        begins there; 0 where there is none. It goes over the last line of the text."""
+        """An offset before the end of a text such that the breaks after it are those of the text
+        that begins there; 0 if there is none. It reads the last paragraph of the text."""
         return _calls.safe_break(self._memory, text, profile)
 
     def class_of(self, character: str | int) -> str:
-        """The line breaking class of a character or a code point, as "AL", once LB1 has resolved
-        it; "" for a surrogate. Raises ValueError for a number that is no code point."""
+        """The line breaking class of a character or a code point as LB1 resolves it, such as "AL";
+        "" for a surrogate. Raises ValueError for a number that is not a code point."""
         code = ord(character) if isinstance(character, str) else character
         if not 0 <= code <= sys.maxunicode:
             raise ValueError(f"a code point is 0 to 0x10FFFF, and not {code}")
@@ -233,12 +232,12 @@ class Table:
     @staticmethod
     def words(text: Any) -> Iterator[Any]:
         """The words of a text (UAX #29): each part between neighbouring word boundaries that has a
-        letter or a number. Slices of a `str`, or `bytes`. No table decides these."""
+        letter or a number. Slices of a `str`, or `bytes`. They need no table."""
         return _calls.Found.of(None, text, 1, _calls.WORDS)
 
     @staticmethod
     def word_ranges(text: Text) -> Iterator[tuple[int, int]]:
-        """Where each word starts and ends, not counting its end."""
+        """The start and the end of each word, as offsets."""
         return _calls.Found.of(None, text, 1, _calls.WORD_RANGES)
 
     @overload
@@ -249,17 +248,17 @@ class Table:
         """The text cut after each break of the kind MUST, each passage with its segments and
         words."""
         breaks = self.breaks(text, profile)
-        # These give a str or bytes as their slices.
+        # Slices of these types are str or bytes.
         return Passages(breaks, text if isinstance(text, (str, bytes, mmap.mmap)) else bytes(text))
 
     @staticmethod
     def word_columns(text: Text) -> WordColumns:
-        """Where each word starts and ends, as `word_ranges` has it, in columns."""
+        """The start and the end of each word, in columns."""
         starts, ends = _calls.word_columns(text)
         return WordColumns(memoryview(starts).cast("q"), memoryview(ends).cast("q"))
 
     def passage_columns(self, text: Text, profile: int = 1) -> PassageColumns:
-        """The passages, their segments and their words, as `passages` has them, in columns."""
+        """The passages, their segments and their words, in columns."""
         columns = _calls.passage_columns(self._memory, text, profile)
         return PassageColumns(*(memoryview(one).cast("q") for one in columns))
 
@@ -277,16 +276,16 @@ class Table:
         self, text: Any, most: int = 500, words: "int | None" = None, least: "int | None" = None, overlap: int = 0, *,
         unit: Unit = None, profile: int = 1,
     ) -> Iterator[Any]:
-        """The text cut for search and retrieval, never within a word (UAX #29) or where a line may
-        not break. Without overlap the chunks joined are the text.
+        """The text cut for search and retrieval, always at a break outside words (UAX #29). Without
+        overlap the chunks, joined, are the text.
 
-        A chunk has at most `most` code points of a `str` or bytes of bytes, and `words` words. It
-        ends early at the last place where a line must end, if it has `least` (half of `most` unless
-        given) up to there that no chunk before it has. The next one begins with at most `overlap`
-        of it, and at most half of it. What can be cut nowhere within the limits is a chunk of its
-        own, `alone`. With `unit="bytes"` the limits count bytes of UTF-8 of a `str`, too; places do
-        not. Raises ValueError for limits that are out of range: `most` is 1 or more, `words`, too,
-        `least` at most `most`, and `overlap` at most half of it.
+        A chunk has at most `most` code points of a `str`, or bytes of bytes, and at most `words`
+        words. It ends early, at its last required break, if at least `least` of it up to there
+        (half of `most` by default) is in no earlier chunk. The next chunk repeats at most `overlap`
+        of it, and at most half of it. Text without a cut within the limits is a chunk that exceeds
+        them, with `alone`. With `unit="bytes"` the limits count UTF-8 bytes of a `str`, too; its
+        offsets do not. Raises ValueError for limits that are out of range: `most` and `words` have
+        to be 1 or more, `least` at most `most`, and `overlap` at most half of it.
         """
         columns = self.chunk_columns(text, most, words, least, overlap, unit=unit, profile=profile)
         return Chunks(columns, text)
@@ -295,7 +294,7 @@ class Table:
         self, text: Text, most: int = 500, words: "int | None" = None, least: "int | None" = None, overlap: int = 0, *,
         unit: Unit = None, profile: int = 1,
     ) -> ChunkColumns:
-        """The chunks, as `chunks` has them, in columns."""
+        """The chunks of `chunks`, in columns."""
         limits = limits_of(most, words, least, overlap)
         starts, ends, counts, *others = _calls.chunk_columns(self._memory, text, profile, *limits, is_in_bytes(unit))
         places = memoryview(starts).cast("q"), memoryview(ends).cast("q")
@@ -372,7 +371,7 @@ def _first_found() -> tuple[bytearray, str]:
 
 
 def _load_again(folder: str, digest: str) -> Table:
-    """The table that was pickled as these. A process that takes many makes it once."""
+    """Unpickles a table of a folder. A process that unpickles many makes it once."""
     changed = ValueError(f"the files in {folder} give another table than the one that was pickled")
     try:
         memory = _read_again(*_database.contents(folder))

@@ -4,18 +4,18 @@
     >>> table = lbk.dask.share(lbk.Table.load("/usr/share/unicode"), "/shared/lbk.table")
     >>> lbk.dask.save(lbk.dask.read_columns("/shared/corpus/*.txt", table), "/shared/breaks").compute()
 
-Each file is a text. It is cut into parts where a line must end (`Table.cut`), and each task gets the
-name and the range of a part, reads it by itself, and keeps its result where it is made: to move
-texts or breaks costs more than to find them. Tables go by the names of their files, and each
-process maps them once. Tasks are pure: one that runs again, since its worker died, gives and saves
-the same once more, under the same name.
+Each file is a text. It is cut into parts at required breaks (`Table.cut`). Each task gets the name
+and the range of a part, reads the part itself, and keeps the result where it is, because moving
+texts or breaks costs more than finding them. Tables are passed as file names, and each process maps
+them once. Tasks are pure: if one runs again because its worker died, it returns and saves the same
+result under the same name.
 
 The breaks of all parts of a file, joined, are those of the file: each task says whether the file
 goes on after its part (`goes_on` of `Table.break_columns`). That is the law of joined texts
 (`joined_parts`), proved for any number of parts of any bytes.
 """
 
-# What these need has types in some of its versions.
+# Only some versions of the imported packages have types.
 # mypy: disable-error-code="import", allow-subclassing-any, allow-untyped-calls
 
 import os
@@ -41,22 +41,22 @@ __all__ = [
 
 Faults = Literal["raise", "keep"]
 
-# The tables that this process has mapped, and where it has those that `broadcast` sent.
+# The tables that this process has mapped, and the files of those that `broadcast` sent.
 _tables: dict[str, Table] = {}
 _broadcast: dict[str, str] = {}
 
 
 def share(table: Table, name: Name) -> str:
-    """Saves a table into a file that all workers can read, and returns its name for the calls
-    here."""
+    """Saves a table to a file that all workers can read, and returns the name to pass to the other
+    calls."""
     path = os.path.abspath(os.fsdecode(name))
     table.save(path)
     return path
 
 
 def broadcast(client: Any, table: Table) -> str:
-    """Sends a table once to each worker of a cluster whose machines share no folder, also to those
-    that come later. Each saves and maps it. Returns a name for the calls here."""
+    """Sends a table once to each worker of a cluster without a shared folder, also to workers that
+    join later. Each saves and maps it. Returns the name to pass to the other calls."""
     from distributed import WorkerPlugin
 
     class Receive(WorkerPlugin):
@@ -64,7 +64,7 @@ def broadcast(client: Any, table: Table) -> str:
             self.name, self.data = name, data
 
         def setup(self, worker: Any) -> None:
-            # (by its name, since this class is sent without the module)
+            # (imported by name, because this class is sent without the module)
             from lbk import Table, dask
 
             path = Path(worker.local_directory, f"{self.name}-{os.getpid()}")
@@ -80,7 +80,7 @@ def broadcast(client: Any, table: Table) -> str:
 
 
 def _broadcast_here(name: str, table: Table) -> None:
-    """The process that sends it cuts files by it."""
+    """Keeps the table in the sending process, which cuts files with it."""
     _tables[name] = table
 
 
@@ -106,17 +106,15 @@ def read_text(
     compression: "str | None" = "infer",
     storage_options: "dict[str, Any] | None" = None,
 ) -> Bag:
-    """A bag of the paragraphs of files, as str: the text up to each place where a line must end,
-    its line end with it. Joined they are the texts.
+    """A bag of the paragraphs of files, as str, each with its line end. Joined, they are the texts.
 
-    `paths` are a name, a pattern or a list, with a protocol or without, as fsspec has them. A part
-    has `blocksize` bytes and what is left of the paragraph there; with None, and where a file is
-    compressed, it is a whole file. Ill-formed bytes are read as U+FFFD, or are a fault where
-    `errors` is "strict".
+    `paths` is a name, a pattern or a list, with or without a protocol of fsspec. A part has
+    `blocksize` bytes and the rest of the paragraph there; with None, and for a compressed file, it
+    is the whole file. Ill-formed bytes are read as U+FFFD, or are a fault with `errors="strict"`.
 
-    TextFault names a file and its byte: one that cannot be read, is not as it was when it was cut,
-    or is ill-formed. The task with it raises it, or where `on_fault` is "keep" the bag has the
-    fault in the part's place, the calls here hand it on, and `faults` finds it.
+    A TextFault names the file and the byte, if a file cannot be read, changed since it was cut, or
+    is ill-formed. The task raises it. With `on_fault="keep"` the bag has the fault in place of the
+    part; the other calls pass it on, and `faults` finds it.
     """
     parts = _plan(paths, table, blocksize, compression, storage_options)
     return _bag_of(parts, _paragraphs, _name_of(table), errors, on_fault)
@@ -133,17 +131,17 @@ def read_columns(
     compression: "str | None" = "infer",
     storage_options: "dict[str, Any] | None" = None,
 ) -> Bag:
-    """A bag with the PartColumns of each part of files: all breaks, with their places in bytes of
-    the file. All else is as read_text has it."""
+    """A bag with the PartColumns of each part of the files: all breaks, with their byte offsets in
+    the file. Otherwise it behaves like read_text."""
     _check_profile(profile)
     parts = _plan(paths, table, blocksize, compression, storage_options)
     return _bag_of(parts, _part_columns, _name_of(table), profile, errors, on_fault)
 
 
 def breaks(texts: Any, table: Name, profile: int = 1) -> Any:
-    """The breaks of each text: of a bag a bag of Columns, of a dataframe's column a dataframe with
-    `places`, `kinds` and `rules`. These are numpy arrays, and the places of a str count its code
-    points. Each item is a text by itself, so its end is LB3. None stays None."""
+    """The breaks of each text: a bag of Columns for a bag, or a dataframe with `places`, `kinds` and
+    `rules` for a dataframe's column. These are numpy arrays; offsets of a str count code points.
+    Each item is a separate text, so its end is a break by LB3. None stays None."""
     _check_profile(profile)
     name = _name_of(table)
     if isinstance(texts, Bag):
@@ -152,14 +150,14 @@ def breaks(texts: Any, table: Name, profile: int = 1) -> Any:
 
 
 def segments(texts: Any, table: Name, profile: int = 1) -> Any:
-    """The segments of each text, as a list: of a bag a bag, of a dataframe's column a column."""
+    """The segments of each text, as a list: a bag for a bag, a column for a dataframe's column."""
     _check_profile(profile)
     return _lists(texts, _all_segments, _name_of(table), profile)
 
 
 def words(texts: Any) -> Any:
-    """The words of each text (UAX #29), as a list: of a bag a bag, of a dataframe's column a
-    column. Those of a paragraph are what `Table.passages` has."""
+    """The words of each text (UAX #29), as a list: a bag for a bag, a column for a dataframe's
+    column. For a paragraph they are those of `Table.passages`."""
     return _lists(texts, _all_words, None, 1)
 
 
@@ -167,12 +165,12 @@ def chunks(
     texts: Any, table: Name, most: int = 500, words: "int | None" = None, least: "int | None" = None, overlap: int = 0, *,
     unit: Unit = None, profile: int = 1,
 ) -> Any:
-    """The chunks of each text, by limits as `Table.chunks` has them.
+    """The chunks of each text, with the limits of `Table.chunks`.
 
-    Of a bag a bag with a dict for each chunk: `start`, `end`, `words` and `text`. Where an item of
-    the bag is a dict that has its text at "text", what else it has is in each of its chunks, too.
-    Of a dataframe's column a dataframe with a row for each chunk, whose index is that of its text.
-    None has no chunk.
+    For a bag returns a bag with a dict for each chunk: `start`, `end`, `words` and `text`. If an
+    item of the bag is a dict with its text at "text", its other entries are copied to each of its
+    chunks. For a dataframe's column returns a dataframe with a row for each chunk, with the index
+    of its text. None has no chunk.
     """
     _check_profile(profile)
     asked = (limits_of(most, words, least, overlap), unit, profile)
@@ -190,13 +188,13 @@ def faults(bag: Bag) -> Bag:
 
 
 def save(bag: Bag, folder: Name, format: "Format | None" = None) -> Bag:
-    """Saves each partition into a file of a folder, and gives a bag with a Saved for each.
+    """Saves each partition to a file in a folder, and returns a bag with a Saved for each.
 
-    `format` is "parquet", "npz" or "jsonl". Left out it is "parquet" where pyarrow is there, else
-    "npz" for columns and "jsonl" for others. In the first two the items of a partition stand in
-    columns, those of a list at `offsets[k]` to `offsets[k + 1]`. Kept faults are written to a file
-    of their own, in lines of JSON. A file has the partition's number, and comes whole or not at
-    all.
+    `format` is "parquet", "npz" or "jsonl". The default is "parquet" if pyarrow is installed, else
+    "npz" for columns and "jsonl" for other items. The first two formats store the items of a
+    partition as columns, those of a list at `offsets[k]` up to `offsets[k + 1]`. Kept faults go to
+    a separate file of JSON lines. A file has the partition's number in its name, and is written
+    completely or not at all.
     """
     if format not in (None, "parquet", "npz", "jsonl"):
         raise ValueError(f"the format is parquet, npz or jsonl, and not {format!r}")
@@ -221,8 +219,8 @@ def _plan(paths: Any, table: Name, blocksize: Any, compression: Any, storage_opt
 
 
 def _bag_of(parts: list[Part], call: Any, *arguments: Any) -> Bag:
-    """A bag with a partition for each part, and one task for each partition: parts that came from
-    tasks of their own would cost the workers a question to the scheduler more."""
+    """A bag with one partition and one task for each part. If separate tasks made the parts, workers
+    would have to ask the scheduler once more for each."""
     name = f"lbk{call.__name__}-{tokenize(parts, *arguments)}"
     tasks = {(name, k): (call, part, *arguments) for k, part in enumerate(parts)}
     return Bag(HighLevelGraph.from_collections(name, tasks), name, len(parts))
@@ -250,12 +248,12 @@ def _is_fault(item: Any) -> bool:
 
 
 def _is_text(item: Any) -> bool:
-    """Whether it is none of a fault, None, or what pandas has for a missing value."""
+    """Whether it is a text: not a fault, not None, and not a missing value of pandas."""
     return not _is_fault(item) and item is not None and item == item and type(item).__name__ != "NAType"
 
 
 def _map_texts(items: Iterable[Any], call: Any, table: "str | None", profile: int) -> list[Any]:
-    """What a call finds in each text. Faults stay, and None does."""
+    """The results of a call for each text. Faults and None stay as they are."""
     items = list(items)
     found = iter(call([item for item in items if _is_text(item)], None if table is None else _open(table), profile))
     return [next(found) if _is_text(item) else item if _is_fault(item) else None for item in items]
@@ -305,7 +303,7 @@ def _breaks_frame(texts: Any, table: str, profile: int) -> Any:
     return pd.DataFrame([one or none for one in found], index=texts.index, columns=Columns._fields, dtype=object)
 
 
-# The limits, in what they count, and the profile.
+# The limits, their unit, and the profile.
 _Asked = tuple[Limits, Unit, int]
 
 _CHUNK_TYPES = {"start": "int64", "end": "int64", "words": "int64", "text": object}
