@@ -1,6 +1,6 @@
 #include "arguments.h"
 
-/* Up to so many bytes the interpreter's lock is kept: to release it and to wait for it again
+/* Texts of up to this many bytes keep the interpreter's lock: releasing it and waiting for it again
  * would cost more. */
 enum { LOCKED_BYTES = 4096 };
 
@@ -12,8 +12,8 @@ bool has_arguments(Py_ssize_t given, Py_ssize_t wanted)
     return false;
 }
 
-/* Writes U+FFFD over the surrogates in the bytes of an encoded str, which has each as ED, A0 to
- * BF, and a third byte. */
+/* Overwrites the surrogates in the bytes of an encoded str (ED, A0 to BF, and a third byte) with
+ * U+FFFD. */
 static void replace_surrogates(char *bytes, Py_ssize_t size)
 {
     for (Py_ssize_t at = 0; at + 2 < size; at++)
@@ -36,7 +36,7 @@ static PyObject *encoded(PyObject *text)
     return bytes;
 }
 
-/* A long str that is ASCII is its own UTF-8, and is not copied. */
+/* A long ASCII str is its own UTF-8, and is not copied. */
 static bool is_long_ascii(PyObject *text)
 {
     if (PyUnicode_GetLength(text) <= LOCKED_BYTES)
@@ -98,7 +98,7 @@ bool hold_bytes(PyObject *owner, utf8_text *text, Py_buffer *view)
         return text->bytes != NULL;
     }
     if (PyBytes_Check(owner)) {
-        /* The caller has a reference, and bytes stay where they are. */
+        /* The caller has a reference, and bytes objects do not move. */
         text->bytes = PyBytes_AsString(owner);
         text->size = (size_t)PyBytes_Size(owner);
         return true;

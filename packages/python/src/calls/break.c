@@ -48,7 +48,7 @@ static PyObject *get_at(PyObject *self, void *Py_UNUSED(closure))
     return PyLong_FromSize_t(found_in(self)->at);
 }
 
-/* What stands for a number; the number itself where the module is being taken down. */
+/* The member for a number; the number itself while the module is being destroyed. */
 static PyObject *name_of(PyObject *names, uint8_t number)
 {
     return names == NULL ? PyLong_FromLong(number) : Py_XNewRef(PyTuple_GetItem(names, number));
@@ -113,7 +113,7 @@ static PyObject *item(PyObject *self, Py_ssize_t index)
     return one;
 }
 
-/* Below 0, 0 or above 0: by place, then by kind, then by rule. */
+/* Negative, 0 or positive: by offset, then by kind, then by rule. */
 static int order(const lbk_break *one, const lbk_break *two)
 {
     if (one->at != two->at)

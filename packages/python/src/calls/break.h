@@ -10,7 +10,7 @@
 /* A new type, or NULL, with an exception set. */
 PyObject *new_break_type(PyObject *module);
 
-/* A new object of the type. Returns NULL, with an exception set, where memory is refused. */
+/* A new object of the type. Returns NULL, with an exception set, if an allocation fails. */
 PyObject *new_break(PyTypeObject *type, const lbk_break *one);
 
 #endif

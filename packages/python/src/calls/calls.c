@@ -1,4 +1,4 @@
-/* The calls of lbk.h for the Python modules beside it, which check what they pass on. */
+/* The calls of lbk.h for the package's Python modules, which check their arguments. */
 #include "arguments.h"
 #include "break.h"
 #include "chunks.h"
@@ -10,8 +10,8 @@
 #include "stream.h"
 #include "words.h"
 
-/* read(table, line_break, east_asian, category, emoji, are_published): fills a writable table,
- * of the files that Unicode published or of any, and returns (file, line, cause). */
+/* read(table, line_break, east_asian, category, emoji, are_published): fills a writable table from
+ * any files, or only from those that Unicode published, and returns (file, line, cause). */
 static PyObject *read_files(PyObject *Py_UNUSED(module), PyObject *const *given, Py_ssize_t count)
 {
     enum { FILES = 4 };
@@ -39,7 +39,7 @@ static PyObject *read_files(PyObject *Py_UNUSED(module), PyObject *const *given,
     return held < FILES ? NULL : Py_BuildValue("III", fault.file, fault.line, fault.cause);
 }
 
-/* check(table): whether it is whole. */
+/* check(table): whether it is intact. */
 static PyObject *check(PyObject *Py_UNUSED(module), PyObject *memory)
 {
     Py_buffer view;
@@ -53,7 +53,7 @@ static PyObject *check(PyObject *Py_UNUSED(module), PyObject *memory)
     return PyBool_FromLong(whole);
 }
 
-/* is_cut(file): whether its first line claims a published name, and its last is not the end. */
+/* is_cut(file): whether its first line claims a published name, and its last is not `# EOF`. */
 static PyObject *is_cut(PyObject *Py_UNUSED(module), PyObject *file)
 {
     Py_buffer view;
@@ -65,7 +65,7 @@ static PyObject *is_cut(PyObject *Py_UNUSED(module), PyObject *file)
     return PyBool_FromLong(found);
 }
 
-/* claim_text(file, contents): what the file is that is not the published one, by its number in a fault. */
+/* claim_text(file, contents): describes a file that is not the published one; `file` is its number in a fault. */
 static PyObject *claim_text(PyObject *Py_UNUSED(module), PyObject *const *given, Py_ssize_t count)
 {
     Py_buffer view;
@@ -80,7 +80,7 @@ static PyObject *claim_text(PyObject *Py_UNUSED(module), PyObject *const *given,
     return PyUnicode_FromString(text.text);
 }
 
-/* remedy_text(): where the published files are. */
+/* remedy_text(): where to get the published files. */
 static PyObject *remedy_text(PyObject *Py_UNUSED(module), PyObject *Py_UNUSED(none))
 {
     return PyUnicode_FromString(lbk_remedy_text().text);
@@ -95,7 +95,7 @@ static PyObject *label(PyObject *Py_UNUSED(module), PyObject *rule)
     return PyUnicode_FromString(number > UINT8_MAX ? "" : lbk_label((uint8_t)number).text);
 }
 
-/* rule_text(rule): what it says in English, or an empty str. */
+/* rule_text(rule): what it says, in English, or an empty str. */
 static PyObject *rule_text(PyObject *Py_UNUSED(module), PyObject *rule)
 {
     unsigned long number = PyLong_AsUnsignedLong(rule);
@@ -119,7 +119,7 @@ static PyObject *pack(PyObject *Py_UNUSED(module), PyObject *memory)
     return packed;
 }
 
-/* unpack(table, data): fills a writable table of its packed form, and returns a cause. */
+/* unpack(table, data): fills a writable table from its packed form, and returns a cause. */
 static PyObject *unpack(PyObject *Py_UNUSED(module), PyObject *const *given, Py_ssize_t count)
 {
     Py_buffer table_view, view;
@@ -141,7 +141,7 @@ static PyObject *unpack(PyObject *Py_UNUSED(module), PyObject *const *given, Py_
     return is_held ? PyLong_FromUnsignedLong(cause) : NULL;
 }
 
-/* cause_text(cause): what it says in English, or an empty str. */
+/* cause_text(cause): what it means, in English, or an empty str. */
 static PyObject *cause_text(PyObject *Py_UNUSED(module), PyObject *cause)
 {
     unsigned long number = PyLong_AsUnsignedLong(cause);
@@ -176,14 +176,14 @@ static PyObject *class_of(PyObject *Py_UNUSED(module), PyObject *const *given, P
     return PyUnicode_FromString(name.text);
 }
 
-/* A place of a text that a call finds: one of these, from `at` on; or without a call the last safe break, by a profile. */
+/* A call that finds an offset in a text, from `at` on; or none for the last safe break, in a profile. */
 typedef struct {
     cut_call *call;
     size_t at;
     uint8_t profile;
 } place_asked;
 
-/* The place that is asked for of (table, text, ..). */
+/* The offset that such a call finds, for the arguments (table, text, ..). */
 static PyObject *place_by(place_asked asked, PyObject *const *given)
 {
     Py_buffer table_view, text_view;
@@ -208,7 +208,7 @@ static PyObject *place_by(place_asked asked, PyObject *const *given)
     return is_found ? PyLong_FromSize_t(place) : NULL;
 }
 
-/* Where a text may be cut, by one of the calls that say so: (table, text, at). */
+/* Where a text may be cut, by lbk_cut or lbk_cut_before: (table, text, at). */
 static PyObject *cut_by(cut_call *call, PyObject *const *given, Py_ssize_t count)
 {
     if (!has_arguments(count, 3))
@@ -219,7 +219,7 @@ static PyObject *cut_by(cut_call *call, PyObject *const *given, Py_ssize_t count
     return place_by((place_asked){.call = call, .at = (size_t)at}, given);
 }
 
-/* safe_break(table, text, profile): the last break before the end after which the breaks are those of the text from there on. */
+/* safe_break(table, text, profile): an offset after which the breaks are those of the text from there on. */
 static PyObject *safe_break(PyObject *Py_UNUSED(module), PyObject *const *given, Py_ssize_t count)
 {
     cursor start;
@@ -228,19 +228,19 @@ static PyObject *safe_break(PyObject *Py_UNUSED(module), PyObject *const *given,
     return place_by((place_asked){.profile = start.state.profile}, given);
 }
 
-/* cut(table, text, at): the first place at or after it where a part may begin. */
+/* cut(table, text, at): the first offset at or after it where a part may begin. */
 static PyObject *cut(PyObject *Py_UNUSED(module), PyObject *const *given, Py_ssize_t count)
 {
     return cut_by(lbk_cut, given, count);
 }
 
-/* cut_before(table, text, at): the last such place at or before it. */
+/* cut_before(table, text, at): the last such offset at or before it. */
 static PyObject *cut_before(PyObject *Py_UNUSED(module), PyObject *const *given, Py_ssize_t count)
 {
     return cut_by(lbk_cut_before, given, count);
 }
 
-/* name_numbers(kinds, rules): for each number of a byte what stands for it in a Break. */
+/* name_numbers(kinds, rules): sets the member that a Break has for each number from 0 to 255. */
 static PyObject *name_numbers(PyObject *module, PyObject *const *given, Py_ssize_t count)
 {
     module_state *state = PyModule_GetState(module);
@@ -282,7 +282,7 @@ static PyMethodDef methods[] = {
     {NULL, NULL, 0, NULL},
 };
 
-/* The constants of lbk.h, whose names setup.py takes from there. */
+/* The constants of lbk.h; setup.py takes their names from there. */
 static const struct {
     const char *name;
     long value;
@@ -290,8 +290,7 @@ static const struct {
 #include "constants.inc"
 };
 
-/* Whether the processor has what the library's code is made of. Sets an ImportError where it has
- * not. */
+/* Whether the processor has the instructions that the library uses. Sets an ImportError if not. */
 static bool has_processor(void)
 {
 #if defined(__x86_64__)

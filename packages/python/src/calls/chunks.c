@@ -8,13 +8,13 @@
 
 enum { FIRST_ROOM = 64, NUMBERS = 3, COLUMNS = 6 };
 
-/* Chunks that were found, in memory that grows without the interpreter's lock. */
+/* A growing array of chunks; it can grow without the interpreter's lock. */
 typedef struct {
     lbk_chunk *items;
     size_t count, room;
 } chunk_list;
 
-/* What is asked for. */
+/* The arguments of a call. */
 typedef struct {
     const lbk_table *table;
     utf8_text text;
@@ -34,7 +34,7 @@ static bool grow(chunk_list *found)
     return true;
 }
 
-/* Adds the chunks of a text whose limits count bytes. Returns false where memory is refused. */
+/* Adds the chunks of a text, with limits in bytes. Returns false if an allocation fails. */
 static bool add_by_bytes(const request *asked, chunk_list *found)
 {
     const utf8_text *text = &asked->text;
@@ -56,7 +56,7 @@ static bool add_by_bytes(const request *asked, chunk_list *found)
     return true;
 }
 
-/* Where a chunk starts, how many words are before that, and where the one before it ended. */
+/* Where a chunk starts, how many words come before it, and where the previous chunk ended. */
 typedef struct {
     size_t start, words, told;
 } here;
@@ -66,7 +66,7 @@ static bool fits(const lbk_limits *limits, size_t start, size_t words, const cut
     return end->at - start <= limits->most && (limits->words == 0 || end->words - words <= limits->words);
 }
 
-/* Which of the cuts ends the chunk, if those from the first on are ahead. */
+/* The index of the cut that ends the chunk, among the cuts from index `first` on. */
 static size_t end_of(cut_queue *cuts, const lbk_limits *limits, const here *at, size_t first)
 {
     size_t k = first, early = first;
@@ -82,8 +82,8 @@ static size_t end_of(cut_queue *cuts, const lbk_limits *limits, const here *at, 
     return it != NULL && is_early ? early : k - 1;
 }
 
-/* At which of the cuts the next chunk starts. */
-static size_t start_behind(cut_queue *cuts, const lbk_limits *limits, const here *at, size_t end)
+/* The index of the cut at which the next chunk starts. */
+static size_t start_after(cut_queue *cuts, const lbk_limits *limits, const here *at, size_t end)
 {
     const cut *next = limits->overlap == 0 ? NULL : cut_at(cuts, end + 1), *last = cut_at(cuts, end);
     for (size_t k = 0; next != NULL && k < end; k++) {
@@ -95,8 +95,8 @@ static size_t start_behind(cut_queue *cuts, const lbk_limits *limits, const here
     return end;
 }
 
-/* Adds the chunks of a text whose limits count code points, as lbk_chunks does by bytes, of the same cuts. Returns false where
- * memory is refused. */
+/* Adds the chunks of a text, with limits in code points: as lbk_chunks does for bytes, with the same cuts. Returns false where
+ * an allocation fails. */
 static bool add_by_points(const request *asked, chunk_list *found)
 {
     const lbk_limits *limits = &asked->limits;
@@ -104,7 +104,7 @@ static bool add_by_points(const request *asked, chunk_list *found)
     here at = {0, 0, 0};
     size_t first = 0;
     while (cut_at(&cuts, first) != NULL && (found->count < found->room || grow(found))) {
-        size_t end = end_of(&cuts, limits, &at, first), next = start_behind(&cuts, limits, &at, end);
+        size_t end = end_of(&cuts, limits, &at, first), next = start_after(&cuts, limits, &at, end);
         if (cuts.is_refused)
             break;
         cut last = *cut_at(&cuts, end), from = *cut_at(&cuts, next);
@@ -154,7 +154,7 @@ static PyObject *tuple_of(const chunk_list *found)
     return made;
 }
 
-/* The chunks that are asked for of (table, text, ..), as columns. */
+/* The chunks for the arguments (table, text, ..), as columns. */
 static PyObject *columns_of(request *asked, PyObject *owner)
 {
     Py_buffer text_view;

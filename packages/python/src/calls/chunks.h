@@ -4,9 +4,9 @@
 
 #include "arguments.h"
 
-/* chunk_columns(table, text, profile, most, words, least, overlap, in_bytes): bytearrays of where each chunk starts, where
- * it ends and how many words it has (8 bytes each), of kinds, of rules, and of 1 for those that stand alone. The limits
- * count bytes where `in_bytes` says so, and else the unit of the text. */
+/* chunk_columns(table, text, profile, most, words, least, overlap, in_bytes): bytearrays of starts, of ends
+ * and of numbers of words (8 bytes each), of kinds, of rules, and of 1 for each chunk that is alone. The limits count
+ * bytes if `in_bytes`, else the text's unit. */
 PyObject *chunk_columns(PyObject *module, PyObject *const *given, Py_ssize_t count);
 
 #endif

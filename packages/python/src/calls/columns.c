@@ -8,19 +8,18 @@
 #include <emmintrin.h>
 #endif
 
-/* How many breaks are asked for at once: FEW on the stack, or else MANY. From LARGE bytes on a
- * column is worth large pages. */
+/* How many breaks a call fetches: FEW on the stack, or else MANY. A column of LARGE bytes or more
+ * is worth large pages. */
 enum { FEW = 128, MANY = 8192, LARGE = 1 << 21, PAGE = 1 << 12 };
 
-/* The breaks of all texts: a column of places, one of kinds and one of rules, each in a
- * bytearray. */
+/* The breaks of all texts: a column of offsets, one of kinds and one of rules, each a bytearray. */
 typedef struct {
     PyObject *places, *kinds, *rules;
     size_t count, room;
 } columns;
 
-/* Texts whose breaks are asked for, and how far that came. `offsets[k]` is how many breaks the
- * texts before the k-th have. `before` is added to each place. */
+/* Texts to break, and the progress so far. `offsets[k]` is the number of breaks in the texts before
+ * the k-th. `before` is added to each offset. */
 typedef struct {
     const lbk_table *table;
     const utf8_text *texts;
@@ -32,8 +31,8 @@ typedef struct {
     columns found;
 } request;
 
-/* Gives the columns room for so many breaks. Returns false, with an exception set, where memory
- * is refused. */
+/* Makes room in the columns for so many breaks. Returns false, with an exception set, if an
+ * allocation fails. */
 static bool resize(columns *found, size_t room)
 {
     found->room = room;
@@ -42,8 +41,8 @@ static bool resize(columns *found, size_t room)
         && PyByteArray_Resize(found->rules, (Py_ssize_t)room) == 0;
 }
 
-/* An array of bytes that are not set. For a large one the system is asked for large pages: to
- * get small ones, one by one, takes a fifth of the whole call. */
+/* An uninitialized bytearray. For a large one it asks the system for large pages: getting small
+ * ones, one by one, takes a fifth of the whole call. */
 static PyObject *new_column(size_t size)
 {
     PyObject *made = PyByteArray_FromStringAndSize(NULL, (Py_ssize_t)size);
@@ -74,7 +73,7 @@ static void release(columns *found)
 
 enum { TOGETHER = 8 };
 
-/* Splits so many breaks, and adds `before` to the places. */
+/* Splits so many breaks into columns, and adds `before` to the offsets. */
 static void split_some(const lbk_break *block, int64_t before, int64_t *places, uint8_t *kinds, uint8_t *rules)
 {
 #if defined(__SSE2__)
@@ -85,7 +84,7 @@ static void split_some(const lbk_break *block, int64_t before, int64_t *places, 
         _mm_storeu_si128((__m128i *)&places[2 * k], _mm_add_epi64(_mm_unpacklo_epi64(one, two), moved));
         codes[k] = _mm_unpackhi_epi16(one, two);
     }
-    /* A number of 16 bits for each: its kind and its rule. */
+    /* A 16-bit number for each: its kind and its rule. */
     __m128i front = _mm_unpacklo_epi32(codes[0], codes[1]), back = _mm_unpacklo_epi32(codes[2], codes[3]);
     __m128i all = _mm_unpacklo_epi64(front, back), none = _mm_setzero_si128();
     _mm_storel_epi64((__m128i *)kinds, _mm_packus_epi16(_mm_and_si128(all, _mm_set1_epi16(0xff)), none));
@@ -112,9 +111,8 @@ static void split(const lbk_break *restrict block, size_t count, int64_t before,
     }
 }
 
-/* Puts breaks into the columns until these are full or no text is left. Returns whether no text
- * is left. It is called without the interpreter's lock, and touches no object but the memory of
- * the columns. */
+/* Writes breaks to the columns until these are full or no text is left. Returns whether no text is
+ * left. Called without the interpreter's lock: it touches only the memory of the columns. */
 static bool fill(request *request, int64_t *places, uint8_t *kinds, uint8_t *rules)
 {
     columns *found = &request->found;
@@ -134,8 +132,8 @@ static bool fill(request *request, int64_t *places, uint8_t *kinds, uint8_t *rul
     return true;
 }
 
-/* Finds the breaks of all texts, of so many bytes. Returns false, with an exception set, where
- * memory is refused. */
+/* Finds the breaks of all texts, which have so many bytes. Returns false, with an exception set, if
+ * an allocation fails. */
 static bool find(request *request, size_t bytes)
 {
     columns *found = &request->found;
@@ -161,7 +159,7 @@ static bool find_all(request *request)
     size_t bytes = 0;
     for (size_t k = 0; k < request->count; k++)
         bytes += request->texts[k].size;
-    /* Most texts have a break in three bytes or in more. Memory that is not used is given back. */
+    /* Most texts have at most one break per three bytes. Unused memory is freed. */
     if (!create(&request->found, bytes / 3 + request->count + 16))
         return false;
     request->room = request->found.room <= FEW ? FEW : MANY;
@@ -176,8 +174,8 @@ static bool find_all(request *request)
     return is_found;
 }
 
-/* A place that a text of any size may stand behind. Returns false, with an exception set, for
- * anything else. */
+/* Checks an offset to which the size of any text can be added. Returns false, with an exception set,
+ * for anything else. */
 static bool place_before(PyObject *given, int64_t *before)
 {
     *before = PyNumber_AsSsize_t(given, PyExc_OverflowError);
@@ -219,8 +217,8 @@ PyObject *text_columns(PyObject *Py_UNUSED(module), PyObject *const *given, Py_s
     return result;
 }
 
-/* Replaces the objects of a list by those that have their texts, each a str or a bytes object.
- * Returns false, with an exception set, where one is no text. */
+/* Replaces each object of a list by one that has its text: a str or a bytes object. Returns false,
+ * with an exception set, if one is not a text. */
 static bool own_all(PyObject *list, utf8_text *texts)
 {
     for (Py_ssize_t k = 0; k < PyList_Size(list); k++) {
@@ -248,7 +246,7 @@ PyObject *list_columns(PyObject *Py_UNUSED(module), PyObject *const *given, Py_s
     request request = {0};
     if (!has_arguments(count, 3) || !start_of_text(given[2], &request.start))
         return NULL;
-    /* A list of its own, which no other thread can reach. */
+    /* A new list, which no other thread can reach. */
     PyObject *list = PySequence_List(given[1]);
     if (list == NULL)
         return NULL;

@@ -3,13 +3,13 @@
 #include <stdlib.h>
 #include <string.h>
 
-/* So many cuts are read at once. */
+/* How many cuts are read at once. */
 enum { BLOCK = 64 };
 
-/* Limits of which each cut ends a chunk. */
+/* Limits with which each cut ends a chunk. */
 static const lbk_limits each_cut = {.most = 1, .words = 0, .least = 0, .overlap = 0};
 
-/* Makes room for a block. Returns false where memory is refused. */
+/* Makes room for a block. Returns false if an allocation fails. */
 static bool make_room(cut_queue *queue)
 {
     size_t held = queue->count - queue->first;

@@ -6,18 +6,18 @@
 
 #include <string.h>
 
-/* What is said to all but one of the threads that use an iterator at the same time. */
+/* The message for all but one of the threads that use an iterator at the same time. */
 #define SHARED "another thread uses this iterator at this time: give each thread one of its own"
 
-/* What comes, one at a time. The Python modules know these numbers by their names. */
+/* What an iterator returns. The Python modules use these numbers by their names. */
 enum { BREAKS, SEGMENTS, POSITIONS, WORDS, WORD_RANGES };
 
-/* So many are asked for at first, and each time so many times more, up to the most. So a short
- * text costs little, the first of a long one comes soon, and the interpreter's lock is seldom
- * waited for. */
+/* The size of the first block, by what each next one grows, and the largest. So a short text costs
+ * little, the first results of a long one come soon, and threads seldom wait for the interpreter's
+ * lock. */
 enum { FIRST_ROOM = 16, GROWTH = 16, MOST_ROOM = 16 * 16 * 16 * 16 };
 
-/* Both have 16 bytes, so that an array of these is one of either. */
+/* Both have 16 bytes, so that an array of these is an array of either. */
 typedef union {
     lbk_break a_break;
     lbk_word word;
@@ -68,8 +68,8 @@ static void dealloc(PyObject *self)
     Py_DECREF(type);
 }
 
-/* A larger block, up to the largest. Returns false, with an exception set, where memory is
- * refused. */
+/* Enlarges the block, up to the largest. Returns false, with an exception set, if an
+ * allocation fails. */
 static bool grow(found *at)
 {
     if (at->block == NULL) {
@@ -88,8 +88,8 @@ static bool grow(found *at)
     return true;
 }
 
-/* Asks for the next ones, over a text that is held. Returns false, with an exception set, where
- * the table is none. */
+/* Fetches the next ones, of a text that is held. Returns false, with an exception set, if the table
+ * is not one. */
 static bool ask(found *at, const utf8_text *text)
 {
     Py_buffer table_view = {0};
@@ -112,7 +112,7 @@ static bool ask(found *at, const utf8_text *text)
     return true;
 }
 
-/* Fills the block. Returns false, with an exception set, at an error. */
+/* Fills the block. Returns false, with an exception set, on error. */
 static bool refill(found *at)
 {
     utf8_text text = {.in_code_points = at->in_code_points};
@@ -132,7 +132,7 @@ static PyObject *slice(PyObject *source, size_t start, size_t end)
         return PyUnicode_Substring(source, (Py_ssize_t)start, (Py_ssize_t)end);
     if (!hold_bytes(source, &text, &view))
         return NULL;
-    /* A map of a file may have become shorter. */
+    /* A mapped file may have become shorter. */
     end = end < text.size ? end : text.size;
     start = start < end ? start : end;
     PyObject *made = PyBytes_FromStringAndSize(text.bytes + start, (Py_ssize_t)(end - start));
@@ -195,7 +195,7 @@ static PyObject *of(PyObject *type, PyObject *const *given, Py_ssize_t count)
     return (PyObject *)at;
 }
 
-/* __copy__: one that goes on from the same place. */
+/* __copy__: an iterator that continues from the same position. */
 static PyObject *copy(PyObject *self, PyObject *Py_UNUSED(none))
 {
     const found *at = (found *)self;
@@ -226,7 +226,7 @@ static PyObject *copy(PyObject *self, PyObject *Py_UNUSED(none))
     return (PyObject *)made;
 }
 
-/* __reduce__: pickled it is a list of what is left. */
+/* __reduce__: an iterator is pickled as a list of what is left. */
 static PyObject *reduce(PyObject *self, PyObject *Py_UNUSED(none))
 {
     PyObject *rest = copy(self, NULL);

@@ -4,7 +4,7 @@
 
 #include "arguments.h"
 
-/* A new type `Found`. Returns NULL, with an exception set, at an error. */
+/* A new type `Found`. Returns NULL, with an exception set, on error. */
 PyObject *new_found_type(PyObject *module);
 
 #endif

@@ -9,7 +9,7 @@ enum { BLOCK = 128, FIRST_ROOM = 256 };
 
 enum { SEGMENT_OFFSETS, PLACES, WORD_OFFSETS, STARTS, ENDS, COLUMNS };
 
-/* A column that grows without the interpreter's lock. */
+/* A column that can grow without the interpreter's lock. */
 typedef struct {
     int64_t *items;
     size_t count, room;
@@ -29,7 +29,7 @@ static bool push(numbers *column, size_t number)
     return true;
 }
 
-/* Adds the words of a passage, which is a text of its own, and where they stop. `before` is its place in the unit of the text. */
+/* Adds the words of a passage, as those of a separate text, and the end of their list. `before` is its offset in the text's unit. */
 static bool push_words(numbers *columns, const utf8_text *passage, size_t before)
 {
     lbk_word block[BLOCK];
@@ -45,11 +45,11 @@ static bool push_words(numbers *columns, const utf8_text *passage, size_t before
     return push(&columns[WORD_OFFSETS], columns[STARTS].count);
 }
 
-/* Fills the columns. Returns false where memory is refused. It is called without the interpreter's lock. */
+/* Fills the columns. Returns false if an allocation fails. Called without the interpreter's lock. */
 static bool fill(numbers *columns, const lbk_table *table, lbk_state state, const utf8_text *text)
 {
     lbk_break block[BLOCK];
-    /* The last break and the start of the passage: in bytes, and in the unit of the text. */
+    /* The last break and the start of the passage: in bytes, and in the text's unit. */
     size_t at = 0, given = 0, start = 0, start_given = 0, count;
     if (!push(&columns[SEGMENT_OFFSETS], 0) || !push(&columns[PLACES], 0) || !push(&columns[WORD_OFFSETS], 0))
         return false;

@@ -4,8 +4,8 @@
 
 #include "arguments.h"
 
-/* passage_columns(table, text, profile): bytearrays of numbers of 8 bytes: the segments of each passage as offsets, the places
- * between segments, the words of each passage as offsets, and the starts and the ends of words. */
+/* passage_columns(table, text, profile): bytearrays of 8-byte numbers: the index of each passage's first segment, the
+ * offsets between segments, the index of each passage's first word, and the starts and the ends of words. */
 PyObject *passage_columns(PyObject *module, PyObject *const *given, Py_ssize_t count);
 
 #endif

@@ -61,7 +61,7 @@ size_t next_words(cursor *from, const utf8_text *text, lbk_word *block, size_t r
     return count;
 }
 
-/* The byte before which so many code points stand, or the size of the text where it has fewer. */
+/* The byte offset after so many code points, or the size of the text if it has fewer. */
 static size_t byte_of(const utf8_text *text, size_t points)
 {
     size_t at = 0;

@@ -1,4 +1,4 @@
-/* What the module has beside its functions. */
+/* The state of the module. */
 #ifndef LBK_PYTHON_STATE_H
 #define LBK_PYTHON_STATE_H
 
@@ -7,7 +7,7 @@
 
 typedef struct {
     PyObject *break_type, *found_type;
-    PyObject *kinds, *rules; /* tuples that have for each number of a byte what stands for it */
+    PyObject *kinds, *rules; /* tuples with the member of each number from 0 to 255 */
 } module_state;
 
 #endif

@@ -7,19 +7,19 @@
 #include <stdlib.h>
 #include <string.h>
 
-/* There is room for so many breaks at first. */
+/* The room for breaks at first. */
 enum { FIRST_ROOM = 64 };
 
-/* A stream, and the places of a caller who gives pieces of str. The library counts bytes:
- * `given_bytes` and `given_points` are how many of each all earlier pieces have, and
- * `held_points` is the place that waits in them. */
+/* A stream, and the offsets for a caller who passes pieces of str. The library counts bytes:
+ * `given_bytes` and `given_points` are the sizes of all earlier pieces, and `held_points` is the
+ * waiting offset in code points. */
 typedef struct {
     lbk_stream stream;
     uint64_t given_bytes, given_points, held_points;
     bool is_busy;
 } stream_state;
 
-/* Breaks that were found. */
+/* A growing array of breaks. */
 typedef struct {
     lbk_break *block;
     size_t count, room;
@@ -36,8 +36,8 @@ PyObject *new_stream(PyObject *Py_UNUSED(module), PyObject *profile)
     return PyByteArray_FromStringAndSize((const char *)&state, sizeof state);
 }
 
-/* Takes the whole piece. It is called without the interpreter's lock. Returns false where memory
- * is refused. */
+/* Takes the whole piece. Called without the interpreter's lock. Returns false if an
+ * allocation fails. */
 static bool take(const lbk_table *table, lbk_stream *stream, const utf8_text *piece, bool is_last, found_breaks *found)
 {
     size_t taken = 0;
@@ -59,7 +59,7 @@ static bool take(const lbk_table *table, lbk_stream *stream, const utf8_text *pi
     }
 }
 
-/* Turns places in bytes into places in code points, and counts those of the piece. */
+/* Converts byte offsets to code points, and counts the code points of the piece. */
 static void count_points(stream_state *state, const utf8_text *piece, found_breaks *found)
 {
     uint64_t bytes = state->given_bytes, points = state->given_points;
@@ -92,7 +92,7 @@ static PyObject *to_list(PyTypeObject *type, const found_breaks *found)
     return list;
 }
 
-/* Feeds the piece to a copy of the state, so that nothing is lost where memory is refused. */
+/* Feeds the piece to a copy of the state, so that nothing is lost if an allocation fails. */
 static PyObject *feed_copy(PyTypeObject *type, const lbk_table *table, stream_state *state, const utf8_text *piece, bool is_last)
 {
     PyObject *list = NULL;
@@ -126,7 +126,7 @@ PyObject *feed(PyObject *module, PyObject *const *given, Py_ssize_t count)
     PyObject *owner = text_owner(given[2], &piece.in_code_points);
     if (owner == NULL)
         return NULL;
-    /* Also in a piece of ASCII, since those before it may have had other characters. */
+    /* Also for an ASCII piece, because earlier pieces may have had other characters. */
     piece.in_code_points = PyUnicode_Check(given[2]);
     const lbk_table *table = hold_table(given[0], false, &table_view);
     if (table != NULL && PyObject_GetBuffer(given[1], &state_view, PyBUF_WRITABLE) == 0) {

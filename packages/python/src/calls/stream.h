@@ -1,4 +1,4 @@
-/* Texts that come in pieces. */
+/* Texts that arrive in pieces. */
 #ifndef LBK_PYTHON_STREAM_H
 #define LBK_PYTHON_STREAM_H
 

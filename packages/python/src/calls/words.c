@@ -4,10 +4,10 @@
 
 #include <string.h>
 
-/* How many words are asked for at once, and for how many there is room at first. */
+/* How many words a call fetches, and the room for words at first. */
 enum { BLOCK = 256, FIRST_ROOM = 64 };
 
-/* The columns of starts and ends, each in a bytearray. */
+/* The columns of starts and ends, each a bytearray. */
 typedef struct {
     PyObject *starts, *ends;
     size_t count, room;
@@ -20,8 +20,8 @@ static bool resize(word_list *found, size_t room)
         && PyByteArray_Resize(found->ends, (Py_ssize_t)(room * sizeof(int64_t))) == 0;
 }
 
-/* Puts words into the columns until these are full or none is left. Returns whether none is left. It is called without the
- * interpreter's lock, and touches no object but the memory of the columns. */
+/* Writes words to the columns until these are full or none is left. Returns whether none is left. Called without the
+ * interpreter's lock: it touches only the memory of the columns. */
 static bool fill(word_list *found, cursor *from, const utf8_text *text, int64_t *starts, int64_t *ends)
 {
     lbk_word block[BLOCK];
@@ -39,8 +39,8 @@ static bool fill(word_list *found, cursor *from, const utf8_text *text, int64_t 
     return false;
 }
 
-/* Finds all words. Where the columns are full they get the room that the text needs if the rest of it is like its front. Returns
- * false, with an exception set, where memory is refused. */
+/* Finds all words. Full columns get the room that the text needs if its rest is like its start. Returns
+ * false, with an exception set, if an allocation fails. */
 static bool find(word_list *found, const utf8_text *text)
 {
     cursor from;

@@ -4,7 +4,7 @@
 
 #include "arguments.h"
 
-/* word_columns(text): bytearrays of where each word starts and of where it ends (8 bytes each). */
+/* word_columns(text): bytearrays of the starts and of the ends of words (8 bytes each). */
 PyObject *word_columns(PyObject *module, PyObject *text);
 
 #endif
