@@ -1,4 +1,4 @@
-//! Makes the table while the crate is built, of the files in the folder that UNICODE_DATA names, or else of Debian's.
+//! Makes the table at build time, from the files in the folder that UNICODE_DATA names, or else from Debian's.
 
 use std::path::{Path, PathBuf};
 use std::process::exit;

@@ -1,5 +1,5 @@
-//! Finds liblbk: in the folder that LBK_LIB_DIR names, else beside this file in `lib/TARGET`, else by pkg-config.
-//! It is linked statically, and where LBK_SHARED is set as liblbk.so.
+//! Finds liblbk: in the folder that LBK_LIB_DIR names, else next to this file in `lib/TARGET`, else by pkg-config.
+//! Links it statically, or as liblbk.so if LBK_SHARED is set.
 
 use std::env;
 use std::path::PathBuf;
@@ -10,7 +10,7 @@ fn variable(name: &str) -> Option<String> {
     env::var(name).ok().filter(|value| !value.is_empty())
 }
 
-/// What pkg-config prints, where it is there and succeeds.
+/// The output of pkg-config, if it is installed and succeeds.
 fn pkg_config(arguments: &[&str]) -> Option<String> {
     let program = variable("PKG_CONFIG").unwrap_or_else(|| "pkg-config".into());
     let output = Command::new(program).args(arguments).output().ok()?;
@@ -27,7 +27,7 @@ fn by_pkg_config() -> Option<PathBuf> {
     Some(folder.trim().into())
 }
 
-/// The folder of the library that comes with the crate for the target, where there is one.
+/// The folder of the library that the crate contains for the target, if there is one.
 fn beside() -> Option<PathBuf> {
     let crate_folder: PathBuf = env::var_os("CARGO_MANIFEST_DIR")?.into();
     let folder = crate_folder.join("lib").join(env::var_os("TARGET")?);

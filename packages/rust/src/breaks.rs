@@ -9,12 +9,12 @@ use crate::calls;
 use crate::found::{ByBreaks, ByPositions, Found};
 use crate::table::Table;
 
-/// Which rules stand for quotation marks.
+/// The rules for quotation marks.
 #[derive(Clone, Copy, PartialEq, Eq, Debug)]
 pub enum Profile {
     /// Rule 15 of Unicode 15.0.
     First = 0,
-    /// Rules 15a and 15b in its place, which look at both sides of a quotation mark.
+    /// Rules 15a and 15b instead, which look at both sides of a quotation mark.
     Second = 1,
 }
 
@@ -25,19 +25,19 @@ pub enum Kind {
     Must,
 }
 
-/// A rule of UAX #14, section 6. It is shown without `LB`, as `8a`.
+/// A rule of UAX #14, section 6. It is displayed without `LB`, such as `8a`.
 #[derive(Clone, Copy, PartialEq, Eq, PartialOrd, Ord, Hash)]
 pub struct Rule(u8);
 
 impl Rule {
-    /// The rule's number, which is that of the header's constants.
+    /// The rule's number, as in the constants of `lbk.h`.
     pub fn number(self) -> u8 {
         self.0
     }
 
     /// What the rule says, in one line of English.
     pub fn text(self) -> String {
-        // SAFETY: the call takes any number.
+        // SAFETY: the call accepts any number.
         let text = unsafe { calls::lbk_rule_text(self.0) };
         calls::shown(&text.text).into()
     }
@@ -45,7 +45,7 @@ impl Rule {
 
 impl fmt::Display for Rule {
     fn fmt(&self, f: &mut fmt::Formatter<'_>) -> fmt::Result {
-        // SAFETY: the call takes any number.
+        // SAFETY: the call accepts any number.
         let label = unsafe { calls::lbk_label(self.0) };
         f.pad(calls::shown(&label.text))
     }
@@ -57,12 +57,12 @@ impl fmt::Debug for Rule {
     }
 }
 
-/// A line breaking class. It is shown by its name, as `AL`.
+/// A line breaking class. It is displayed by its name, such as `AL`.
 #[derive(Clone, Copy, PartialEq, Eq, Hash)]
 pub struct Class([u8; 4]);
 
 impl Class {
-    /// The class's name in the standard, once rule LB1 has resolved it.
+    /// The class's name in the standard, as rule LB1 resolves it.
     pub fn name(&self) -> &str {
         calls::shown(&self.0)
     }
@@ -83,18 +83,18 @@ impl fmt::Debug for Class {
 impl Table {
     /// The line breaking class of a character.
     pub fn class_of(&self, character: char) -> Class {
-        // SAFETY: the table is borrowed for reading, and the call takes any number.
+        // SAFETY: the table is borrowed for reading, and the call accepts any number.
         Class(unsafe { calls::lbk_class(&self.0, character.into()) }.text)
     }
 }
 
-/// A place of a text where a line may or must end.
+/// An offset in a text where a line may or must end.
 #[derive(Clone, Copy, PartialEq, Eq, Debug)]
 pub struct Break {
-    /// The byte of the text that it stands before, or the text's length.
+    /// The offset of the byte after it, or the text's length.
     pub at: usize,
     pub kind: Kind,
-    /// The rule that decided it.
+    /// The rule that decided.
     pub rule: Rule,
 }
 
@@ -114,7 +114,7 @@ impl From<calls::Break> for Break {
     }
 }
 
-/// The breaks of a text in their order. A copy goes on by itself.
+/// The breaks of a text, in order. Copies are independent.
 #[derive(Clone)]
 pub struct Breaks<'a>(Found<'a, ByBreaks, u8>);
 
@@ -154,14 +154,14 @@ impl fmt::Debug for Breaks<'_> {
     }
 }
 
-/// A place of a text before one of its scalars, or at its end.
+/// A position in a text: before one of its scalars, or at its end.
 #[derive(Clone, Copy, PartialEq, Eq, Debug)]
 pub struct Position {
-    /// The byte of the text that it stands before, or the text's length.
+    /// The offset of the byte after it, or the text's length.
     pub at: usize,
-    /// `None` where a line does not break.
+    /// `None` if a line does not break there.
     pub kind: Option<Kind>,
-    /// The rule that decided it.
+    /// The rule that decided.
     pub rule: Rule,
 }
 
@@ -176,7 +176,7 @@ impl From<calls::Break> for Position {
     }
 }
 
-/// All positions of a text in their order. A copy goes on by itself.
+/// All positions of a text, in order. Copies are independent.
 #[derive(Clone)]
 pub struct Positions<'a>(Found<'a, ByPositions, u8>);
 
@@ -214,18 +214,18 @@ impl fmt::Debug for Positions<'_> {
 /// A part of a text between two breaks.
 #[derive(Clone, Copy, PartialEq, Eq, Debug)]
 pub struct Segment<'a> {
-    /// The byte of the text that it begins at.
+    /// Its offset in the text, in bytes.
     pub start: usize,
     pub text: &'a str,
-    /// Of the break at its end.
+    /// The kind of the break at its end.
     pub kind: Kind,
     /// The rule that decided the break at its end.
     pub rule: Rule,
 }
 
-/// The segments of a text between its breaks, in their order.
+/// The segments of a text between its breaks, in order.
 #[derive(Clone, Debug)]
-// In this order, since a zero after the block of the breaks would have the compiler write zeros all over it.
+// In this order, because with a zero after the block of breaks the compiler would zero the whole block.
 #[repr(C)]
 pub struct Segments<'a> {
     text: &'a str,

@@ -1,4 +1,4 @@
-//! The types and calls of `lbk.h`, as C has them.
+//! The types and calls of `lbk.h`.
 
 use core::mem::size_of;
 
@@ -14,7 +14,7 @@ pub const MUST: u8 = 2;
 /// `LBK_GOES_ON`
 pub const GOES_ON: u8 = 2;
 
-/// Plain numbers, whose layout is none of this crate's business.
+/// Plain numbers; this crate does not use their layout.
 #[repr(C)]
 pub struct Table([u64; TABLE_WORDS]);
 
@@ -28,7 +28,7 @@ pub struct State {
 }
 
 impl State {
-    /// The start of a text, or of a part of one that begins at this byte.
+    /// The start of a text, or of a part that begins at this byte.
     #[inline]
     pub fn new(profile: u8, at: usize) -> State {
         State {

@@ -1,4 +1,4 @@
-//! Chunks of a text, as search and retrieval take them.
+//! Chunks of a text, for search and retrieval.
 
 use core::fmt;
 use core::iter::FusedIterator;
@@ -8,10 +8,10 @@ use crate::breaks::{Break, Kind, Profile, Rule};
 use crate::calls;
 use crate::table::Table;
 
-/// How many chunks are asked for at once.
+/// How many chunks a call fetches.
 const ROOM: usize = 16;
 
-/// What a chunk may hold.
+/// The limits of a chunk.
 ///
 /// ```
 /// let limits = lbk::Limits::new(500).overlap(100);
@@ -21,7 +21,8 @@ const ROOM: usize = 16;
 pub struct Limits(calls::Limits);
 
 impl Limits {
-    /// At most so many bytes, 1 or more; and any number of words, half of these bytes as the least, and no overlap.
+    /// At most this many bytes, 1 or more. By default any number of words, half of these bytes as `least`, and no
+    /// overlap.
     pub fn new(most: usize) -> Limits {
         Limits(calls::Limits {
             most,
@@ -31,20 +32,20 @@ impl Limits {
         })
     }
 
-    /// At most so many words; 0 for any number.
+    /// At most this many words; 0 for any number.
     pub fn words(mut self, words: usize) -> Limits {
         self.0.words = words;
         self
     }
 
-    /// Where a line must end a chunk ends early, once it has so many bytes that no chunk before it has: at most as many as a
-    /// chunk may have.
+    /// A chunk may end early, at a required break, once this many of its bytes are in no earlier chunk: at most as many
+    /// as a chunk may have.
     pub fn least(mut self, least: usize) -> Limits {
         self.0.least = least;
         self
     }
 
-    /// The next chunk begins with at most so many bytes of this one, and with at most half of it: at most half as many as a
+    /// The next chunk repeats at most this many bytes of this one, and at most half of it: at most half as many as a
     /// chunk may have.
     pub fn overlap(mut self, overlap: usize) -> Limits {
         self.0.overlap = overlap;
@@ -73,11 +74,11 @@ impl Limits {
 /// Which limit is out of range.
 #[derive(Clone, Copy, PartialEq, Eq, Debug)]
 pub enum LimitError {
-    /// A chunk may have no byte.
+    /// A chunk could have no byte.
     Most,
-    /// The least is more than a chunk may have.
+    /// `least` exceeds the size of a chunk.
     Least { most: usize, least: usize },
-    /// The overlap is more than half of what a chunk may have.
+    /// The overlap exceeds half of the size of a chunk.
     Overlap { most: usize, overlap: usize },
 }
 
@@ -104,7 +105,7 @@ impl fmt::Display for LimitError {
 #[cfg(feature = "std")]
 impl std::error::Error for LimitError {}
 
-/// A text that can be cut at bytes.
+/// A text that can be cut at byte offsets.
 pub trait Sliced {
     fn bytes(&self) -> &[u8];
     fn slice(&self, start: usize, end: usize) -> &Self;
@@ -134,46 +135,46 @@ impl Sliced for [u8] {
     }
 }
 
-/// A text that chunks are asked of: a `str`, or bytes, which may be ill-formed.
+/// A text to cut into chunks: a `str`, or bytes, which may be ill-formed.
 pub trait ChunkText: Sliced {}
 
 impl ChunkText for str {}
 
 impl ChunkText for [u8] {}
 
-/// A part of a text that ends neither within a word nor where a line may not break.
+/// A part of a text that ends at a break outside words.
 #[derive(Clone, Copy, PartialEq, Eq, Debug)]
 pub struct Chunk<T> {
-    /// The byte of the text that it begins at.
+    /// Its offset in the text, in bytes.
     pub start: usize,
     /// A `&str`, or a `&[u8]`.
     pub text: T,
     /// How many words it has.
     pub words: usize,
-    /// Of the break at its end.
+    /// The kind of the break at its end.
     pub kind: Kind,
     /// The rule that decided the break at its end.
     pub rule: Rule,
-    /// It is larger than the limits: it has no place where it could have ended.
+    /// Whether it exceeds the limits, because it has no cut within them.
     pub alone: bool,
 }
 
-/// The chunks of a text in their order. [`Table::chunks`] makes it. A copy goes on by itself.
+/// The chunks of a text, in order. [`Table::chunks`] makes it. Copies are independent.
 pub struct Chunks<'a, T: ?Sized = str> {
     table: &'a Table,
     text: &'a T,
     limits: calls::Limits,
     state: calls::ChunkState,
-    /// The next chunk is that of the block.
+    /// The index of the next chunk in the block.
     next: usize,
-    /// So many chunks the block has. They are the last ones where it has room for more.
+    /// The number of chunks in the block. If it is not full, they are the last ones.
     count: usize,
     block: MaybeUninit<[calls::Chunk; ROOM]>,
 }
 
 impl Table {
-    /// The text cut for search and retrieval, in the first profile: never within a word (UAX #29) or where a line may not
-    /// break. Without overlap the chunks joined are the text.
+    /// The text cut for search and retrieval, in the first profile, always at breaks outside words (UAX #29). Without
+    /// overlap the chunks, joined, are the text.
     ///
     /// ```no_run
     /// # fn main() -> Result<(), Box<dyn std::error::Error>> {
@@ -192,7 +193,7 @@ impl Table {
         self.chunks_in(Profile::First, text, limits)
     }
 
-    /// The same in a profile.
+    /// The same in any profile.
     pub fn chunks_in<'a, T: ChunkText + ?Sized>(
         &'a self,
         profile: Profile,
@@ -214,7 +215,7 @@ impl Table {
 impl<T: Sliced + ?Sized> Chunks<'_, T> {
     fn fill(&mut self) {
         let text = self.text.bytes();
-        // SAFETY: the text and the block are as long as is said, and the state and the block are borrowed by nobody else.
+        // SAFETY: the text and the block have the given lengths, and the state and the block are borrowed exclusively.
         let count = unsafe {
             calls::lbk_chunks(
                 &self.table.0,

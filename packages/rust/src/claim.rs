@@ -1,12 +1,12 @@
-//! What a file is that is not the one that Unicode published.
+//! Descriptions of files that Unicode did not publish.
 
 use core::fmt;
 
 use crate::calls;
 use crate::fault::File;
 
-/// What a file is that is not the one of its name that Unicode 15.0.0 published. It is shown as in "this is of Unicode 14.0.0, and lbk
-/// goes by 15.0.0".
+/// Describes a file that is not the one that Unicode 15.0.0 published under its name, for example "this is of Unicode
+/// 14.0.0, and lbk goes by 15.0.0".
 #[derive(Clone, Copy, PartialEq, Eq, Debug)]
 pub struct Claim {
     file: File,
@@ -15,12 +15,12 @@ pub struct Claim {
 
 impl Claim {
     pub(crate) fn of(file: File, bytes: &[u8]) -> Claim {
-        // SAFETY: the slice is as long as is said.
+        // SAFETY: the slice has the given length.
         let text = unsafe { calls::lbk_claim_text(1 + file as u32, bytes.as_ptr(), bytes.len()) };
         Claim { file, text }
     }
 
-    /// Which file it had to be.
+    /// The file that was expected.
     pub fn file(&self) -> File {
         self.file
     }

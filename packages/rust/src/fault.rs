@@ -1,22 +1,22 @@
-//! Why files are refused.
+//! Faults of property files.
 
 use core::fmt;
 
 use crate::calls::{self, shown};
 use crate::table::Files;
 
-/// Why four files are refused: the first fault that they have.
+/// The first fault of four files.
 #[derive(Clone, Copy, PartialEq, Eq, Debug)]
 pub struct Fault {
-    /// `None` where it came when all files were read.
+    /// `None` for a fault after all files were read.
     pub file: Option<File>,
-    /// From 1; 0 where the fault is in no line.
+    /// From 1; 0 if the fault is in no line.
     pub line: u32,
     pub cause: Cause,
 }
 
 impl Fault {
-    /// The first of the files that was cut.
+    /// The first of the files that is truncated.
     pub(crate) fn of_a_cut_file(files: &Files<'_>) -> Option<Fault> {
         let all = [
             (File::LineBreak, files.line_break),
@@ -25,7 +25,7 @@ impl Fault {
             (File::Emoji, files.emoji),
         ];
         let (file, _) = all.into_iter().find(|(_, bytes)| {
-            // SAFETY: the slice is as long as is said.
+            // SAFETY: the slice has the given length.
             unsafe { calls::lbk_is_cut(bytes.as_ptr(), bytes.len()) }
         })?;
         Some(Fault {
@@ -35,7 +35,7 @@ impl Fault {
         })
     }
 
-    /// `None` where the call has no fault.
+    /// `None` if the call found no fault.
     pub(crate) fn from_c(fault: calls::Fault) -> Option<Fault> {
         Some(Fault {
             file: File::numbered(fault.file),
@@ -73,21 +73,21 @@ pub enum Cause {
     FileTooLong,
     /// The line has more than 1,024 bytes.
     LineTooLong,
-    /// The line is no blank line, no comment and no row.
+    /// The line is neither blank nor a comment nor a row.
     RowSyntax,
-    /// The first code is above the last, or a code is above 10FFFF.
+    /// The first code point is above the last, or one is above 10FFFF.
     Range,
-    /// The name is none of the property's values.
+    /// The name is not a value of the property.
     UnknownValue,
-    /// The row shares a code with an earlier row of the file.
+    /// The row shares a code point with an earlier row of the file.
     Overlap,
     /// The line would be the 65,537th row or default of the file.
     TooManyRows,
-    /// The heap refused memory.
+    /// An allocation failed.
     OutOfMemory,
     /// The file is not the one that Unicode published.
     NotPublished = 9,
-    /// The file was cut: [`Table::read`](crate::Table::read) refuses it.
+    /// The file is truncated: [`Table::read`](crate::Table::read) refuses it.
     Cut = 13,
 }
 
@@ -111,7 +111,7 @@ impl Cause {
 impl fmt::Display for Fault {
     fn fmt(&self, f: &mut fmt::Formatter<'_>) -> fmt::Result {
         let file = self.file.map_or(0, |file| 1 + file as u32);
-        // SAFETY: the calls take any numbers.
+        // SAFETY: the calls accept any numbers.
         let (file, cause) = unsafe {
             (
                 calls::lbk_file_name(file),
@@ -129,18 +129,18 @@ impl fmt::Display for Fault {
 #[cfg(feature = "std")]
 impl std::error::Error for Fault {}
 
-/// Why bytes are not unpacked.
+/// Why bytes cannot be unpacked.
 #[derive(Clone, Copy, PartialEq, Eq, Debug)]
 pub enum NotPacked {
-    /// They do not begin as a packed table does.
+    /// They do not begin like a packed table.
     Foreign,
     /// A version with another layout packed them.
     OtherLayout,
-    /// They were changed or cut.
+    /// They were changed or truncated.
     Damaged,
 }
 
-/// The cause of lbk.h that is `NotPacked::Foreign`. The others follow it.
+/// The number of `NotPacked::Foreign` in lbk.h. The others follow it.
 const NOT_PACKED: u32 = 11;
 
 impl NotPacked {
@@ -156,7 +156,7 @@ impl NotPacked {
 
 impl fmt::Display for NotPacked {
     fn fmt(&self, f: &mut fmt::Formatter<'_>) -> fmt::Result {
-        // SAFETY: the call takes any number.
+        // SAFETY: the call accepts any number.
         let text = unsafe { calls::lbk_cause_text(NOT_PACKED + *self as u32) };
         f.write_str(shown(&text.text))
     }

@@ -1,4 +1,4 @@
-//! The table of the folder that this machine has.
+//! The table of the property files on this machine.
 
 use std::boxed::Box;
 use std::error::Error;
@@ -16,9 +16,9 @@ const SYSTEM: [&str; 2] = ["/usr/share/unicode", "/usr/share/unicode/ucd"];
 static FOUND: Mutex<Option<&'static Table>> = Mutex::new(None);
 
 impl Table {
-    /// The table of the folder that `UNICODE_DATA` names, or else of the first that has the files of `/usr/share/unicode`, its
-    /// `ucd`, and `unicode` in `XDG_DATA_HOME` and `~/.local/share`. They are read once in a process, where they are found, and
-    /// each is read as [`Table::load`] does.
+    /// The table of the folder that `UNICODE_DATA` names, or else of the first of these that has the files:
+    /// `/usr/share/unicode`, its `ucd`, and `unicode` in `XDG_DATA_HOME` and `~/.local/share`. The files are read once
+    /// per process, as [`Table::load`] reads them.
     pub fn find() -> Result<&'static Table, NotFound> {
         let mut found = FOUND.lock().unwrap_or_else(PoisonError::into_inner);
         match *found {
@@ -28,7 +28,7 @@ impl Table {
     }
 }
 
-/// The value of a variable of the environment that is set to something.
+/// The value of an environment variable that is set and not empty.
 fn variable(name: &str) -> Option<PathBuf> {
     let value = env::var_os(name)?;
     (!value.is_empty()).then(|| value.into())
@@ -70,7 +70,7 @@ pub struct NotFound {
 }
 
 impl NotFound {
-    /// Why each folder was refused, in the order in which they were looked into.
+    /// Why each folder was refused, in the order of the search.
     pub fn refusals(&self) -> &[LoadError] {
         &self.refusals
     }

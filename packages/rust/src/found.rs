@@ -1,4 +1,4 @@
-//! What the library finds in a text, a block at a time.
+//! Iterators over what the library finds in a text, a block at a time.
 
 use core::iter::FusedIterator;
 use core::marker::PhantomData;
@@ -7,17 +7,17 @@ use core::mem::MaybeUninit;
 use crate::calls;
 use crate::table::Table;
 
-/// How many are asked for at once.
+/// How many a call fetches.
 const ROOM: usize = 128;
 
-/// So many are moved number by number, as they were written.
+/// Up to this many are copied field by field, as they were written.
 const FEW: usize = 4;
 
 type Block = [calls::Break; ROOM];
 
 /// A unit of a text, and the calls for texts of such units.
 pub trait Coded: Copy {
-    /// What the unit is in C: of the same size and at the same places.
+    /// The unit's type in C, with the same size and alignment.
     type Number;
     const BREAKS: calls::Finding<Self::Number>;
     const POSITIONS: calls::Finding<Self::Number>;
@@ -52,7 +52,7 @@ pub trait Call {
     fn call<U: Coded>() -> calls::Finding<U::Number>;
 }
 
-/// That for breaks.
+/// The call for breaks.
 #[derive(Clone)]
 pub struct ByBreaks;
 
@@ -63,7 +63,7 @@ impl Call for ByBreaks {
     }
 }
 
-/// That for positions.
+/// The call for positions.
 #[derive(Clone)]
 pub struct ByPositions;
 
@@ -74,17 +74,18 @@ impl Call for ByPositions {
     }
 }
 
-/// What a call finds in a text, in its order. A copy goes on by itself.
+/// What a call finds in a text, in order. Copies are independent.
 #[derive(Clone)]
-// In this order, and no call is given a part of it: so a loop has `next` and `count` in registers. The state is in two parts, which
-// are not beside each other: as a whole it would be read right after its parts were written, which costs a wait.
+// In this order, and no call gets a reference to a part of it, so that a loop keeps `next` and `count` in registers.
+// The state is in two parts that are not adjacent: reading it as a whole right after its parts were written would
+// stall.
 #[repr(C)]
 pub struct Found<'a, C, U> {
-    /// The next one is that of the block.
+    /// The index of the next one in the block.
     next: u32,
-    /// So many the block has. They are the last ones where it has room for more.
+    /// The number of entries in the block. If it is not full, they are the last ones.
     count: u32,
-    /// Up to this unit of the text the library came.
+    /// How far the library went in the text, in units.
     at: usize,
     table: &'a Table,
     text: &'a [U],
@@ -99,7 +100,7 @@ impl<'a, C: Call, U: Coded> Found<'a, C, U> {
     #[inline]
     pub fn new(table: &'a Table, profile: u8, text: &'a [U]) -> Found<'a, C, U> {
         Found {
-            // As if a full block had been used up.
+            // As after a full block.
             next: ROOM as u32,
             count: ROOM as u32,
             at: 0,
@@ -113,7 +114,7 @@ impl<'a, C: Call, U: Coded> Found<'a, C, U> {
         }
     }
 
-    /// The next block, by way of one that is no part of the iterator.
+    /// Fetches the next block, through one that is not part of the iterator.
     #[inline]
     fn refill(&mut self) {
         let mut state = calls::State {
@@ -126,7 +127,7 @@ impl<'a, C: Call, U: Coded> Found<'a, C, U> {
         let count = fill::<C, U>(self.table, self.text, &mut state, &mut block);
         let from = block.as_ptr().cast::<calls::Break>();
         let to = self.block.as_mut_ptr().cast::<calls::Break>();
-        // SAFETY: the call wrote so many, which both blocks have room for.
+        // SAFETY: the call wrote this many, and both blocks have room for them.
         unsafe {
             if count <= FEW {
                 for k in 0..count {
@@ -148,17 +149,17 @@ impl<'a, C: Call, U: Coded> Found<'a, C, U> {
         self.text
     }
 
-    /// How many are held, and at most how many are left.
+    /// How many are held, and the most that can be left.
     #[inline]
     pub fn left(&self) -> (usize, Option<usize>) {
         let held = (self.count - self.next) as usize;
-        // Before each of the units that are left, and at the end.
+        // One before each of the units left, and one at the end.
         let most = held + self.text.len().saturating_sub(self.at) + 1;
         (held, Some(most))
     }
 }
 
-/// Asks for the next ones.
+/// Fetches the next ones.
 #[inline(never)]
 fn fill<C: Call, U: Coded>(
     table: &Table,
@@ -166,7 +167,7 @@ fn fill<C: Call, U: Coded>(
     state: &mut calls::State,
     block: &mut MaybeUninit<Block>,
 ) -> usize {
-    // SAFETY: the text and the block are as long as is said, and the state and the block are borrowed by nobody else.
+    // SAFETY: the text and the block have the given lengths, and the state and the block are borrowed exclusively.
     let count = unsafe {
         C::call::<U>()(
             &table.0,
@@ -193,7 +194,7 @@ impl<C: Call, U: Coded> Iterator for Found<'_, C, U> {
                 return None;
             }
         }
-        // SAFETY: the call wrote the first `count` of the block, and `next` is below that.
+        // SAFETY: the call wrote the first `count` entries of the block, and `next` is below that.
         let found = unsafe {
             *self
                 .block

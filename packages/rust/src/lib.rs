@@ -1,4 +1,5 @@
-//! Where a line of text may break, and where it must, by the Unicode Line Breaking Algorithm (UAX #14, Unicode 15.0).
+//! Finds where a line of text may break and where it must, by the Unicode Line Breaking Algorithm (UAX #14, Unicode
+//! 15.0).
 //!
 //! ```no_run
 //! # fn main() -> Result<(), Box<dyn std::error::Error>> {
@@ -13,10 +14,10 @@
 //! # }
 //! ```
 //!
-//! The work is done by liblbk, whose header `lbk.h` says what is promised. A [`Table`] is made once, and can then be used by
-//! any number of threads at the same time. Finding breaks takes no memory from the heap.
+//! This crate calls liblbk; its header `lbk.h` documents the guarantees. Make a [`Table`] once; any number of threads
+//! can then use it at the same time. Finding breaks does not allocate.
 //!
-//! On x86-64 the library's code is for x86-64-v2, so for processors with SSE4.2. On others of that family the first call panics.
+//! On x86-64 the library needs a processor with SSE4.2 (x86-64-v2). On older ones the first call panics.
 #![no_std]
 
 extern crate alloc;

@@ -13,9 +13,9 @@ use crate::table::{Files, Table};
 
 impl Table {
     /// The table of a folder of the Unicode Character Database, such as `/usr/share/unicode`: of its `LineBreak.txt`,
-    /// `EastAsianWidth.txt`, `extracted/DerivedGeneralCategory.txt` and `emoji/emoji-data.txt`. The last two may also lie in
-    /// the folder itself, and all four in its folder `ucd`; an archive `UCD.zip` has to be unpacked first. They have to be those
-    /// that Unicode published for version 15.0.
+    /// `EastAsianWidth.txt`, `extracted/DerivedGeneralCategory.txt` and `emoji/emoji-data.txt`. The last two may also
+    /// be in the folder itself, and all four in its folder `ucd`; unpack an archive `UCD.zip` first. The files have to
+    /// be those that Unicode published for version 15.0.
     pub fn load(folder: impl AsRef<Path>) -> Result<Box<Table>, LoadError> {
         let folder = &root(folder.as_ref());
         let read = [
@@ -41,7 +41,7 @@ impl Table {
     }
 }
 
-/// The folder itself, or else its folder `ucd` where that has the files.
+/// The folder itself, or its folder `ucd` if that has the files instead.
 fn root(folder: &Path) -> PathBuf {
     let below = folder.join("ucd");
     if !folder.join("LineBreak.txt").exists() && below.is_dir() {
@@ -50,7 +50,7 @@ fn root(folder: &Path) -> PathBuf {
     folder.into()
 }
 
-/// A file of the database, which lies below a subfolder or else in the folder itself, and its bytes.
+/// A file of the database, in a subfolder or else in the folder itself, and its bytes.
 fn read(folder: &Path, below: &str, name: &str) -> Result<(PathBuf, Vec<u8>), LoadError> {
     let path = folder.join(below).join(name);
     let error = match fs::read(&path) {
@@ -77,7 +77,7 @@ pub enum LoadError {
     Refused(PathBuf, Fault),
 }
 
-/// The alternate form, `{:#}`, does not say where the files are published.
+/// The alternate form, `{:#}`, omits where the files are published.
 impl fmt::Display for LoadError {
     fn fmt(&self, f: &mut fmt::Formatter<'_>) -> fmt::Result {
         match self {
@@ -87,7 +87,7 @@ impl fmt::Display for LoadError {
                 if f.alternate() {
                     return Ok(());
                 }
-                // SAFETY: the call takes nothing.
+                // SAFETY: the call has no arguments.
                 let remedy = unsafe { calls::lbk_remedy_text() };
                 write!(f, "; {}", calls::shown(&remedy.text))
             }

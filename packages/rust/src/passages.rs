@@ -7,10 +7,10 @@ use crate::breaks::{Kind, Profile, Segment, Segments};
 use crate::table::Table;
 use crate::words::{words, Words};
 
-/// A part of a text up to a break where a line must end.
+/// A paragraph with its line end: a part of a text up to a required break.
 #[derive(Clone, PartialEq, Eq, Debug)]
 pub struct Passage<'a> {
-    /// The byte of the text that it begins at.
+    /// Its offset in the text, in bytes.
     pub start: usize,
     pub text: &'a str,
     /// Its segments, each with its start in the whole text.
@@ -18,7 +18,7 @@ pub struct Passage<'a> {
 }
 
 impl<'a> Passage<'a> {
-    /// Its words, each with the byte of the passage that it begins at.
+    /// Its words, each with its offset in the passage.
     pub fn words(&self) -> Words<'a> {
         words(self.text)
     }
@@ -32,12 +32,12 @@ pub struct Passages<'a> {
 }
 
 impl Table {
-    /// The text cut after each break where a line must end, in the first profile. Joined the passages are the text.
+    /// The text cut after each required break, in the first profile. Joined, the passages are the text.
     pub fn passages<'a>(&'a self, text: &'a str) -> Passages<'a> {
         self.passages_in(Profile::First, text)
     }
 
-    /// The same in a profile.
+    /// The same in any profile.
     pub fn passages_in<'a>(&'a self, profile: Profile, text: &'a str) -> Passages<'a> {
         Passages {
             text,

@@ -1,8 +1,8 @@
-//! Whether the processor has what the library's code is made of, which is x86-64-v2.
+//! Whether the processor has the instructions that the library uses: x86-64-v2.
 
 use core::sync::atomic::{AtomicBool, Ordering};
 
-/// SSE3, SSSE3, CMPXCHG16B, SSE4.1, SSE4.2 and POPCNT, as `cpuid` tells them in ECX of leaf 1.
+/// SSE3, SSSE3, CMPXCHG16B, SSE4.1, SSE4.2 and POPCNT, as `cpuid` reports them in ECX of leaf 1.
 const NEEDED: u32 = 1 | 1 << 9 | 1 << 13 | 1 << 19 | 1 << 20 | 1 << 23;
 
 fn has_all(told: u32) -> bool {
@@ -11,20 +11,20 @@ fn has_all(told: u32) -> bool {
 
 #[cfg(target_arch = "x86_64")]
 fn told() -> u32 {
-    // SAFETY: each processor of 64 bits has this leaf.
+    // SAFETY: each 64-bit processor has this leaf.
     #[allow(unused_unsafe)]
     unsafe {
         core::arch::x86_64::__cpuid(1).ecx
     }
 }
 
-/// The library is for another processor, and so needs none of these.
+/// The library for another architecture needs none of these.
 #[cfg(not(target_arch = "x86_64"))]
 fn told() -> u32 {
     NEEDED
 }
 
-/// Panics where the processor lacks something, before it is asked for it.
+/// Panics if the processor lacks an instruction, before the library uses it.
 #[inline]
 pub fn require() {
     static IS_THERE: AtomicBool = AtomicBool::new(false);

@@ -9,12 +9,12 @@ use crate::breaks::{Break, Profile};
 use crate::stream::Stream;
 use crate::table::Table;
 
-/// How many bytes are read at once.
+/// How many bytes a read asks for.
 const PIECE: usize = 8192;
 
-/// The breaks of the text of a reader, in their order. [`Table::breaks_of_reader`] makes it.
+/// The breaks of a reader's text, in order. [`Table::breaks_of_reader`] makes it.
 ///
-/// After an error of the reader it can be asked again, and goes on where the reader was.
+/// After an error of the reader, call `next` again: it continues where the reader was.
 pub struct ReaderBreaks<'a, Reader> {
     stream: Stream<'a>,
     reader: Reader,
@@ -24,7 +24,7 @@ pub struct ReaderBreaks<'a, Reader> {
 }
 
 impl Table {
-    /// The breaks of the text that a reader gives, in a profile. They come as they are read, in memory for one piece; places count the
+    /// The breaks of a reader's text, in a profile, as they are read. It holds one piece in memory; offsets count the
     /// bytes read.
     ///
     /// ```no_run
@@ -52,7 +52,7 @@ impl Table {
 }
 
 impl<Reader: Read> ReaderBreaks<'_, Reader> {
-    /// Reads one piece more.
+    /// Reads one more piece.
     fn read(&mut self) -> Result<()> {
         let size = loop {
             match self.reader.read(&mut self.piece) {

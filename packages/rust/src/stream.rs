@@ -1,4 +1,4 @@
-//! Breaks of a text that comes in pieces.
+//! Breaks of a text that arrives in pieces.
 
 use core::fmt;
 use core::mem::MaybeUninit;
@@ -7,10 +7,10 @@ use crate::breaks::{Break, Profile};
 use crate::calls;
 use crate::table::Table;
 
-/// How many breaks are asked for at once.
+/// How many breaks a call fetches.
 const ROOM: usize = 64;
 
-/// A text that comes in pieces, cut anywhere, within a scalar too. A copy goes on by itself.
+/// A text that arrives in pieces, cut anywhere, even inside a scalar. Copies are independent.
 #[derive(Clone)]
 pub struct Stream<'a> {
     table: &'a Table,
@@ -18,7 +18,7 @@ pub struct Stream<'a> {
 }
 
 impl Table {
-    /// A text that comes in pieces, at its start.
+    /// The start of a text that arrives in pieces.
     pub fn stream(&self, profile: Profile) -> Stream<'_> {
         Stream {
             table: self,
@@ -28,12 +28,13 @@ impl Table {
 }
 
 impl Stream<'_> {
-    /// Takes the next piece, and calls `found` with each break that it settles. Places count from the start of the text.
+    /// Takes the next piece, and calls `found` with each break that it settles. Offsets count from the start of the
+    /// text.
     pub fn feed(&mut self, piece: &[u8], found: impl FnMut(Break)) {
         self.take(piece, false, found);
     }
 
-    /// Says that the text has ended, and calls `found` with each break that is left. Nothing comes after it.
+    /// Ends the text, and calls `found` with each break that is left. Later calls find nothing.
     pub fn finish(&mut self, found: impl FnMut(Break)) {
         self.take(&[], true, found);
     }
@@ -41,7 +42,8 @@ impl Stream<'_> {
     fn take(&mut self, mut piece: &[u8], last: bool, mut found: impl FnMut(Break)) {
         let mut block = MaybeUninit::<[calls::Break; ROOM]>::uninit();
         loop {
-            // SAFETY: the piece and the block are as long as is said, and the stream and the block are borrowed by nobody else.
+            // SAFETY: the piece and the block have the given lengths, and the stream and the block are borrowed
+            // exclusively.
             let fed = unsafe {
                 calls::lbk_feed(
                     &self.table.0,

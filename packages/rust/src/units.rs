@@ -23,22 +23,22 @@ impl ScalarUnit for char {}
 
 impl ScalarUnit for u32 {}
 
-/// The breaks of a text of units in their order. Places are in units. A copy goes on by itself.
+/// The breaks of a text of units, in order. Offsets count units. Copies are independent.
 #[derive(Clone)]
 pub struct UnitBreaks<'a, U>(Found<'a, ByBreaks, U>);
 
-/// All positions of a text of units in their order. Places are in units. A copy goes on by itself.
+/// All positions of a text of units, in order. Offsets count units. Copies are independent.
 #[derive(Clone)]
 pub struct UnitPositions<'a, U>(Found<'a, ByPositions, U>);
 
 impl Table {
-    /// The breaks of a text in UTF-16 in a profile, in their order. A surrogate that stands alone is read as U+FFFD, as
-    /// `String::from_utf16_lossy` does, and keeps its place.
+    /// The breaks of a text in UTF-16 in a profile, in order. A lone surrogate is read as U+FFFD, as by
+    /// `String::from_utf16_lossy`, at its offset.
     pub fn breaks_utf16<'a>(&'a self, profile: Profile, text: &'a [u16]) -> UnitBreaks<'a, u16> {
         UnitBreaks(Found::new(self, profile as u8, text))
     }
 
-    /// The breaks of some scalars in a profile, in their order: of a `&[char]`, or of a `&[u32]`, in which a number that is no
+    /// The breaks of scalars in a profile, in order: of a `&[char]`, or of a `&[u32]`, where a number that is not a
     /// scalar value is read as U+FFFD.
     pub fn breaks_utf32<'a, U: ScalarUnit>(
         &'a self,
@@ -48,8 +48,8 @@ impl Table {
         UnitBreaks(Found::new(self, profile as u8, text))
     }
 
-    /// All positions of a text in UTF-16 in a profile, in their order: one before each scalar and one at the end. Units are read
-    /// as [`Table::breaks_utf16`] does.
+    /// All positions of a text in UTF-16 in a profile, in order: one before each scalar and one at the end. Units are
+    /// read as by [`Table::breaks_utf16`].
     pub fn positions_utf16<'a>(
         &'a self,
         profile: Profile,
@@ -58,8 +58,8 @@ impl Table {
         UnitPositions(Found::new(self, profile as u8, text))
     }
 
-    /// All positions of some scalars in a profile, in their order: one before each and one at the end. Units are read as
-    /// [`Table::breaks_utf32`] does.
+    /// All positions of scalars in a profile, in order: one before each and one at the end. Units are read as by
+    /// [`Table::breaks_utf32`].
     pub fn positions_utf32<'a, U: ScalarUnit>(
         &'a self,
         profile: Profile,

@@ -8,11 +8,11 @@ use core::ops::Range;
 use crate::calls;
 use crate::processor;
 
-/// How many words are asked for at once.
+/// How many words a call fetches.
 const ROOM: usize = 32;
 
-/// The words of a text in their order, each with the byte that it begins at: its parts between word boundaries (UAX #29) that have
-/// a letter or a number. No table is needed.
+/// The words of a text, in order, each with its offset: the parts between word boundaries (UAX #29) that have a letter
+/// or a number. They need no table.
 ///
 /// ```no_run
 /// let found: Vec<(usize, &str)> = lbk::words("So, 3 words.").collect();
@@ -25,7 +25,7 @@ pub fn words(text: &str) -> Words<'_> {
     }
 }
 
-/// The bytes of each word of a text of bytes, in their order. Ill-formed bytes are read as `String::from_utf8_lossy` does.
+/// The byte range of each word of a text, in order. Ill-formed bytes are replaced as by `String::from_utf8_lossy`.
 #[inline]
 pub fn word_ranges(text: &[u8]) -> WordRanges<'_> {
     processor::require();
@@ -57,14 +57,14 @@ impl<'a> Iterator for Words<'a> {
 
 impl FusedIterator for Words<'_> {}
 
-/// The bytes of each word of a text. [`word_ranges`] makes it.
+/// The byte range of each word of a text. [`word_ranges`] makes it.
 #[derive(Clone)]
 pub struct WordRanges<'a> {
     text: &'a [u8],
     state: calls::WordState,
-    /// The next word is that of the block.
+    /// The index of the next word in the block.
     next: usize,
-    /// So many words the block has. They are the last ones where it has room for more.
+    /// The number of words in the block. If it is not full, they are the last ones.
     count: usize,
     block: MaybeUninit<[calls::Word; ROOM]>,
 }
@@ -72,7 +72,7 @@ pub struct WordRanges<'a> {
 impl WordRanges<'_> {
     #[inline]
     fn fill(&mut self) {
-        // SAFETY: the text and the block are as long as is said, and the state and the block are borrowed by nobody else.
+        // SAFETY: the text and the block have the given lengths, and the state and the block are borrowed exclusively.
         let count = unsafe {
             calls::lbk_words(
                 &mut self.state,
