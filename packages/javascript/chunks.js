@@ -1,17 +1,17 @@
-// A text cut into chunks, as search and retrieval take them: never within a word (UAX #29) or where a line may not break.
+// Cuts a text into chunks for search and retrieval, always at breaks outside words (UAX #29).
 //
 //     import { Chunker } from "lbk/chunks";
 //     const chunker = await Chunker.load();
 //     for (const { text, start } of chunker.chunks(document, { most: 500 })) ..
 //
-// The breaks and the words are those of the modules. Which of them end chunks is decided here, as lbk_chunks of lbk.h does.
+// The modules find the breaks and the words. This file decides which of them end chunks, as lbk_chunks of lbk.h does.
 import { KINDS, Table, profileNumber } from "./lbk.js";
 import { piece } from "./parts.js";
 import { Words } from "./words.js";
 
 const MUST = 2;
 
-/** The limits that options have, each a whole number; without a limit of words that is Infinity. */
+/** The limits in the options, each a whole number; Infinity for any number of words. */
 function limitsOf({ most = 500, words = Infinity, least = Math.floor(most / 2), overlap = 0 } = {}) {
   const check = (isRight, name, wanted, given) => {
     if (!isRight) throw new RangeError(`${name} is ${wanted}, and not ${String(given)}`);
@@ -24,7 +24,7 @@ function limitsOf({ most = 500, words = Infinity, least = Math.floor(most / 2), 
   return { most, words, least, overlap };
 }
 
-/** The breaks that stand within no word, in their order, and how many words are before each. */
+/** The breaks outside words, in order, and how many words come before each. */
 function cutsOf({ at, kind, rule }, { start, end }) {
   const column = (Kind) => new Kind(at.length);
   const cuts = { at: column(Uint32Array), words: column(Uint32Array), kind: column(Uint8Array), rule: column(Uint8Array) };
@@ -51,12 +51,12 @@ class Cutting {
     this.#limits = limits;
   }
 
-  /** Whether a chunk fits that begins at a place with so many words before it, and ends at a cut. */
+  /** Whether a chunk fits that begins at an offset, with so many words before it, and ends at a cut. */
   #fits(start, words, end) {
     return this.#cuts.at[end] - start <= this.#limits.most && this.#cuts.words[end] - words <= this.#limits.words;
   }
 
-  /** The cut that ends a chunk, if those from the first on are ahead. */
+  /** The index of the cut that ends a chunk, among the cuts from index `first` on. */
   #endOf({ start, words, told }, first) {
     const { at, kind, count } = this.#cuts;
     let [k, early] = [first, -1];
@@ -67,7 +67,10 @@ class Cutting {
     return k < count && early >= 0 ? early : k - 1;
   }
 
-  /** The cut at which the next chunk begins, among those from the first on, which are within this one. */
+  /**
+   * The index of the cut at which the next chunk begins, among the cuts from index `first` on, which are inside this
+   * one.
+   */
   #startBehind(start, first, end) {
     const { at, words, count } = this.#cuts;
     if (this.#limits.overlap === 0 || end + 1 === count) return end;
@@ -81,7 +84,7 @@ class Cutting {
   *chunks() {
     const { at, words, kind, rule, count } = this.#cuts;
     let here = { start: 0, words: 0, told: 0 };
-    // (the first cut that is ahead, and the first one behind the start)
+    // (the first cut ahead, and the first one after the start)
     for (let [first, within] = [0, 0]; first < count; ) {
       const end = this.#endOf(here, first);
       const alone = !this.#fits(here.start, here.words, end);
@@ -109,7 +112,7 @@ export class Chunker {
     return new Chunker(...(await Promise.all([Table.find(), Words.load()])));
   }
 
-  // (this looks at its arguments when it is called, and not in the first step)
+  // (this checks its arguments in the call, not in the first step)
   chunks(text, options) {
     const limits = limitsOf(options);
     profileNumber(options);

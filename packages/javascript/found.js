@@ -1,4 +1,4 @@
-// The property files of a folder of this machine, in Node, and the folders that may have them.
+// The property files in a local folder, in Node, and the folders that may have them.
 import { existsSync, readFileSync, statSync } from "node:fs";
 import { homedir } from "node:os";
 import { isAbsolute, join, resolve } from "node:path";
@@ -29,7 +29,7 @@ class Folder {
   }
 }
 
-/** An archive as UCD.zip is one: of one part, with files that are stored or deflated. */
+/** A zip archive like UCD.zip: in one part, with files that are stored or deflated. */
 class Archive {
   #bytes;
   #entries = new Map();
@@ -42,7 +42,7 @@ class Archive {
     this.#guarded(() => this.#list(end));
   }
 
-  /** Lists the entries that stand in front of the archive's end, each with its method, its size and its place. */
+  /** Lists the entries before the archive's end, each with its method, size and offset. */
   #list(end) {
     const bytes = this.#bytes;
     let at = bytes.readUInt32LE(end + 16);
@@ -88,19 +88,21 @@ function rootOf(path) {
 }
 
 /**
- * The contents of the four files in a folder, in its folder `ucd` or its archive UCD.zip, or in such an archive itself: as Unicode
- * lays them out, or side by side.
+ * The contents of the four files in a folder, in its folder `ucd`, in its archive UCD.zip, or in such an archive: in
+ * Unicode's layout, or side by side.
  */
 export function contents(folder) {
   const root = rootOf(folder instanceof URL ? fileURLToPath(folder) : folder);
   const below = root.has(FILES[0]) || !root.has(`ucd/${FILES[0]}`) ? "" : "ucd/";
   return FILES.map((name) => {
-    const beside = name.replace(/.*\//, "");
-    return root.read(below + (root.has(below + name) || !root.has(below + beside) ? name : beside));
+    const flat = name.replace(/.*\//, "");
+    return root.read(below + (root.has(below + name) || !root.has(below + flat) ? name : flat));
   });
 }
 
-/** Where the files are looked for: in the folder that UNICODE_DATA names, or else in those of the system and of the user. */
+/**
+ * The folders to look for the files in: the one that UNICODE_DATA names, or else those of the system and of the user.
+ */
 export function folders({ UNICODE_DATA: named, XDG_DATA_HOME: users = "" } = process.env) {
   if (named) return [resolve(named)];
   const ofUser = [users, join(homedir(), ".local/share")].filter(isAbsolute).map((it) => join(it, "unicode"));

@@ -1,14 +1,14 @@
-/** Where a line of text may break, and where it must (UAX #14, Unicode 15.0, rules LB2 to LB31). */
+/** Finds where a line of text may break and where it must (UAX #14, Unicode 15.0, rules LB2 to LB31). */
 
-/** What a rule says of a position: the line does not break there, may break there, or must. */
+/** The verdict at a position: a line does not break there, may break there, or must. */
 export type Kind = "no" | "may" | "must";
 
-/** A position of a text, and the rule that decided it. */
+/** A position in a text, and the rule that decided it. */
 export interface Position {
-  /** The place: UTF-16 code units from the start of a string, bytes from the start of a `Uint8Array`. */
+  /** The offset: UTF-16 code units from the start of a string, bytes from the start of a `Uint8Array`. */
   readonly at: number;
   readonly kind: Kind;
-  /** The number of the rule without `LB`, as "8a". */
+  /** The number of the rule without `LB`, such as "8a". */
   readonly rule: string;
 }
 
@@ -20,7 +20,7 @@ export interface Break extends Position {
 /** The text between two breaks, with the break that ends it. */
 export interface Segment {
   readonly segment: string;
-  /** Where it starts, in UTF-16 code units. */
+  /** Its offset, in UTF-16 code units. */
   readonly index: number;
   readonly kind: "may" | "must";
   readonly rule: string;
@@ -37,50 +37,55 @@ export interface Columns {
 }
 
 export interface Options {
-  /** 1, the default, is rule 15 of Unicode 15.0; 2 has rules 15a and 15b in its place. */
+  /** 1, the default, has rule 15 of Unicode 15.0; 2 has rules 15a and 15b instead. */
   readonly profile?: 1 | 2;
 }
 
-/** Text: a string, whose lone surrogates are read as U+FFFD, or UTF-8 bytes, ill-formed or not. */
+/** Text: a string (lone surrogates are read as U+FFFD), or UTF-8 bytes, ill-formed or not. */
 export type Text = string | Uint8Array;
 
 /** Bytes, or where to get them. A `string` is the URL or, in Node, the path of a file. */
 export type Source = ArrayBuffer | ArrayBufferView | Response | URL | string;
 
-/** The tables made from the files of the Unicode Character Database, with the module that decides by them. */
+/** A table made from the files of the Unicode Character Database, with the module that uses it. */
 export class Table {
   /**
    * A table that the library saved or packed in any language, compressed by gzip or not. The module checks its digest.
    * @param saved The bytes of the table, or where they are.
-   * @param module The module `lbk.wasm`; the one beside this file unless given.
+   * @param module The module `lbk.wasm`; the default is the one next to this file.
    * @throws RangeError if the bytes are not a whole table of this version.
    */
   static fromBytes(saved: Source, module?: Source): Promise<Table>;
 
   /**
-   * The table of the first folder of this machine that has the property files, in Node: of the one that UNICODE_DATA names, or else
-   * of /usr/share/unicode, its `ucd`, and `unicode` in XDG_DATA_HOME and ~/.local/share. It is read once in a process.
-   * @throws Error where none is found: it says what to do, and why each folder was refused.
+   * In Node, the table of the property files on this machine: in the folder that UNICODE_DATA names, or else in the
+   * first of these that has them: /usr/share/unicode, its `ucd`, and `unicode` in XDG_DATA_HOME and ~/.local/share. The
+   * files are read once per process.
+   * @throws Error if no folder has them: it says what to do, and why each folder was refused.
    */
   static find(): Promise<Table>;
 
   /**
-   * A table of the four property files that Unicode 15.0 published: LineBreak.txt, EastAsianWidth.txt,
-   * DerivedGeneralCategory.txt and emoji-data.txt. It is, byte for byte, the one that the library for C makes of them.
+   * Makes a table of the four property files that Unicode 15.0 published: LineBreak.txt, EastAsianWidth.txt,
+   * DerivedGeneralCategory.txt and emoji-data.txt. It is, byte for byte, the one that the C library makes.
    * @param files The URL or, in Node, the path of a folder with `LineBreak.txt`, `EastAsianWidth.txt`,
-   *   `extracted/DerivedGeneralCategory.txt` and `emoji/emoji-data.txt`; or these four files, in this order. In Node the folder
-   *   may have them side by side, or in its folder `ucd` or its archive UCD.zip, and the path may be that of such an archive.
-   * @param module The module `lbk.wasm`; the one beside this file unless given.
-   * @throws RangeError if that would make another table of the files than of those published.
+   *   `extracted/DerivedGeneralCategory.txt` and `emoji/emoji-data.txt`; or these four files, in this order. In Node
+   *   the folder may have them side by side, or in its folder `ucd` or its archive UCD.zip, and the path may be that of
+   *   such an archive.
+   * @param module The module `lbk.wasm`; the default is the one next to this file.
+   * @throws RangeError if these files would make another table than the published ones.
    */
   static fromFiles(files: URL | string | readonly Source[], module?: Source): Promise<Table>;
 
   /**
-   * The breaks of a text, in their order. The last is the text's end; an empty text has none. Of a text of any size the
-   * module holds 256 KB at a time, or more where so much has no break.
+   * The breaks of a text, in order. The last is the text's end; an empty text has none. The module holds 256 KB of a
+   * text at a time, or more if 256 KB have no break.
    */
   breaks(text: Text, options?: Options): IterableIterator<Break>;
-  /** All positions of a text, the start and the end among them, with what decided each. The module holds the whole text. */
+  /**
+   * All positions of a text, with its start and its end, each with the rule that decided. The module holds the whole
+   * text.
+   */
   positions(text: Text, options?: Options): IterableIterator<Position>;
   /** The pieces of a string between its breaks. */
   segments(text: string, options?: Options): IterableIterator<Segment>;
@@ -88,17 +93,18 @@ export class Table {
   breakColumns(text: Text, options?: Options): Columns;
   /** All positions as columns. */
   positionColumns(text: Text, options?: Options): Columns;
-  /** The number of a rule as it is written, without `LB`, as "8a"; "" for a number that no rule has. */
+  /** The label of a rule without `LB`, such as "8a"; "" for a number that no rule has. */
   ruleLabel(rule: number): string;
-  /** What a rule says, in one line, by its number or label; "" for one that there is not. */
+  /** What a rule says, in one line, by its number or label; "" for an unknown rule. */
   ruleText(rule: number | string): string;
   /** The table in a packed form of a few kilobytes, the same in each language, for {@link Table.fromBytes}. */
   pack(): Uint8Array;
   /**
-   * The line breaking class of a code point, as "AL", once rule LB1 has resolved it (UAX #14, section 5.1); "" for a surrogate.
+   * The line breaking class of a code point, such as "AL", as rule LB1 resolves it (UAX #14, section 5.1); "" for a
+   * surrogate.
    * @throws RangeError if the number is not a code point.
    */
   classOf(codePoint: number): string;
-  /** How many bytes of memory the module has. */
+  /** The size of the module's memory in bytes. */
   readonly memorySize: number;
 }

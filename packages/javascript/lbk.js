@@ -1,18 +1,18 @@
-// Where a line of text may break, and where it must (UAX #14, Unicode 15.0), in browsers and Node.
+// Finds where a line of text may break and where it must (UAX #14, Unicode 15.0), in browsers and Node.
 //
 //     import { Table } from "lbk";
 //     const table = await Table.fromBytes("lbk.table");
 //     for (const { at, kind, rule } of table.breaks("naïve text")) ..
 //
-// lbk.wasm does the work. It is proved, and has no imports. This file is tested and not proved: it copies text into the
-// module's memory and positions out of it, and counts the places of strings in UTF-16 code units.
+// lbk.wasm does the work. It is proved, and has no imports. This file is tested, not proved: it copies text into the
+// module's memory and positions out of it, and converts the offsets of strings to UTF-16 code units.
 import { ColumnsBuilder, Machine, ROOM, goOn } from "./machine.js";
 import { UnitCounter, bytesOf, checkText, guarded, isLocal, unzipped } from "./module_memory.js";
 
 const RULE_NUMBERS = 256;
 export const KINDS = ["no", "may", "must"];
 
-/** A file of a folder, which is a URL or a string, as `Source` in lbk.d.ts says. */
+/** A file in a folder: a URL or a string, like `Source` in lbk.d.ts. */
 function inFolder(folder, name) {
   if (folder instanceof URL) return new URL(name, folder.href.replace(/\/?$/, "/"));
   return `${folder.replace(/\/$/, "")}/${name}`;
@@ -120,7 +120,7 @@ export class Table {
     return this.#columns(text, options, (profile) => this.#wholeText(text, profile));
   }
 
-  // (these look at their arguments when they are called, and not in the first step)
+  // (these check their arguments in the call, not in the first step)
   breaks(text, options) {
     return this.#rows(this.breakColumns(text, options));
   }
@@ -148,12 +148,12 @@ export class Table {
     }
   }
 
-  /** The breaks from a state on, for the streams of parts.js. */
+  /** The breaks from a state on, for the streams in parts.js. */
   [goOn](...words) {
     return this.#guarded(() => this.#machine.breaks(...words));
   }
 
-  /** The columns that `find` finds of a text. */
+  /** The columns that `find` returns for a text. */
   #columns(text, options, find) {
     checkText(text);
     const profile = profileNumber(options);

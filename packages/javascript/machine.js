@@ -1,20 +1,20 @@
-// An instance of lbk.wasm with a table, and the columns that it finds.
+// An instance of lbk.wasm with a table, and the columns that it returns.
 import { ModuleMemory, isAscii } from "./module_memory.js";
 
-/** How many breaks or positions a call of the module has room for. */
+/** The most breaks or positions that a call of the module returns. */
 export const ROOM = 2048;
-/** How many bytes of a text are in the module's memory at once, where its breaks are asked for. */
+/** How many bytes of a text the module holds at once when it looks for breaks. */
 const WINDOW = 262144;
-/** For how many positions columns get room before these are found. */
+/** The room of columns for positions before any is found. */
 const MOST_EXPECTED = 1 << 22;
-/** How many bytes an lbk_table of include/lbk.h has. */
+/** The size of an lbk_table of include/lbk.h in bytes. */
 const TABLE_SIZE = 16 + 672 + 0x110000;
 const STATE_SIZE = 16;
 const POSITION_SIZE = 16;
-/** How many bytes an lbk_text has; names have fewer. */
+/** The size of an lbk_text in bytes; names are shorter. */
 const TEXT_SIZE = 96;
 const COLUMNS = ["at", "kind", "rule"];
-/** The name of what a Table has for parts.js. */
+/** The name of the member of Table that parts.js uses. */
 export const goOn = Symbol("goOn");
 
 /** The columns of positions of a text of this length, which grow as positions are added. */
@@ -29,7 +29,7 @@ export class ColumnsBuilder {
     this.rule = new Uint8Array(room);
   }
 
-  /** Adds the columns of a block. Where there is no room for them, as much is made as the text needs, if the rest of it is like its front. */
+  /** Adds the columns of a block. Full columns get the room that the text needs if its rest is like its start. */
   add(block) {
     const end = this.size + block.at.length;
     if (end > this.at.length) {
@@ -66,7 +66,7 @@ export class Machine {
     this.kind = memory.place(ROOM);
     this.rule = memory.place(ROOM);
     this.text = memory.place(WINDOW);
-    // (as the module takes its pointers and sizes)
+    // (the module's type of pointers and sizes)
     this.big = { room: BigInt(ROOM) };
     for (const name of ["table", "state", "block", "at", "kind", "rule", "text"]) this.big[name] = BigInt(this[name]);
   }
@@ -76,7 +76,7 @@ export class Machine {
     return this.memory.bytes(this.table, TABLE_SIZE);
   }
 
-  /** Puts a table, packed or not, into memory that is zeros yet. */
+  /** Writes a table, packed or not, to memory that is still zero. */
   loadTable(saved) {
     if (saved.length === TABLE_SIZE) this.tableBytes.set(saved);
     else this.memory.exports.lbk_unpack(this.big.table, this.big.text, BigInt(this.memory.loadAll(saved, this.text)));
@@ -94,7 +94,7 @@ export class Machine {
     return this.memory.bytes(this.text, Number(size)).slice();
   }
 
-  /** The text that a call of the module writes into the block, up to the zeros at its end. */
+  /** The text that a call of the module writes to the block, without the zeros at its end. */
   #text(write) {
     write(this.big.block);
     const text = this.memory.bytes(this.block, TEXT_SIZE);
@@ -120,13 +120,13 @@ export class Machine {
     return state;
   }
 
-  /** Has a call write the next positions of the loaded text into the block, so many at most, and returns how many these are. */
+  /** Lets a call write the next positions of the loaded text to the block, at most `most`, and returns how many. */
   find(call, size, room) {
     const { table, state, text, block } = this.big;
     return Number(this.memory.exports[call](table, state, text, BigInt(size), block, BigInt(room)));
   }
 
-  /** The columns of the first positions of the block, whose places count from `from` on. The next call writes over them. */
+  /** The columns of the first positions of the block, with offsets from `from` on. The next call overwrites them. */
   columns(count, from) {
     const { block, at, kind, rule, room } = this.big;
     this.memory.exports.lbk_columns(block, BigInt(count), from, at, room, kind, room, rule, room);
@@ -138,7 +138,7 @@ export class Machine {
     };
   }
 
-  /** A copy of the state, which can be put back. */
+  /** A copy of the state, to restore it later. */
   get savedState() {
     return this.memory.bytes(this.state, STATE_SIZE).slice();
   }
@@ -160,13 +160,13 @@ export class Machine {
   }
 
   /**
-   * The breaks from a state on, with a window of the text in memory at a time: of bytes, of a string's ASCII, or of its units. Where
-   * the text goes on, its end is no break. Up to `taken` the text is not needed again, by the state there.
+   * The breaks from a state on, with a window of the text in memory at a time: of bytes, of a string's ASCII, or of its
+   * units. If the text goes on, its end is no break. With the state at `taken`, the text before it is not needed again.
    */
   breaks(text, start, goesOn = false) {
     const columns = new ColumnsBuilder(text.length);
     this.savedState = start;
-    // (for ASCII the module is faster over bytes)
+    // (the module reads ASCII faster as bytes)
     let inUnits = typeof text === "string" && !isAscii(text.slice(0, WINDOW));
     let [from, size, room] = [0, WINDOW, ROOM];
     for (;;) {
@@ -181,7 +181,7 @@ export class Machine {
       if (this.hasEnded) return { columns: columns.finish(), taken: text.length, state: this.savedState };
       const taken = this.dropTaken();
       from += taken;
-      // Where no block was full fewer breaks are asked for, and where the window has none but at its end more has to be seen.
+      // If no block was full, ask for fewer breaks; if the window has no break except at its end, enlarge it.
       room = taken > 0 || count < 2 ? ROOM : count - 1;
       if (taken > 0 || count >= 2) continue;
       if (isAll) return { columns: columns.finish(), taken: from, state: this.savedState };
@@ -190,8 +190,8 @@ export class Machine {
   }
 
   /**
-   * The breaks of a window by full blocks, and how many the last call found. What is left is decided by what follows, too, unless
-   * the text ends there.
+   * The breaks of a window in full blocks, and how many the last call found. What is left also depends on what follows,
+   * unless the text ends there.
    */
   #windowBreaks({ call, from, size, isLast }, room, columns) {
     let count;

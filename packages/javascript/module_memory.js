@@ -1,13 +1,13 @@
-// What the modules share: where bytes come from, their memory, and the places of strings.
+// What the modules share: sources of bytes, their memory, and the offsets of strings.
 
 const isNode = typeof process === "object" && process.versions?.node !== undefined;
 
-/** Whether a source, a string or a URL, is a path of this machine, which Node reads. */
+/** Whether a source, a string or a URL, is a local path, which Node reads. */
 export function isLocal(source) {
   return isNode && (typeof source === "string" || source.protocol === "file:");
 }
 
-/** The bytes of a source, as `Source` in lbk.d.ts says. */
+/** The bytes of a `Source` (lbk.d.ts). */
 export async function bytesOf(source) {
   if (ArrayBuffer.isView(source)) {
     return new Uint8Array(source.buffer, source.byteOffset, source.byteLength);
@@ -27,7 +27,7 @@ export async function bytesOf(source) {
   return new Uint8Array(await response.arrayBuffer());
 }
 
-/** The bytes themselves, or what gzip compressed into them. */
+/** The bytes, decompressed if gzip compressed them. */
 export async function unzipped(bytes) {
   if (bytes[0] !== 0x1f || bytes[1] !== 0x8b) return bytes;
   const stream = new Blob([bytes]).stream().pipeThrough(new DecompressionStream("gzip"));
@@ -40,7 +40,7 @@ export async function unzipped(bytes) {
 
 const PAGE = 65536;
 
-/** Where a piece of a string of so many units ends. A pair of surrogates is one scalar, and stays whole. */
+/** The end of a piece of a string of at most so many units. It does not split a pair of surrogates. */
 function endOfUnits(text, from, size) {
   const end = from + size;
   if (end >= text.length) return text.length;
@@ -51,7 +51,9 @@ export function isContinuation(byte) {
   return (byte & 0xc0) === 0x80;
 }
 
-/** Where a piece of so many bytes ends. A scalar, in which at most three bytes go on, stays whole. */
+/**
+ * The end of a piece of at most so many bytes. It does not split a scalar, which has at most three continuation bytes.
+ */
 function endOfBytes(bytes, from, size) {
   const most = from + size;
   if (most >= bytes.length) return bytes.length;
@@ -64,7 +66,7 @@ export function isAscii(text) {
   return !/[^\0-\x7f]/.test(text);
 }
 
-/** An instance of a module without imports, and its memory, in which places are given out one after another. */
+/** An instance of a module without imports, and its memory, which is allocated front to back. */
 export class ModuleMemory {
   #memory;
   #end;
@@ -76,7 +78,7 @@ export class ModuleMemory {
     this.#end = Number(instance.exports.__heap_base.value);
   }
 
-  /** The start of so many bytes that are this caller's. */
+  /** Allocates so many bytes for the caller, and returns their address. */
   place(size) {
     const start = (this.#end + 15) & ~15;
     this.#end = start + size;
@@ -108,8 +110,8 @@ export class ModuleMemory {
   }
 
   /**
-   * Copies the next bytes of a text, or of a string of ASCII, to a place after which none was given out, and returns how many.
-   * Where other characters are in the string nothing is returned.
+   * Copies the next bytes of a text, or of an ASCII string, to the end of the allocated memory, and returns how many.
+   * Returns nothing if the string has other characters.
    */
   loadBytes(text, from, start, size) {
     this.#reserve(start + size);
@@ -123,7 +125,7 @@ export class ModuleMemory {
     return piece.length;
   }
 
-  /** Copies the next units of a string, of at most so many bytes, in the same way. */
+  /** In the same way copies the next units of a string, of at most so many bytes. */
   loadUnits(text, from, start, size) {
     const end = endOfUnits(text, from, size / 2);
     this.#reserve(start + size);
@@ -132,7 +134,7 @@ export class ModuleMemory {
     return end - from;
   }
 
-  /** Copies a whole text as UTF-8 in the same way, and returns its size there. */
+  /** In the same way copies a whole text as UTF-8, and returns its size in bytes. */
   loadAll(text, start) {
     const most = typeof text === "string" ? 3 * text.length : text.length;
     this.#reserve(start + most);
@@ -142,18 +144,20 @@ export class ModuleMemory {
   }
 }
 
-/** The greatest place that columns have room for. */
+/** The greatest offset that columns can hold. */
 const MOST_UNITS = 0xffffffff;
 
 export function checkText(text) {
-  // (an array of another window or context is no instance of this one's class)
+  // (an array of another window or context is not an instance of this one's class)
   if (typeof text !== "string" && Object.prototype.toString.call(text) !== "[object Uint8Array]") {
     throw new TypeError("a text is a string or a Uint8Array");
   }
   if (text.length > MOST_UNITS) throw new RangeError(`a text has at most ${MOST_UNITS} bytes or units`);
 }
 
-/** What an action returns. Where it fails an instance may have stopped for ever, so `startAgain` makes a new one. */
+/**
+ * Returns the result of an action. If it fails, an instance may have stopped for ever, so `startAgain` makes a new one.
+ */
 export function guarded(action, startAgain) {
   try {
     return action();
@@ -164,23 +168,23 @@ export function guarded(action, startAgain) {
   }
 }
 
-/** How many UTF-16 code units begin with each byte of UTF-8: none with a continuation byte, two with the first of four. */
+/** How many UTF-16 code units each byte of UTF-8 begins: a continuation byte none, the first of four bytes two. */
 const UNITS_OF_BYTE = Uint8Array.from({ length: 256 }, (_, byte) => (byte < 0x80 || byte >= 0xc0) + (byte >= 0xf0));
 
-/** Where the bytes of a text stand in it, asked for in rising order. */
+/** Converts rising byte offsets in a text to units. */
 export class UnitCounter {
   #bytes;
   #isPlain;
   #at = 0;
   #units = 0;
 
-  /** The bytes are so many units of the text. */
+  /** How many units of the text the bytes are. */
   constructor(bytes, units) {
     this.#bytes = bytes;
     this.#isPlain = bytes.length === units;
   }
 
-  /** Replaces places in bytes, which rise, by those in units. Where each byte is a unit they are these already. */
+  /** Replaces rising byte offsets by offsets in units. If each byte is a unit, they are the same. */
   convert(places) {
     if (this.#isPlain) return;
     const bytes = this.#bytes;

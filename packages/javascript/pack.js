@@ -1,12 +1,12 @@
 #!/usr/bin/env node
-// Packs a table for a web page: some 2 KB instead of 1.1 MB. Table.fromBytes takes both.
+// Packs a table for a web page: some 2 KB instead of 1.1 MB. Table.fromBytes accepts both.
 //
 //     node pack.js TABLE PACKED
 //     node pack.js TABLE KINDS LINE_BREAK EAST_ASIAN CATEGORY EMOJI
 //
-// TABLE is the folder of the property files of Unicode 15.0, or a table that save_table of the library for C or Table.save of
-// the Python package wrote, or a packed one. PACKED is compressed by gzip. With the four files of a table it writes what
-// Table.fromFiles needs: the head of the packed table, and then which kind goes with which values, as JSON.
+// TABLE is the folder of the property files of Unicode 15.0, or a table that save_table of the C library or Table.save
+// of the Python package wrote, or a packed one. PACKED is compressed by gzip. With the four files of a table it writes
+// what Table.fromFiles needs: the head of the packed table, and then the kind for each combination of values, as JSON.
 import { readFileSync, statSync, writeFileSync } from "node:fs";
 import { gzipSync } from "node:zlib";
 import { Table } from "./lbk.js";
@@ -18,7 +18,7 @@ function fail(fault, status = 1) {
   process.exit(status);
 }
 
-/** The head of a packed table and the kinds that go with the values in its files. */
+/** The head of a packed table, and the kinds for the values in its files. */
 function kindsOfValues(packed, files) {
   const kinds = kindsOf(packed);
   const byValues = new Map([...runsOfValues(files)].map(({ values, first }) => [values, kinds[first]]));

@@ -1,6 +1,6 @@
-// The packed form of a table, as lbk_pack of include/lbk.h has it: a head, and a record for each run of codes of one kind.
+// The packed form of a table (lbk_pack of include/lbk.h): a head, and a record for each run of code points of one kind.
 
-/** How many bytes stand before the records: the form's name, its version, and the digest of the records. */
+/** The size of the head in bytes: the form's name, its version, and the digest of the records. */
 export const HEAD_SIZE = 12;
 export const CODES = 0x110000;
 
@@ -11,7 +11,7 @@ function recordOf({ kind, size }) {
   return more < SHORT ? [kind, more] : [kind, SHORT + (more % SHORT), (more >> 7) & 0xff, more >> 15];
 }
 
-/** The packed form that has this head, of runs of codes; neighbours of one kind are one run. */
+/** The packed form with this head and these runs of code points; adjacent runs of one kind are one. */
 export function packedOf(head, runs) {
   const longest = [];
   for (const { kind, size } of runs) {
@@ -22,7 +22,7 @@ export function packedOf(head, runs) {
   return Uint8Array.from([...head, ...longest.flatMap(recordOf)]);
 }
 
-/** The kind of each code of a packed table that is whole. */
+/** The kind of each code point of an intact packed table. */
 export function kindsOf(packed) {
   const kinds = new Uint8Array(CODES);
   let code = 0;

@@ -1,27 +1,27 @@
-// Texts in parts: that come in pieces, or that are cut where a line must end.
+// Texts that arrive in pieces, or that are cut at required breaks.
 //
 //     import { Stream } from "lbk/parts";
 //     const stream = new Stream(table);
 //     for await (const piece of pieces) for (const { at, kind, rule } of stream.feed(piece)) ..
 //     for (const { at, kind, rule } of stream.finish()) ..
 //
-// The module decides. What waits for more of the text is held here.
+// The module decides. This file holds the text that waits for more.
 import { KINDS, profileNumber } from "./lbk.js";
 import { Machine, goOn } from "./machine.js";
 import { checkText, isContinuation } from "./module_memory.js";
 
 const MUST = 2;
-/** So many units or bytes beside a place are looked at for a cut at first. */
+/** How many units or bytes on each side of an offset are searched for a cut at first. */
 const NEAR = 1024;
-/** How many units or bytes a scalar has at most. */
+/** The most units or bytes of a scalar. */
 const LONGEST = 4;
 
-/** A part of a string, or of bytes, which are not copied. */
+/** A part of a string, or of bytes without copying them. */
 export function piece(text, from, to) {
   return typeof text === "string" ? text.slice(from, to) : text.subarray(from, to);
 }
 
-/** Where the scalars of a text end that are whole, whatever follows it. */
+/** The end of the scalars of a text that are complete, whatever follows it. */
 function endOfScalars(text) {
   const end = text.length;
   if (typeof text === "string") return (text.charCodeAt(end - 1) & 0xfc00) === 0xd800 ? end - 1 : end;
@@ -31,7 +31,7 @@ function endOfScalars(text) {
   return lead + size > end ? lead : end;
 }
 
-/** Two strings, or two arrays of bytes, as one. */
+/** Joins two strings, or two arrays of bytes. */
 function joined(front, back) {
   if (typeof front === "string") return front + back;
   const bytes = new Uint8Array(front.length + back.length);
@@ -40,11 +40,11 @@ function joined(front, back) {
   return bytes;
 }
 
-/** The breaks of a text that comes in pieces. */
+/** The breaks of a text that arrives in pieces. */
 export class Stream {
   #table;
   #state;
-  /** What came and is not settled, by the state before it, and how many units or bytes were before that. */
+  /** The text that is not settled, the state before it, and how many units or bytes came before it. */
   #rest;
   #before = 0;
 
@@ -67,7 +67,7 @@ export class Stream {
     return this.#rest === undefined ? [] : this.#take(this.#rest, this.#rest.length, false);
   }
 
-  /** The breaks that the text settles up to a place. */
+  /** The breaks that the text settles up to an offset. */
   #take(text, end, goesOn) {
     const { columns, taken, state } = this.#table[goOn](piece(text, 0, end), this.#state, goesOn);
     const before = this.#before;
@@ -83,7 +83,7 @@ function checkPlace(at) {
   if (!Number.isInteger(at) || at < 0) throw new RangeError("a place is a whole number from 0 on");
 }
 
-/** The places within a part of a text before which a line must end, whatever is before and after the part. */
+/** The offsets inside a part of a text with a required break, whatever is before and after the part. */
 function lineEnds(table, text, from, to) {
   const { at, kind } = table.breakColumns(piece(text, from, to));
   return [...at].filter((place, k) => kind[k] === MUST && from + place < to).map((place) => from + place);

@@ -1,22 +1,22 @@
-// A table out of the four property files of Unicode 15.0 (UAX #44, section 4.2).
+// Makes a table of the four property files of Unicode 15.0 (UAX #44, section 4.2).
 //
-// What the rules make of a character is not decided here. lbk.kinds.gz, which pack.js made of a table of the library for C, has
-// the head of that table when it is packed, in which its digest is, and which kind goes with which values. So a character gets the
-// kind that the library gave to one with the same values; and as the module compares the digest, files of which the library makes
-// another table are refused, and so is whatever is read wrongly here.
+// This file does not know the rules. lbk.kinds.gz, which pack.js made from a table of the C library, has the head of
+// the packed table, with its digest, and the kind for each combination of values. So a character gets the kind that the
+// library gave to characters with the same values. The module compares the digest, so it refuses files that would make
+// another table, and any mistake of this reader.
 import { CODES, HEAD_SIZE, packedOf } from "./packed_table.js";
 
-/** Where the files are below a folder, in the order in which they are given. */
+/** The paths of the files in a folder, in the order of the arguments. */
 export const FILES = ["LineBreak.txt", "EastAsianWidth.txt", "extracted/DerivedGeneralCategory.txt", "emoji/emoji-data.txt"];
 
-/** What a file of any version begins with. */
+/** What a file of any version begins with, by its name. */
 const NAMES = ["# LineBreak-", "# EastAsianWidth-", "# DerivedGeneralCategory-", "# emoji-data"];
 const EMOJI = 3;
 const EMOJI_VERSION = "\n# Used with Emoji Version ";
 const TITLE_SIZE = 4096;
 const REMEDY = "Debian 12's unicode-data has it, as has https://www.unicode.org/Public/15.0.0/ucd/UCD.zip";
 
-/** The version of Unicode, or of emoji, that a file names as files of its name do. */
+/** The version of Unicode, or of emoji, that a file claims in the way of the files of its name. */
 function versionOf(bytes, k) {
   const head = new TextDecoder("latin1").decode(bytes.subarray(0, TITLE_SIZE));
   const words = k === EMOJI ? EMOJI_VERSION : NAMES[k];
@@ -25,7 +25,7 @@ function versionOf(bytes, k) {
   return found?.slice(1).map((it) => Number(it ?? 0)).join(".");
 }
 
-/** What the k-th file is, where it is not the one of its name that Unicode published. */
+/** Describes the k-th file, if it is not the one that Unicode published. */
 export function claimText(bytes, k) {
   const name = FILES[k].replace(/.*\//, "");
   const version = versionOf(bytes, k);
@@ -35,7 +35,7 @@ export function claimText(bytes, k) {
   return `${k === EMOJI ? "this is of Emoji " : "this is of Unicode "}${version}, and lbk goes by 15.0.0`;
 }
 
-/** Why there is no table of these files, which are in a folder or in none: what the first is that is of another version, or of none. */
+/** Why these files, in a folder or not, make no table: describes the first one of another version, or of none. */
 export function refusalOf(files, folder) {
   if (files.length !== FILES.length) return `${files.length} files are given, and not the ${FILES.length} property files`;
   const wrong = files.findIndex((bytes, k) => versionOf(bytes, k) !== "15.0.0");
@@ -44,12 +44,14 @@ export function refusalOf(files, folder) {
   return `${place}${FILES[wrong]}: ${claimText(files[wrong], wrong)}; ${REMEDY}`;
 }
 
-/** A row of a file, or what it says of codes that no row names: the first and the last code, and the value. */
+/**
+ * A row of a file, or its default for code points that no row names: the first and the last code point, and the value.
+ */
 const ROW = /^(# @missing: )?([0-9A-F]{4,6})(?:\.\.([0-9A-F]{4,6}))? *; *(\w+)/gm;
 const MOST_VALUES = 64;
 const PICTOGRAPHIC = "Extended_Pictographic";
 
-/** The values in a file, "" among them, and for each code the place there of its value. */
+/** The values in a file, with "", and for each code point the index of its value. */
 function valuesOf(bytes, isEmoji) {
   const values = [""];
   const places = new Uint8Array(CODES);
@@ -62,7 +64,9 @@ function valuesOf(bytes, isEmoji) {
   return { values, places };
 }
 
-/** The runs of codes with the same values in all of the files: the values, and the codes from `first` to before `end`. */
+/**
+ * The runs of code points with the same values in all files: the values, and the code points from `first` up to `end`.
+ */
 export function* runsOfValues(files) {
   const read = files.map((bytes, k) => valuesOf(bytes, k === 3));
   const keyOf = (code) => read.reduce((key, { places }) => MOST_VALUES * key + places[code], 0);
@@ -75,7 +79,7 @@ export function* runsOfValues(files) {
   }
 }
 
-/** The packed table of the four files, from what is known of tables: the head of the packed one, and the kinds of values. */
+/** The packed table of the four files, from the head of the packed table and the kinds of the values. */
 export function packedFrom(files, known) {
   if (files.length !== FILES.length) throw new RangeError(`there are ${FILES.length} property files`);
   const kinds = new Map(JSON.parse(new TextDecoder().decode(known.subarray(HEAD_SIZE))));

@@ -1,13 +1,13 @@
-// The words of a text (UAX #29, section 4): what a word count counts, and not spaces or punctuation.
+// The words of a text (UAX #29, section 4), without spaces and punctuation.
 //
 //     import { Words } from "lbk/words";
 //     const words = await Words.load();
 //     for (const { word, at } of words.words("naïve text")) ..
 //
-// lbk_words.wasm does the work. It is proved, has no imports, and contains the properties that it goes by.
+// lbk_words.wasm does the work. It is proved, has no imports, and contains the properties that it needs.
 import { ModuleMemory, UnitCounter, bytesOf, checkText, guarded } from "./module_memory.js";
 
-/** How many words a call of the module has room for. */
+/** The most words that a call of the module returns. */
 const ROOM = 4096;
 const WORD_SIZE = 16;
 const STATE_SIZE = 8;
@@ -21,24 +21,27 @@ class Machine {
     this.text = this.memory.place(0);
   }
 
-  /** Takes a whole text in, and returns its size there. */
+  /** Loads a whole text, and returns its size in bytes. */
   start(text) {
     this.memory.bytes(this.state, STATE_SIZE).fill(0);
     return this.memory.loadAll(text, this.text);
   }
 
-  /** Has the module write the next words into the block, and returns how many: as many as it holds, or all that are left. */
+  /** Lets the module write the next words to the block, and returns how many: a full block, or all that are left. */
   next(size) {
     return Number(this.memory.exports.lbk_words(...[this.state, this.text, size, this.block, ROOM].map(BigInt)));
   }
 
-  /** The starts and ends in turn of so many words of the block, each number as two halves. The next call writes over them. */
+  /**
+   * The alternating starts and ends of so many words of the block, each number as two halves. The next call overwrites
+   * them.
+   */
   halves(count) {
     return new Uint32Array(this.memory.buffer, this.block, 4 * count);
   }
 }
 
-/** Columns that grow as words are added, in a text of this length. */
+/** Columns for the words of a text of this length, which grow as words are added. */
 class ColumnsBuilder {
   #length;
   #size = 0;
@@ -50,8 +53,8 @@ class ColumnsBuilder {
   }
 
   /**
-   * Adds words whose starts and ends stand in turn. Where there is no room for them, as much is made as the text needs, if the
-   * rest of it is like its front.
+   * Adds words, given as alternating starts and ends. Full columns get the room that the text needs if its rest is like
+   * its start.
    */
   add(places) {
     const size = this.#size + places.length / 2;
