@@ -1,4 +1,4 @@
-//! `lbk`: where a text may break and where it must, and the rules that decide it.
+//! `lbk`: finds where a text may break and where it must, and the rules that decide.
 #![tactic(auto)]
 
 mod hints;
@@ -29,7 +29,7 @@ fn main(rt: HostRuntime) -> ExitCode {
     ExitCode::from(ending.status())
 }
 
-/// A run by the arguments after the program's name: how it ends, which a person was shown.
+/// Runs the program with the arguments after its name, and prints how the run ended.
 fn run_and_tell(rt: &HostRuntime) -> Ending {
     let notes = Notes::new();
     let given = match words_given(rt) {
@@ -46,7 +46,8 @@ fn run_and_tell(rt: &HostRuntime) -> Ending {
     run_on_devices(rt, without_help_of_help(words.as_slice()), &named, &notes)
 }
 
-/// A run over the files of the system, from its texts or standard input to standard output, which a person was shown.
+/// Runs the program over the files of the system, from its texts or standard input to standard output, and prints how
+/// the run ended.
 fn run_on_devices<'x>(
     rt: &'x HostRuntime,
     words: &'x [&'x str],
@@ -84,8 +85,8 @@ pub fn out_of_memory() -> Ending {
     Ending::Refused(RunFault::Memory)
 }
 
-/// Tells how a run ends: help on standard output; usage, errors and hints on standard error. The result is that ending,
-/// or a refused one where the help could not be written.
+/// Prints how a run ended: help on standard output; usage, errors and hints on standard error. Returns that ending, or
+/// a refused one if the help could not be written.
 fn told(rt: &HostRuntime, caller: Caller<'_>, ending: Ending, notes: &Notes) -> Ending {
     let ending = with_help_written(rt, ending, notes);
     match &ending {

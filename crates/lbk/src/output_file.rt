@@ -1,11 +1,11 @@
-//! The file that the output goes to, from which no text is to be read: it would grow while it is read.
+//! The file that the output goes to. No text is read from it, because it would grow while it is read.
 
 use lbk_feed::noted::Notes;
 use std::fs::{self, Metadata};
 use std::io::{self, ErrorKind, Read};
 use std::os::unix::fs::MetadataExt;
 
-/// The file that standard output is, if it is one, by the numbers of the system.
+/// The file of standard output, if it is one, by the system's numbers.
 #[derive(Clone, Copy)]
 pub struct OutputFile {
     numbers: Option<(u64, u64)>,
@@ -21,7 +21,7 @@ impl OutputFile {
         OutputFile { numbers }
     }
 
-    /// Whether a file of which this is known is the output, too, and has bytes.
+    /// Whether a file with this metadata is also the output, and not empty.
     pub fn is(&self, file: io::Result<Metadata>) -> bool {
         match file {
             Ok(file) => file.len() > 0 && self.numbers == Some((file.dev(), file.ino())),
@@ -30,7 +30,7 @@ impl OutputFile {
     }
 }
 
-/// A reader that gives nothing where it is the output, too: this is noted, and each read fails.
+/// A reader of a file. If it is also the output, this is recorded, and each read fails.
 #[derive(Drop)]
 pub struct Barred<'a, R> {
     inner: R,

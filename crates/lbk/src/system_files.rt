@@ -13,7 +13,7 @@ use lbk_files::{LoadFault, Opens};
 use std::fs::File;
 use std::io::ErrorKind;
 
-/// The files of the system, by their names; why one cannot be opened or read is noted.
+/// The property files of the system, by their names. It records why one cannot be opened or read.
 #[derive(Drop)]
 pub struct SystemFiles<'a> {
     rt: &'a HostRuntime,
@@ -40,15 +40,15 @@ impl<'a> Opens for SystemFiles<'a> {
     }
 }
 
-/// The files of text of the system, by their names. Why one cannot be opened or read is noted, and why one is refused
-/// is written on standard error.
+/// The texts of the system, by their names. It records why one cannot be opened or read, and prints on standard error
+/// why one is refused.
 #[derive(Drop)]
 pub struct SystemTexts<'a> {
     rt: &'a HostRuntime,
     output: OutputFile,
-    /// What the words ask for, once this is known.
+    /// What the arguments ask for, once this is known.
     caller: Caller<'a>,
-    /// Which property files they name.
+    /// The property files that they name.
     named: &'a Named,
     notes: &'a Notes,
 }
@@ -80,7 +80,7 @@ impl<'a> Opens for SystemTexts<'a> {
 
     ghost contents = { λ texts name. None };
 
-    /// A file that is the output, too, is refused.
+    /// A file that is also the output is refused.
     fn open(&self, name: &str) -> Result<Input<'a, Device<Noting<'a, File>>>, LoadFault> {
         self.notes.is_output.set(false);
         match self.notes.noted(File::open(self.rt, name)) {
@@ -107,7 +107,7 @@ impl<'a> Texts<'a> for SystemTexts<'a> {
             engine: order.engine,
             files: order.files,
         };
-        // Lines with ! are refused without --kinds, and then it is said why.
+        // Without --kinds lines with ! are refused, and a hint says why.
         let is_plain = order.engine == Engine::Replay { kinds: false };
         self.notes.wants_kinds.set(is_plain);
     }

@@ -1,12 +1,11 @@
-//! What a person reads of a refused run.
+//! The messages for refused runs.
 
 use lbk_cmd::{Caller, CmdFault, Message, Reason, RunFault};
 use lbk_feed::noted::Notes;
 use lbk_notation::ReplayFault;
 use std::io::ErrorKind;
 
-/// One line for a refused run, or for the text of an operand that was refused; none where nobody reads the output any
-/// more.
+/// One line for a refused run, or for a refused text; none if nobody reads the output any more.
 pub fn tell_refused<'x>(
     rt: &HostRuntime,
     caller: Caller<'x>,

@@ -1,9 +1,9 @@
-//! What is said where a person is waited for.
+//! The message that the program waits for a person.
 
 use super::hints;
 use lbk_feed::noted::Prompt;
 
-/// Says on standard error that text is waited for.
+/// Says on standard error that the program waits for text.
 #[derive(Drop)]
 pub struct Waiting<'a> {
     rt: &'a HostRuntime,

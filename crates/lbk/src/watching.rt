@@ -1,4 +1,4 @@
-//! Property files that were cut.
+//! Truncated property files.
 
 ghost use Rattle.std.specs.Prelude.{◌≡◌, ◌+◌, ◌≤◌, ◌<◌, ◌-◌, ◌^◌, IfOk, MatchResult, vec_len};
 ghost use Rattle.lbk_feed.specs.Devices.{count_up};
@@ -28,7 +28,7 @@ fn is_named(file: &FileName<'_>) -> bool {
     matches!(file, FileName::Given(_))
 }
 
-/// A store that says on standard error which of the files that an option names was cut. (One of a folder is refused.)
+/// A store that says on standard error which file named by an option is truncated. (One in a folder is refused.)
 #[derive(Drop)]
 pub struct Watching<'a, S> {
     rt: &'a HostRuntime,

@@ -6,10 +6,10 @@ use std::alloc::AllocError;
 use std::env::{self, Env};
 use std::io::{self, ErrorKind};
 
-/// The most bytes of an argument that Linux takes.
+/// The most bytes of an argument in Linux.
 const LONGEST: usize = 131_072;
 
-/// The arguments after the program's name, or how a run ends that cannot have them.
+/// The arguments after the program's name, or how the run ends without them.
 pub fn words_given(rt: &HostRuntime) -> Result<Vec<String>, Ending> {
     match collected(rt) {
         Ok(words) => Ok(words),
@@ -23,7 +23,7 @@ fn collected(rt: &HostRuntime) -> io::Result<Vec<String>> {
     Ok(words)
 }
 
-/// The words without a call for help after `help`, which asks for nothing more.
+/// The arguments without `--help` after `help`, which adds nothing.
 pub fn without_help_of_help<'a>(words: &'a [&'a str]) -> &'a [&'a str] {
     let is_call = words.last() == Some(&"--help") || words.last() == Some(&"-h");
     if is_call && words.len() > 1 && words[0] == "help" {
@@ -33,7 +33,7 @@ pub fn without_help_of_help<'a>(words: &'a [&'a str]) -> &'a [&'a str] {
     }
 }
 
-/// How a run ends with an argument that is no text.
+/// How a run ends with an argument that is not UTF-8.
 fn not_utf8(rt: &HostRuntime) -> Ending {
     match not_utf8_text(rt) {
         Ok(text) => Ending::Usage { text },
@@ -48,7 +48,7 @@ fn not_utf8_text(rt: &HostRuntime) -> Result<String, AllocError> {
     Ok(text)
 }
 
-/// Says which argument is no text.
+/// Says which argument is not UTF-8.
 fn push_argument(rt: &HostRuntime, text: &mut String) -> Result<(), AllocError> {
     let mut buffer = vec![in rt.alloc(); 0u8; LONGEST]?;
     for i in 1..usize::MAX {
@@ -65,7 +65,7 @@ fn push_argument(rt: &HostRuntime, text: &mut String) -> Result<(), AllocError> 
     text.push_str("an argument")
 }
 
-/// Bytes as text, each that is no ASCII character that is seen as `\x` and its code.
+/// Bytes as text; each byte that is not a visible ASCII character is `\x` and its code.
 fn push_bytes(text: &mut String, bytes: &[u8]) -> Result<(), AllocError> {
     for byte in bytes {
         if byte.is_ascii_graphic() {

@@ -1,4 +1,4 @@
-//! The words of the command line: what they ask for, or why they ask for nothing.
+//! The arguments of the command line: the task that they ask for, or why there is none.
 #![tactic(auto)]
 
 pub mod laws;

@@ -1,4 +1,4 @@
-//! Names of files and other words, as a person reads them in one line.
+//! Names of files and other arguments, printed in one line.
 
 ghost use Rattle.std.specs.Prelude.{◌≡◌, Some};
 ghost use Rattle.std.specs.Fmt.{WritesOnOk};
@@ -6,8 +6,8 @@ ghost use Rattle.lbk_args.specs.OneLine.{is_escaped, is_turning, one_line, one_s
 
 use std::fmt;
 
-/// A word in one line: a control character, as a line end, and one that turns the order of those beside it on a
-/// terminal is written as `\u` and its code in braces.
+/// Prints an argument in one line: control characters, such as line ends, and characters that change the text direction
+/// on a terminal are written as `\u` and their code in braces.
 #[derive(Clone, Copy)]
 pub struct OneLine<'a>(pub &'a str);
 
@@ -38,14 +38,14 @@ fn write_scalar<W: fmt::Write>(f: &mut fmt::Formatter<W>, scalar: char) -> fmt::
     }
 }
 
-/// Whether a character is written by its code.
+/// Whether a character is written as its code.
 pub(crate) fn is_escaped(scalar: char) -> bool
     ensures { result ≡ is_escaped scalar }
 {
     scalar.is_control() || is_turning(u32::from(scalar))
 }
 
-/// Whether a code ends a line, or turns the order of text (PropList.txt, Bidi_Control).
+/// Whether a code point ends a line, or changes the text direction (PropList.txt, Bidi_Control).
 fn is_turning(code: u32) -> bool
     ensures { result ≡ is_turning code }
 {

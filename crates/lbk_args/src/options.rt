@@ -105,7 +105,7 @@ cannot be read from its byte `place` on, and `R line long` one that is too long;
   D 1 1 ÷ × 28
   T 1 0 1 0";
 
-/// How a subcommand is called.
+/// The name of a subcommand.
 pub(crate) fn usage_of(name: &str) -> &'static str {
     match name {
         "mark" => MARK_USAGE,
@@ -116,7 +116,7 @@ pub(crate) fn usage_of(name: &str) -> &'static str {
     }
 }
 
-/// An option of this name, which is also what follows `--`.
+/// An option with this name, which also follows `--`.
 fn long_option<'a>(alloc: Global, name: &'a str) -> Arg<'a>
     ensures rule { rule_of result ≡ long_rule name.entry.now }
     ensures local { result.global ≡ false }
@@ -124,7 +124,7 @@ fn long_option<'a>(alloc: Global, name: &'a str) -> Arg<'a>
     Arg::new(alloc, name).long(name)
 }
 
-/// An option of this name that takes a value.
+/// An option with this name and a value.
 fn value_option<'a>(alloc: Global, name: &'a str, value: &'a str) -> Arg<'a>
     ensures rule { rule_of result ≡ value_rule name.entry.now }
     ensures local { result.global ≡ false }
@@ -134,7 +134,7 @@ fn value_option<'a>(alloc: Global, name: &'a str, value: &'a str) -> Arg<'a>
         .value_name(value)
 }
 
-/// The option of the folder that the property files are in.
+/// The option of the folder with the property files.
 fn folder_option<'a>(alloc: Global) -> Arg<'a>
     ensures rule { rule_of result ≡ value_rule (codes "ucd") }
     ensures local { result.global ≡ false }
@@ -142,7 +142,7 @@ fn folder_option<'a>(alloc: Global) -> Arg<'a>
     value_option(alloc, "ucd", "FOLDER").help("The folder with the four files below")
 }
 
-/// An option that takes the name of a property file.
+/// An option with the name of a property file.
 fn file_option<'a>(alloc: Global, name: &'a str, help: &'a str) -> Arg<'a>
     ensures rule { rule_of result ≡ value_rule name.entry.now }
     ensures local { result.global ≡ false }
@@ -150,7 +150,7 @@ fn file_option<'a>(alloc: Global, name: &'a str, help: &'a str) -> Arg<'a>
     value_option(alloc, name, "FILE").help(help)
 }
 
-/// An option that takes a number from 1 to `most`.
+/// An option with a number from 1 to `most`.
 fn number_option<'a>(alloc: Global, name: &'a str, most: u64, default: &'a str) -> Arg<'a>
     ensures rule { rule_of result ≡ number_rule name.entry.now most default.entry.now }
     ensures local { result.global ≡ false }
@@ -169,7 +169,7 @@ fn limit_option<'a>(alloc: Global) -> Arg<'a>
     )
 }
 
-/// An option that takes a byte of a text.
+/// An option with a byte offset in a text.
 fn byte_option<'a>(alloc: Global, name: &'a str, help: &'a str) -> Arg<'a>
     ensures rule { rule_of result ≡ byte_rule name.entry.now }
     ensures local { result.global ≡ false }
@@ -179,7 +179,7 @@ fn byte_option<'a>(alloc: Global, name: &'a str, help: &'a str) -> Arg<'a>
         .help(help)
 }
 
-/// An option that takes a number of bytes or words.
+/// An option with a number of bytes or words.
 fn size_option<'a>(alloc: Global, name: &'a str, least: u64, help: &'a str) -> Arg<'a>
     ensures rule { rule_of result ≡ size_rule name.entry.now least }
     ensures local { result.global ≡ false }
@@ -205,7 +205,7 @@ fn kinds_option<'a>(alloc: Global) -> Arg<'a>
         .help("Marks tell ! from ÷, which stands for both without it")
 }
 
-/// The flag of texts, since the operands have the name that stands behind its hyphens.
+/// The flag `--text`; its name here differs, because the operands have the name `text`.
 fn texts_option<'a>(alloc: Global) -> Arg<'a>
     ensures rule { rule_of result ≡ texts_flag_rule }
     ensures local { result.global ≡ false }
@@ -232,7 +232,7 @@ fn names_option<'a>(alloc: Global) -> Arg<'a>
         .help("A line ==> FILE <== before the output of each text")
 }
 
-/// The operands, which name the texts.
+/// The operands: the names of the texts.
 fn texts_operand<'a>(alloc: Global) -> Arg<'a>
     ensures rule { rule_of result ≡ texts_rule }
     ensures local { result.global ≡ false }
@@ -243,13 +243,13 @@ fn texts_operand<'a>(alloc: Global) -> Arg<'a>
         .help("A text; `-` or no file: standard input")
 }
 
-/// A command line, or that an allocation was refused for it.
+/// A command line, or out of memory.
 type Made<'a> = Result<Command<'a>, AllocError>;
 
-/// The command with one option more.
+/// The command with one more option.
 ///
-/// It takes what was made so far, error or not: a function that goes on with such a value and never leaves early is
-/// proved much faster than one with a `?` at each step.
+/// It takes the result so far, even an error: such a function, which never returns early, is proved much faster than
+/// one with a `?` at each step.
 fn with_option<'a>(command: Made<'a>, option: Arg<'a>) -> Made<'a>
     requires { option.global ≡ false }
     ensures { (app : App) → (rule : Rule) → rule_of option.entry ≡ rule → IsMade app command.entry
@@ -258,7 +258,7 @@ fn with_option<'a>(command: Made<'a>, option: Arg<'a>) -> Made<'a>
     command?.arg(option)
 }
 
-/// The command with one subcommand more.
+/// The command with one more subcommand.
 fn with_command<'a>(command: Made<'a>, added: Made<'a>) -> Made<'a>
     ensures { (app : App) → (sub : App) → IsMade app command.entry → IsMade sub added.entry
         → IsMade (with_subcommand app sub.top) result }
@@ -266,7 +266,7 @@ fn with_command<'a>(command: Made<'a>, added: Made<'a>) -> Made<'a>
     command?.subcommand(added?)
 }
 
-/// The command with what its help says.
+/// The command with its help texts.
 fn described<'a>(command: Made<'a>, usage: &'a str, about: &'a str, after: &'a str) -> Made<'a>
     ensures { (app : App) → IsMade app command.entry → IsMade app result }
 {
@@ -278,7 +278,7 @@ fn described<'a>(command: Made<'a>, usage: &'a str, about: &'a str, after: &'a s
     )
 }
 
-/// A subcommand with the options of the folder and of the four files.
+/// A subcommand with the options for the folder and the four files.
 fn with_files<'a>(alloc: Global, name: &'a str) -> Made<'a>
     ensures { IsMade (files_app name.entry.now) result }
 {
@@ -293,7 +293,7 @@ fn with_files<'a>(alloc: Global, name: &'a str) -> Made<'a>
     with_option(command, file_option(alloc, "emoji", pictographs))
 }
 
-/// A subcommand with the profile, the flag of names and the texts behind its other options.
+/// A subcommand with `--profile`, `--names` and the texts after its other options.
 fn with_shared<'a>(alloc: Global, command: Made<'a>) -> Made<'a>
     ensures { (app : App) → IsMade app command.entry → IsMade (shared_app app) result }
 {
@@ -302,7 +302,7 @@ fn with_shared<'a>(alloc: Global, command: Made<'a>) -> Made<'a>
     with_option(command, texts_operand(alloc))
 }
 
-/// A subcommand over texts, with the limit and the range behind its other options.
+/// A subcommand over texts, with `--limit`, `--from` and `--to` after its other options.
 fn ranged<'a>(alloc: Global, command: Made<'a>, from: &'a str, to: &'a str) -> Made<'a>
     ensures { (app : App) → IsMade app command.entry → IsMade (ranged_app app) result }
 {
@@ -344,7 +344,7 @@ fn segment<'a>(alloc: Global) -> Made<'a>
     )
 }
 
-/// `chunk` with its sizes and the flag of texts, before its other options.
+/// `chunk`, with its sizes and `--text` before its other options.
 fn sized<'a>(alloc: Global) -> Made<'a>
     ensures { IsMade sized_app result }
 {
@@ -376,7 +376,7 @@ fn replay<'a>(alloc: Global) -> Made<'a>
     described(command, REPLAY_USAGE, REPLAY_ABOUT, REPLAY_AFTER)
 }
 
-/// The program with no subcommand yet.
+/// The program without subcommands.
 fn bare<'a>(alloc: Global) -> Made<'a>
     ensures { IsMade bare_app result }
 {

@@ -1,17 +1,17 @@
-//! What a command line asks for.
+//! The tasks that a command line can ask for.
 
 use lbk_values::Profile;
 
-/// How a property file is named.
+/// The way a property file is named.
 #[derive(Clone, Copy, Debug)]
 pub enum FileName<'a> {
-    /// By the option of this file.
+    /// By the option for this file.
     Given(&'a str),
-    /// By `--ucd`: the file of this kind in a folder of the Unicode Character Database.
+    /// By `--ucd`: this file in a folder of the Unicode Character Database.
     InFolder(&'a str),
 }
 
-/// The four property files (UCD file format), as the words name them.
+/// The names of the four property files in the arguments.
 #[derive(Clone, Copy, Debug)]
 pub struct FileNames<'a> {
     pub line_break: FileName<'a>,
@@ -20,7 +20,7 @@ pub struct FileNames<'a> {
     pub emoji: FileName<'a>,
 }
 
-/// Which engine runs, with the options that only it has.
+/// The engine to run, with its own options.
 #[derive(Clone, Copy, Debug, PartialEq, Eq)]
 pub enum Engine {
     /// `mark`, for paragraphs of at most `limit` bytes.
@@ -35,29 +35,29 @@ pub enum Engine {
     Segment {
         limit: u32,
     },
-    /// `chunk`, with chunks of these sizes, for paragraphs of at most `limit` bytes; `texts` says whether their texts
-    /// are written.
+    /// `chunk`, with chunks of these sizes, for paragraphs of at most `limit` bytes; `texts` says whether it writes
+    /// their texts.
     Chunk {
         limit: u32,
         sizes: Sizes,
         texts: bool,
     },
-    /// `replay`; `kinds` says whether a break that must be has a mark of its own.
+    /// `replay`; `kinds` says whether required breaks have their own mark.
     Replay {
         kinds: bool,
     },
 }
 
-/// How large the chunks of a text are.
+/// The sizes of the chunks of a text.
 #[derive(Clone, Copy, Debug, PartialEq, Eq)]
 pub struct Sizes {
-    /// At most so many bytes.
+    /// The most bytes.
     pub most: u32,
-    /// At most so many words, or any number where this is 0.
+    /// The most words; 0 for any number.
     pub words: u32,
-    /// Where a line must end, a chunk may end early once so many of its bytes are in no chunk before.
+    /// A chunk may end early, at a required break, once this many of its bytes are in no earlier chunk.
     pub least: u32,
-    /// At most so many bytes at a chunk's end are said again by the next.
+    /// The most bytes at a chunk's end that the next one repeats.
     pub overlap: u32,
 }
 
@@ -66,33 +66,33 @@ pub struct Sizes {
 pub struct Part {
     /// The first byte of the range, counted from 0.
     pub from: u32,
-    /// The byte after its last.
+    /// The byte after its last one.
     pub to: u32,
 }
 
-/// What the words ask for.
+/// A task.
 #[derive(Debug, Drop)]
 pub struct Order<'a> {
     pub engine: Engine,
     pub files: FileNames<'a>,
     pub profile: Profile,
-    /// Which passages of each text; all of them without one.
+    /// The range of passages in each text; all of them without one.
     pub part: Option<Part>,
-    /// What `mark` writes where a line may end.
+    /// The sign that `mark` writes where a line may end.
     pub sign: &'a str,
-    /// Whether a line with its name stands before what is written of each text.
+    /// Whether a line with its name comes before the output of each text.
     pub names: bool,
-    /// The names of the texts, in order; none stands for standard input, as `-` does.
+    /// The names of the texts, in order; no name means standard input, as `-` does.
     pub texts: Vec<&'a str>,
 }
 
-/// Why the words ask for no work.
+/// Why the arguments ask for no task.
 #[derive(Debug, Drop)]
 pub enum WordsFault {
-    /// They ask for help or for the version, which is the text.
+    /// They ask for help or for the version; this is its text.
     Help { text: String },
-    /// They are no command line of the program; the text says why.
+    /// They are not a command line of the program; the text says why.
     Usage { text: String },
-    /// An allocation was refused.
+    /// An allocation failed.
     Memory,
 }

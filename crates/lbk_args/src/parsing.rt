@@ -1,4 +1,4 @@
-//! Words into an order.
+//! Parses arguments into a task.
 
 ghost use Rattle.std.specs.Prelude.{◌≡◌, [], ◌∷◌, ◌/◌, None, Some, IfOk, IfErr, MatchOption, MatchResult, OnOk, codes};
 ghost use Rattle.std.specs.Prelude.{is_some, map, not, option_map};
@@ -21,10 +21,10 @@ use clap::{ArgMatches, Error};
 use lbk_values::Profile;
 use std::alloc::{AllocError, Global};
 
-/// The most bytes of a paragraph where the words give no limit.
+/// The default of the most bytes of a paragraph.
 pub const DEFAULT_LIMIT: u32 = 65_536;
 
-/// What is said of arguments that name no property files.
+/// The message for arguments without property files.
 const UNNAMED: &str = "\
 the property files are not named: give --ucd <FOLDER>, or each of
   --line-break <FILE>
@@ -33,21 +33,21 @@ the property files are not named: give --ucd <FOLDER>, or each of
   --emoji <FILE>
 Debian's package unicode-data has them: --ucd /usr/share/unicode";
 
-/// What is said of a range that ends before it begins.
+/// The message for a range that ends before it begins.
 const TURNED_ROUND: &str = "--from <BYTE> is greater than --to <BYTE>";
 
-/// What is said of chunks that have no room for what they shall hold.
+/// The message for sizes of chunks that contradict each other.
 const LEAST_PAST_MOST: &str = "--least <NUMBER> is greater than --most <NUMBER>";
 
 const OVERLAP_PAST_HALF: &str = "--overlap <NUMBER> is more than half of --most <NUMBER>";
 
-/// What is said of a sign that is none.
+/// The message for an invalid sign.
 const NO_SIGN: &str = "--sign <TEXT> is 1 to 8 bytes of UTF-8 without a line end";
 
 /// Reads the arguments after the program's name.
 ///
-/// `Help` comes for a call for help or for the version, `Usage` for words that are no command line of the program; both
-/// hold a text for a person. `Memory` is returned if an allocation was refused.
+/// Returns `Help` for a request for help or for the version, and `Usage` for arguments that are not a command line of
+/// the program; both have a text to print. Returns `Memory` if an allocation fails.
 pub fn parse<'a>(alloc: Global, words: &'a [&'a str]) -> Result<Order<'a>, WordsFault>
     ensures accepted { IfOk result (λ order. AreAccepted (map (λ w. w.now) words.entry.now)) }
     ensures task { IfOk result (λ order. task_by (map (λ w. w.now) words.entry.now) ≡ Some (task_of order)) }
@@ -70,8 +70,8 @@ pub fn parse<'a>(alloc: Global, words: &'a [&'a str]) -> Result<Order<'a>, Words
     }
 }
 
-/// An order, if the property files are named, its range does not end before it begins, its sign is one, and its chunks
-/// have room.
+/// A task, if the property files are named, its range does not end before it begins, its sign is valid, and so are the
+/// sizes of its chunks.
 fn accepted<'a>(
     alloc: Global,
     name: &str,
@@ -96,7 +96,7 @@ fn accepted<'a>(
     Ok(order)
 }
 
-/// What is wrong with the sizes of chunks, if anything is.
+/// What is wrong with the sizes of chunks, if anything.
 fn wrong_size(engine: &Engine) -> Option<&'static str>
     ensures { is_some result ≡ not (are_sizes engine.now) }
 {
@@ -122,8 +122,7 @@ fn is_range(part: Option<Part>) -> bool
     }
 }
 
-/// The order of a subcommand for these texts, by what was found for its options; none where a property file is not
-/// named.
+/// The task of a subcommand for these texts, from its options; none if a property file is not named.
 fn order<'a>(name: &str, given: &ArgMatches<'a>, texts: Vec<&'a str>) -> Option<Order<'a>>
     requires { map (λ name. name.now) texts.items ≡ texts_in (rows_of (found_of given.now)) }
     ensures { option_map task_of result ≡ task_in (name.now, rows_of (found_of given.now)) }
@@ -140,7 +139,7 @@ fn order<'a>(name: &str, given: &ArgMatches<'a>, texts: Vec<&'a str>) -> Option<
     })
 }
 
-/// The four files, where each is named.
+/// The four files, if each is named.
 fn files<'a>(given: &ArgMatches<'a>) -> Option<FileNames<'a>>
     ensures { option_map files_of_names result ≡ files_in (rows_of (found_of given.now)) }
 {
@@ -152,7 +151,7 @@ fn files<'a>(given: &ArgMatches<'a>) -> Option<FileNames<'a>>
     })
 }
 
-/// The file of this option, or else that of the folder, whose name is not empty.
+/// The file of this option, or else that of the folder, if its name is not empty.
 fn file<'a>(given: &ArgMatches<'a>, id: &str) -> Option<FileName<'a>>
     ensures { option_map named_of result ≡ named_in id.now (rows_of (found_of given.now)) }
 {
@@ -162,7 +161,7 @@ fn file<'a>(given: &ArgMatches<'a>, id: &str) -> Option<FileName<'a>>
     }
 }
 
-/// The folder of all files that no option names. An empty name would stand for the root.
+/// The folder of all files that no option names. An empty name would mean the root.
 fn folder<'a>(given: &ArgMatches<'a>) -> Option<FileName<'a>>
     ensures { option_map named_of result ≡ named_folder (first_of (codes "ucd") (rows_of (found_of given.now))) }
 {
@@ -196,7 +195,7 @@ fn engine(name: &str, given: &ArgMatches<'_>) -> Engine
     }
 }
 
-/// The sizes of chunks: half of the greatest is the least where none is given.
+/// The sizes of chunks; the default of `--least` is half of `--most`.
 fn sizes(given: &ArgMatches<'_>) -> Sizes
     ensures { result ≡ sizes_in (rows_of (found_of given.now)) }
 {
@@ -215,7 +214,7 @@ fn text<'a>(given: &ArgMatches<'a>, id: &str) -> Option<&'a str>
     given.get_str(id)
 }
 
-/// The number that an option has, and `other` where it has none.
+/// The number of an option, or `other` if it has none.
 fn number(given: &ArgMatches<'_>, id: &str, other: u32) -> u32
     ensures { result ≡ number_or other (one_of id.now (rows_of (found_of given.now))) }
 {
@@ -228,7 +227,7 @@ fn limit(given: &ArgMatches<'_>) -> u32
     number(given, "limit", DEFAULT_LIMIT)
 }
 
-/// Whether the flag of a name is given.
+/// Whether the flag with this name is given.
 fn flag(given: &ArgMatches<'_>, id: &str) -> bool
     ensures { result ≡ flag_in id.now (rows_of (found_of given.now)) }
 {
@@ -245,7 +244,7 @@ fn profile(given: &ArgMatches<'_>) -> Profile
     }
 }
 
-/// Which passages of a text, unless all.
+/// The range of passages, unless it is all of them.
 fn part(given: &ArgMatches<'_>) -> Option<Part>
     ensures { result ≡ part_in (rows_of (found_of given.now)) }
 {
@@ -275,7 +274,7 @@ fn texts<'a>(alloc: Global, given: &ArgMatches<'a>) -> Result<Vec<&'a str>, Allo
     }
 }
 
-/// What the program writes where `clap` takes no order from the arguments.
+/// What the program writes if `clap` refuses the arguments.
 fn refusal(alloc: Global, words: &[&str], error: &Error) -> WordsFault
     ensures { IsRefusalBy (kind_of error.now ∷ []) result }
 {
@@ -295,7 +294,7 @@ fn refusal(alloc: Global, words: &[&str], error: &Error) -> WordsFault
     }
 }
 
-/// What the program writes for arguments that `clap` takes, and in which this is wrong.
+/// What the program writes for arguments that `clap` accepts, but that are wrong in this way.
 fn mistake(alloc: Global, name: &str, cause: &str) -> WordsFault
     ensures { (kind : ErrorKind) → IsMistake kind → IsRefusalBy (kind ∷ []) result }
 {

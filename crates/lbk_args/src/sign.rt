@@ -1,10 +1,10 @@
-//! The text that `mark` writes where a line may end.
+//! The sign that `mark` writes where a line may end.
 
 ghost use Rattle.std.specs.Prelude.{◌≡◌};
 ghost use Rattle.std.specs.Str.{chars};
 ghost use Rattle.lbk_args.specs.Sign.{ends_line, has_line_end, is_sign};
 
-/// The sign where the words give none.
+/// The default sign.
 pub const DEFAULT_SIGN: &str = "÷";
 
 /// The most bytes of a sign.

@@ -1,4 +1,4 @@
-//! What is said of arguments that are no order.
+//! Messages for invalid arguments.
 
 use super::one_line::{OneLine, is_escaped};
 use super::options::command;
@@ -6,7 +6,7 @@ use clap::Error;
 use clap::error::ErrorKind;
 use std::alloc::{AllocError, Global};
 
-/// Which numbers the options take.
+/// Describes the numbers that the options accept.
 const NUMBERS: &str = "
 Numbers are decimal digits: --limit 1 to 16777216, --from and --to 0 to
 4294967295, --profile 1 or 2.
@@ -17,7 +17,7 @@ Numbers are decimal digits: --most, --words and --limit 1 to 16777216, --least
 and --overlap 0 to 16777216, --from and --to 0 to 4294967295, --profile 1 or 2.
 ";
 
-/// What is said of arguments that `clap` refuses: its words, and how to go on.
+/// The message for arguments that `clap` refuses: its text, and what to do.
 pub(crate) fn usage_text(
     alloc: Global,
     words: &[&str],
@@ -31,8 +31,7 @@ pub(crate) fn usage_text(
     Ok(text)
 }
 
-/// The words of `clap`. Those of the arguments are in them as they are, so it is asked again where one of these is
-/// not to be shown so.
+/// The text of `clap`. It contains arguments as they are, so if one of them must not be shown so, it is rendered again.
 fn told(alloc: Global, words: &[&str], error: &Error) -> Result<String, AllocError> {
     if !words.iter().any(|word| word.contains(is_escaped)) {
         return format!(in alloc; "{error}");
@@ -47,7 +46,7 @@ fn told(alloc: Global, words: &[&str], error: &Error) -> Result<String, AllocErr
     }
 }
 
-/// How to go on, where the kind of a mistake tells.
+/// What to do, if the kind of the mistake shows it.
 fn push_hint(text: &mut String, words: &[&str], kind: ErrorKind) -> Result<(), AllocError> {
     match kind {
         ErrorKind::InvalidSubcommand => push_hint_of_file(text, words),
@@ -59,7 +58,7 @@ fn push_hint(text: &mut String, words: &[&str], kind: ErrorKind) -> Result<(), A
     }
 }
 
-/// How a file is marked, where the first word looks like the name of one.
+/// How to mark a file, if the first argument looks like the name of one.
 fn push_hint_of_file(text: &mut String, words: &[&str]) -> Result<(), AllocError> {
     match words.first() {
         Some(word) if word.contains(is_of_names) => {
@@ -77,12 +76,12 @@ fn push_hint_of_numbers(text: &mut String, words: &[&str]) -> Result<(), AllocEr
     })
 }
 
-/// Whether a character stands in names of files, and in no subcommand.
+/// Whether a character occurs in names of files, but in no subcommand.
 fn is_of_names(scalar: char) -> bool {
     scalar == '.' || scalar == '/'
 }
 
-/// Whether a word is a hyphen with a digit after it.
+/// Whether an argument is a hyphen followed by a digit.
 fn has_negative(words: &[&str]) -> bool {
     words
         .iter()

@@ -1,5 +1,5 @@
-//! A text broken in one call: from the bytes of four property files and of a text to what is read back of the lines
-//! that `show` writes.
+//! Breaks a text in one call: from the bytes of four property files and of a text to what is read back from the lines
+//! of `show`.
 
 ghost use Rattle.std.specs.Prelude.{◌≡◌, ◌++◌, ◌∷◌, List, Ok, Err, IfNone, IfSome, IfOk, IfErr, OnOk};
 ghost use Rattle.lbk_ucd.specs.Files.{AreLawful};
@@ -26,10 +26,10 @@ use thiserror::Error;
 /// Why a text was not broken.
 #[derive(Clone, Copy, Debug, PartialEq, Eq, Error)]
 pub enum BreakFault {
-    /// The property files give no cells. Nothing was read of the text.
+    /// The property files give no cells. Nothing of the text was read.
     #[error(transparent)]
     Files(CellsFault),
-    /// The text was refused, as `show` refuses it, or memory could not grow. It is never `Write`.
+    /// The text was refused, as `show` refuses it, or memory could not grow. Never `Write`.
     #[error(transparent)]
     Text(CmdFault),
 }
@@ -50,10 +50,10 @@ impl From<CmdFault> for BreakFault {
     }
 }
 
-/// Breaks a text by the rules (UAX #14, section 6) and four property files: for each passage of it, its scalars and
-/// the marks of its positions, as they are read back of the line that `show` writes of it.
+/// Breaks a text by the rules (UAX #14, section 6) and four property files: for each passage, its scalars and the marks
+/// of its positions, as read back from the line that `show` writes for it.
 ///
-/// `limit` is the most bytes of a paragraph, 1 to 16,777,216. The lines of the whole text are held in memory.
+/// `limit` is the most bytes of a paragraph, 1 to 16,777,216. The call holds the lines of the whole text in memory.
 ///
 /// ```rust
 /// let mut reader = MemorySource::new(b"ab cd\nef");
@@ -69,7 +69,7 @@ pub fn break_text<R: Source>(
 ) -> Result<Vec<TestLine>, BreakFault>
     ensures lawful { OnOk result (AreLawful files.entry) }
 
-    // The bytes read are a text, and the lines say its passages by the cells of the files.
+    // The bytes read are a text, and the lines are its passages by the cells of the files.
     ensures broken { IfOk result (λ lines. IsBroken files.entry profile (R.unread reader.old) lines.items) }
 
     // What was read, and why a text is refused.
@@ -84,7 +84,7 @@ pub fn break_text<R: Source>(
     Ok(lines)
 }
 
-/// What `show` writes of a text. An error is that of `show`, or that memory could not grow.
+/// The output of `show` for a text. The error is that of `show`, or `Memory`.
 fn shown_text<R: Source>(
     alloc: Global,
     reader: &mut R,
@@ -102,13 +102,13 @@ fn shown_text<R: Source>(
     let mut writer = Device::new(Vec::new(alloc));
     match show(alloc, reader, &mut writer, cells, limit, profile) {
         Ok(()) => Ok(writer.into_inner()),
-        // A list in memory fails where it could not grow.
+        // A list in memory fails if it could not grow.
         Err(CmdFault::Write) => Err(CmdFault::Memory),
         Err(fault) => Err(fault),
     }
 }
 
-/// What the lines of some passages say. An error comes only where memory runs out.
+/// What the lines of passages say. Fails only if memory runs out.
 fn read_lines(alloc: Global, text: &[u8]) -> Result<Vec<TestLine>, CmdFault>
     requires { AreReadable text.now }
     ensures lines { IfOk result (λ lines. Say text.now lines.items) }
@@ -123,7 +123,7 @@ fn read_lines(alloc: Global, text: &[u8]) -> Result<Vec<TestLine>, CmdFault>
     Ok(lines)
 }
 
-/// The first line of a text without its line end, and the text after that.
+/// The first line of a text without its line end, and the text after it.
 fn first_line(text: &[u8]) -> Option<(&[u8], &[u8])>
     ensures some { IfSome result (λ parts. (text.now ≡ parts.0.now ++ 10 ∷ parts.1.now) × HasNoLineEnd parts.0.now) }
     ensures none { IfNone result (HasNoLineEnd text.now) }

@@ -19,23 +19,23 @@ use lbk_passage::Segmenter;
 use lbk_rules::{CellSource, Profile};
 use std::alloc::Global;
 
-/// What is asked of the chunks of a text.
+/// Which chunks of a text to write, and how.
 #[derive(Clone, Copy, Debug, PartialEq, Eq)]
 pub struct Asked {
-    /// Only chunks that begin in this range are written; all of them without one.
+    /// Write only chunks that begin in this range; all of them without one.
     pub range: Option<Part>,
-    /// Whether each is written as an object with its text.
+    /// Whether to write each as an object with its text.
     pub texts: bool,
 }
 
-/// Writes the chunks of a text: for each a line `C` with its first byte and the byte after its last, how many words
-/// it has, and the kind and the rule of the line break at its end (UAX #14, section 6). Offsets count bytes of the
-/// whole text. With a range only chunks that begin in it are written; the whole text is read.
+/// Writes the chunks of a text: for each a line `C` with its first byte and the byte after its last, its number of
+/// words, and the kind and the rule of the line break at its end (UAX #14, section 6). Offsets count bytes of the whole
+/// text. With a range it writes only chunks that begin in it, but reads the whole text.
 ///
-/// With texts each line is an object of JSON instead: its members are `start`, `end`, `words` and `text`.
+/// With texts each line is a JSON object instead, with the members `start`, `end`, `words` and `text`.
 ///
-/// The lines of the chunks that what was read settles are written before the next read, and before a fault is
-/// returned: a chunk's once a break behind its end is known. `limit` and the faults are as in `show`.
+/// It writes the lines of the chunks that are settled before the next read, and before it returns a fault; a chunk is
+/// settled once a break after its end is known. `limit` and the faults are as in `show`.
 pub fn chunk<R: Source, W: Sink, C: CellSource>(
     limits: Limits,
     asked: Asked,
@@ -68,7 +68,7 @@ pub fn chunk<R: Source, W: Sink, C: CellSource>(
     }
 }
 
-/// Writes the lines that wait, and those of the chunks that are left.
+/// Writes the buffered lines, and those of the chunks that are left.
 fn write_last<W: Sink>(
     asked: Asked,
     window: &mut Window,
@@ -90,7 +90,7 @@ fn write_last<W: Sink>(
     Ok(())
 }
 
-/// Puts the lines of the chunks that are settled behind those that wait.
+/// Appends the lines of the settled chunks to the buffer.
 fn write_chunks<W: Sink>(
     asked: Asked,
     window: &mut Window,

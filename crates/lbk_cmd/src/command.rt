@@ -1,4 +1,4 @@
-//! A run of the program, from its words to its ending.
+//! A run of the program, from its arguments to its ending.
 
 ghost use Rattle.std.specs.Prelude.{◌≡◌, ◌≢◌, ◌+◌, ◌<◌, ◌≤◌, ◌⊎◌, Bool, [], Some, map};
 ghost use Rattle.lbk_args.specs.Accepted.{AreAccepted};
@@ -23,16 +23,16 @@ use lbk_files::{Store, prepare, read_order, sample_cells};
 use lbk_rules::Profile;
 use std::alloc::Global;
 
-/// Runs the engine that the arguments after the program's name ask for, by the property files that they name, over
-/// the text of the reader, to the writer. Without arguments it shows that text by the sample files, in the first
-/// profile, with paragraphs of at most 65,536 bytes.
+/// Runs the engine that the arguments after the program's name ask for, with the property files that they name, over
+/// the text of the reader, to the writer. Without arguments it runs `show` over that text with the sample files, in the
+/// first profile, with paragraphs of at most 65,536 bytes.
 ///
-/// The result says how the run ended. `Help` and `Usage` come for arguments that ask for no engine, and `Refused` has
-/// the fault of the step that failed: nothing was read or written where that was a property file. A file is loaded
-/// only for words that are accepted. `Memory` comes before any load, where a load was refused memory, for well-formed
-/// files once all four are loaded, or at a text.
+/// The result says how the run ended: `Help` and `Usage` for arguments that ask for no engine, and `Refused` with the
+/// fault of the step that failed; if that was a property file, nothing was read or written. It loads files only for
+/// accepted arguments. `Memory` is returned before any load, if a load runs out of memory, for well-formed files once
+/// all four are loaded, or at a text.
 ///
-/// It has no files of text: where arguments name some, `-` is the text of the reader, each other is refused as one that
+/// It opens no texts: if arguments name some, `-` is the text of the reader, every other one is refused as one that
 /// cannot be opened, and the run ends with `Reported`. `run_over_texts` opens them.
 #[tactic(none)]
 pub fn run<'a, S: Store, R: Source, W: Sink>(
@@ -67,13 +67,13 @@ pub fn run<'a, S: Store, R: Source, W: Sink>(
     run_over_texts(alloc, words, store, &mut NoTexts, reader, writer)
 }
 
-/// `run` over files of text, too: the texts that the arguments name, or that of the reader where they name none. `-` is the
-/// text of the reader.
+/// As `run`, but also over files: the texts that the arguments name, or that of the reader if they name none. `-` is
+/// the text of the reader.
 ///
-/// The texts are read in order, each once, and what is written of each follows what was written of those before it. One
-/// that is refused is reported and the others are read; the run then ends with `Reported`.
+/// It reads the texts in order, each once, and writes their results in that order. It reports a refused text and reads
+/// the others; the run then ends with `Reported`.
 ///
-/// The arguments are read once, and what they ask for is told to `texts` before anything is opened.
+/// It parses the arguments once, and passes what they ask for to `texts` before it opens anything.
 #[tactic(none)]
 pub fn run_over_texts<'a, S: Store, T: Texts<'a>, R: Source, W: Sink>(
     alloc: Global,
@@ -122,7 +122,7 @@ pub fn run_over_texts<'a, S: Store, T: Texts<'a>, R: Source, W: Sink>(
     }
 }
 
-/// Loads the files that an order names, and runs its engine over its texts.
+/// Loads the files that a task names, and runs its engine over its texts.
 #[tactic(none)]
 fn perform_order<'a, S: Store, T: Texts<'a>, R: Source, W: Sink>(
     alloc: Global,
@@ -148,7 +148,7 @@ fn perform_order<'a, S: Store, T: Texts<'a>, R: Source, W: Sink>(
     }
 }
 
-/// `show` by the sample files.
+/// `show` with the sample files.
 #[tactic(none)]
 fn show_samples<R: Source, W: Sink>(alloc: Global, reader: &mut R, writer: &mut W) -> Ending
     ensures { ShowsSamples

@@ -12,23 +12,23 @@ use lbk_passage::PassageFault;
 use lbk_ucd::{UcdFault, Which};
 use thiserror::Error;
 
-/// Why a run is refused. As text it is the `Message` of a call.
+/// Why a run is refused. Its text is the `Message` of a call.
 #[derive(Clone, Copy, Debug, PartialEq, Eq, Error)]
 #[error("{}", Message::of_call(*self))]
 pub enum RunFault {
-    /// A file of text cannot be opened.
+    /// A text cannot be opened.
     Open,
     /// A property file cannot be opened or read.
     Load(Which),
-    /// A property file of a folder is not that of Unicode 15.0.
+    /// A property file in a folder is not that of Unicode 15.0.
     Claim(Which, ClaimCause),
-    /// The property files were refused at their first fault, or at a line where their tables could not grow.
+    /// The first fault of the property files, or a line where their tables could not grow.
     Tables(UcdFault),
     /// `mark`, `show` or `segment` stopped.
     Cmd(CmdFault),
     /// `replay` stopped.
     Replay(ReplayFault),
-    /// Any other allocation was refused.
+    /// Any other allocation failed.
     Memory,
 }
 
@@ -37,15 +37,15 @@ pub enum RunFault {
 pub enum Ending {
     /// Everything was written.
     Done,
-    /// The words asked for help or for the version, which is the text.
+    /// The arguments asked for help or for the version; this is its text.
     Help { text: String },
-    /// The words are no command line of the program; the text says why.
+    /// The arguments are not a command line of the program; the text says why.
     Usage { text: String },
-    /// The test file was replayed, and a line of it differs or is refused.
+    /// The test file was replayed, and one of its lines differs or is refused.
     Differs(Report),
     /// A step failed.
     Refused(RunFault),
-    /// Texts were refused, of which each was reported; the others are done, or differ.
+    /// Some texts were refused and reported; the others are done, or differ.
     Reported,
 }
 
@@ -63,7 +63,7 @@ impl Ending {
         }
     }
 
-    /// How a run ends whose files gave no cells.
+    /// The ending of a run without cells.
     pub(crate) fn of_files(fault: CellsFault) -> Ending
         ensures { result ≡ ending_of_files fault }
     {
@@ -75,7 +75,7 @@ impl Ending {
         }
     }
 
-    /// How a run over texts ends, after those before it and the next one.
+    /// The ending of a run over texts, from that of the earlier texts and of the next one.
     pub(crate) fn and(self, next: Ending) -> Ending
         ensures { result ≡ ending_after self next }
     {
@@ -86,7 +86,7 @@ impl Ending {
         }
     }
 
-    /// Whether no text is read after one that ended so: the output cannot be written, or an allocation was refused.
+    /// Whether a run stops after a text that ended so: the output cannot be written, or an allocation failed.
     pub(crate) fn is_last(&self) -> bool
         ensures { result ≡ is_last self.now }
     {
@@ -104,7 +104,7 @@ impl Ending {
         )
     }
 
-    /// How a run of `show` or `segment` ends.
+    /// The ending of a run of `show` or `segment`.
     pub(crate) fn of_text(answer: Result<(), CmdFault>) -> Ending
         ensures { result ≡ ending_of_text answer }
     {
@@ -114,7 +114,7 @@ impl Ending {
         }
     }
 
-    /// How a run of `replay` ends.
+    /// The ending of a run of `replay`.
     pub(crate) fn of_replay(answer: Result<Report, ReplayFault>) -> Ending
         ensures { result ≡ ending_of_replay answer }
     {

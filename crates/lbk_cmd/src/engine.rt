@@ -1,4 +1,4 @@
-//! The engines: each reads a text to its end, and writes its lines of every passage.
+//! The engines: each reads a text to its end, and writes the lines of every passage.
 
 ghost use Rattle.lbk_cmd.specs.Acts.{Marks, Segments, Shows, Writes};
 ghost use Rattle.lbk_args.specs.Sign.{default_sign};
@@ -12,10 +12,10 @@ use lbk_passage::Segmenter;
 use lbk_rules::{CellSource, Profile};
 use std::alloc::Global;
 
-/// Writes a text with `÷` at each position where a line may end (UAX #14, section 6), and nothing else changed: where a
-/// line must end, the text's own line end shows it. A text that ends without a line end gets one.
+/// Writes a text with `÷` at each position where a line may end (UAX #14, section 6), otherwise unchanged: where a line
+/// must end, the text has its own line end. A text that ends without a line end gets one.
 ///
-/// When lines are written, `limit` and the faults are as in `show`.
+/// `limit`, the faults, and when lines are written: as in `show`.
 pub fn mark<R: Source, W: Sink, C: CellSource>(
     alloc: Global,
     reader: &mut R,
@@ -30,7 +30,7 @@ pub fn mark<R: Source, W: Sink, C: CellSource>(
     mark_with(DEFAULT_SIGN, alloc, reader, writer, cells, limit, profile)
 }
 
-/// `mark` with this sign in place of `÷`.
+/// As `mark`, with this sign instead of `÷`.
 pub fn mark_with<R: Source, W: Sink, C: CellSource>(
     sign: &str,
     alloc: Global,
@@ -54,13 +54,13 @@ pub fn mark_with<R: Source, W: Sink, C: CellSource>(
     )
 }
 
-/// Writes the marks, scalars and rules of a text (UAX #14, section 6), each passage in a line of its own: the marks
-/// of its positions with its scalars between them, a tab, `#`, and the number of the rule that decided each position.
+/// Writes a line for each passage of a text (UAX #14, section 6): the marks of its positions with its scalars between
+/// them, a tab, `#`, and the number of the rule that decided each position.
 ///
-/// The lines of the passages that what was read settles are written before the next read, and before a fault is
-/// returned: a passage's once the scalar after it was seen, or the end of the text.
-/// `limit` is the most bytes of a paragraph, 1 to 16,777,216. `Passage` says why no more passages come, `Write` that
-/// the writer failed, `Memory` that memory cannot grow for a line, of which nothing was written.
+/// It writes the lines of settled passages before the next read, and before it returns a fault; a passage is settled
+/// once the scalar after it, or the end of the text, was read. `limit` is the most bytes of a paragraph, 1 to
+/// 16,777,216. `Passage` says why there are no more passages, `Write` that the writer failed, `Memory` that memory
+/// could not grow for a line; nothing of that line was written.
 pub fn show<R: Source, W: Sink, C: CellSource>(
     alloc: Global,
     reader: &mut R,
@@ -76,10 +76,10 @@ pub fn show<R: Source, W: Sink, C: CellSource>(
 }
 
 /// Writes the segments and words of a text: for each passage a line `P` with its first byte and the byte after its
-/// last, then a line `S` for each segment, with the kind and the rule of the line break at its end (UAX #14,
-/// section 6), then a line `W` for each word (UAX #29, section 4). Offsets count bytes of the whole text.
+/// last, then a line `S` for each segment, with the kind and the rule of the break at its end (UAX #14, section 6),
+/// then a line `W` for each word (UAX #29, section 4). Offsets count bytes of the whole text.
 ///
-/// When lines are written, `limit` and the faults are as in `show`.
+/// `limit`, the faults, and when lines are written: as in `show`.
 pub fn segment<R: Source, W: Sink, C: CellSource>(
     alloc: Global,
     reader: &mut R,
@@ -102,18 +102,18 @@ pub fn segment<R: Source, W: Sink, C: CellSource>(
     )
 }
 
-/// What is written of a passage.
+/// What to write for a passage.
 #[derive(Clone, Copy)]
 pub(crate) enum Lines<'a> {
     /// Its text, with a sign at each position where a line may end.
     Signed { sign: &'a str },
     /// Its marks, scalars and rules, in one line.
     Shown,
-    /// Itself, its segments and its words.
+    /// Its offsets, its segments and its words.
     Segmented,
 }
 
-/// Reads a text to its end, and writes the lines of each passage before the next read that is due.
+/// Reads a text to its end, and writes the lines of each passage before the next read.
 fn write_lines<R: Source, W: Sink, C: CellSource>(
     lines: Lines<'_>,
     alloc: Global,

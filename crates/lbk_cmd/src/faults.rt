@@ -1,4 +1,4 @@
-//! The faults of the engines, by name.
+//! The faults of the engines.
 
 ghost use Rattle.std.specs.Prelude.{◌≡◌};
 ghost use Rattle.lbk_cmd.specs.declared.faults.CmdFault.TheVariants.{Memory, Passage as passage_fault, Write};
@@ -10,15 +10,15 @@ use lbk_passage::PassageFault;
 use std::alloc::{AllocError, AllocFailed};
 use thiserror::Error;
 
-/// Why an engine stopped. As text it is the `Message` of a call.
+/// Why an engine stopped. Its text is the `Message` of a call.
 #[derive(Clone, Copy, Debug, PartialEq, Eq, Error)]
 #[error("{}", Message::of_call(RunFault::Cmd(*self)))]
 pub enum CmdFault {
-    /// A passage was refused, or memory cannot grow for it.
+    /// A passage was refused, or memory could not grow for it.
     Passage(PassageFault),
     /// The writer failed in this call.
     Write,
-    /// Memory could not grow for what is written.
+    /// Memory could not grow for the output.
     Memory,
 }
 

@@ -1,4 +1,4 @@
-//! Lines that wait for those after them, as long as no read is due.
+//! Lines that are buffered until the next read.
 
 ghost use Rattle.std.specs.Prelude.{ℕ, ◌≡◌, ◌≤◌, ◌<◌, ◌⊎◌, ◌^◌, ◌++◌, List, [], length, take, true, vec_len, Err};
 ghost use Rattle.std.specs.Prelude.{OnOk, OnErr};
@@ -30,14 +30,14 @@ use lbk_passage::{Break, Segmenter};
 use lbk_rules::{CellSource, Profile, Verdict};
 use std::alloc::{AllocError, Global};
 
-/// How many bytes of lines wait at most, before those of a passage more.
+/// How many bytes of lines are buffered at most, before those of one more passage.
 const WAITING: usize = 65_536;
 
-/// The lines of the passages so far that were not written, and lists to work in.
+/// The lines of passages that were not written yet, and lists to work in.
 #[derive(Drop)]
 pub(crate) struct Gathered {
     lines: Vec<u8>,
-    /// How many bytes of the text stand before the next passage.
+    /// How many bytes of the text come before the next passage.
     at: u64,
     offsets: Offsets,
     verdicts: Vec<Verdict>,
@@ -45,7 +45,7 @@ pub(crate) struct Gathered {
 }
 
 impl Gathered {
-    /// Nothing, at the start of a text.
+    /// No lines, at the start of a text.
     pub fn new(alloc: Global) -> Gathered
         ensures lines { result.lines.items ≡ [] }
         ensures start { result.at ≡ 0 }
@@ -59,14 +59,14 @@ impl Gathered {
         }
     }
 
-    /// How many bytes of the text stand before the next passage.
+    /// How many bytes of the text come before the next passage.
     pub fn at(&self) -> u64
         ensures { result ≡ self.now.at }
     {
         self.at
     }
 
-    /// Writes the lines, but where the next passage is settled by what was read, and few lines wait.
+    /// Writes the lines, unless the bytes read settle the next passage and few lines are buffered.
     pub fn write_due<W: Sink, C: CellSource>(
         &mut self,
         segmenter: &mut Segmenter<'_, C>,
@@ -106,8 +106,8 @@ impl Gathered {
         Ok(())
     }
 
-    /// Puts the lines of the next passage after the others, and returns whether one came. After a fault none of its
-    /// lines stand there.
+    /// Appends the lines of the next passage, and returns whether there was one. After a fault none of its lines are
+    /// appended.
     pub fn put_next<R: Source, C: CellSource>(
         &mut self,
         lines: Lines<'_>,
@@ -132,7 +132,7 @@ impl Gathered {
         }
     }
 
-    /// Those of its segments and words.
+    /// Appends those of its segments and words.
     fn put_segmented<R: Source, C: CellSource>(
         &mut self,
         segmenter: &mut Segmenter<'_, C>,
@@ -163,7 +163,7 @@ impl Gathered {
         }
     }
 
-    /// Those of its text, for which neither segments nor words are found.
+    /// Appends those of its text, without looking for segments or words.
     fn put_text<R: Source, C: CellSource>(
         &mut self,
         lines: Lines<'_>,
@@ -197,8 +197,8 @@ impl Gathered {
         }
     }
 
-    /// Puts the lines of a passage behind the others, by its text and the verdict at its end. After an error some of
-    /// them may stand there.
+    /// Appends the lines of a passage, from its text and the verdict at its end. After an error some of them may be
+    /// appended.
     fn push_text<C: CellSource>(
         &mut self,
         lines: Lines<'_>,
@@ -234,8 +234,8 @@ impl Gathered {
         }
     }
 
-    /// The same as `put_next`, for a passage that begins before the end of a range: where it begins before the range,
-    /// it is passed over.
+    /// As `put_next`, for a passage that begins before the end of a range. It skips a passage that begins before the
+    /// range.
     pub fn put_within<R: Source, C: CellSource>(
         &mut self,
         part: Part,
@@ -254,7 +254,7 @@ impl Gathered {
             (R.failure_count reader.new)
             self.old.lines.items self.new.lines.items self.new.at result }
         ensures settled { (state_of C.cell_of segmenter.old).is_settled ≡ true → reader.new ≡ reader.old }
-        // Memory grows for no passage before the range.
+        // No memory grows for passages before the range.
         ensures memory { (result ≡ Err CmdFault.Memory) ⊎ (result ≡ Err (CmdFault.Passage PassageFault.Memory))
             → part.from ≤ self.old.at }
     {
@@ -269,7 +269,7 @@ impl Gathered {
     }
 }
 
-/// How a run ends that has met such an answer, or `None` where it goes on.
+/// How a run ends after this result, or `None` if it goes on.
 pub(crate) fn end_of(put: Result<bool, CmdFault>) -> Option<Result<(), CmdFault>>
     ensures { result ≡ end_of put }
 {

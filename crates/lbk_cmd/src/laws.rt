@@ -1,5 +1,4 @@
-//! What the calls amount to together, over definitions only. Each law is the contract of a function that does
-//! nothing.
+//! Laws about the calls, over definitions only. Each is the contract of a function with an empty body.
 
 ghost use Rattle.std.specs.Prelude.{ℕ, ◌+◌, ◌*◌, ◌≤◌, ◌↔◌, ◌∷◌, Bool, List, [], Option, None, Some, length, encode_utf8_all};
 ghost use Rattle.std.specs.Prelude.{◌≡◌};
@@ -39,25 +38,25 @@ ghost use Rattle.lbk_cmd.specs.Operands.{Standing};
 
 use lbk_files::Opens;
 
-/// For all property files, every text and either profile: the passages joined are the text, their breaks are the
-/// positions, kinds and rules that the first matching rule gives on the whole text (UAX #14, section 6), and the line
-/// written of each passage is read back as its scalars and marks.
+/// For all property files, every text and either profile: the passages, joined, are the text; their breaks are the
+/// positions, kinds and rules that the first matching rule gives on the whole text (UAX #14, section 6); and the line
+/// written for each passage is read back as its scalars and marks.
 ///
-/// `read_cells` gives such cells of files that it accepts, `show` writes the lines of these passages however the bytes
-/// of the text were cut, and `read_line` accepts exactly the lines of the grammar.
+/// `read_cells` returns such cells for files that it accepts, `show` writes the lines of these passages for bytes cut
+/// in any way, and `read_line` accepts exactly the lines of the grammar.
 pub fn headline()
     ensures holds { (files : Files) (profile : Profile) (cell : ℕ → Cell) (text : List ℕ) → AreCellsOf files cell
         → AllByRecursion (λ scalar. IsScalar scalar) text
         → ArePassagesOf files profile text (passages profile cell text) }
-    // No other cutting of the text is like that.
+    // No other cutting of the text has these properties.
     ensures only { (files : Files) (profile : Profile) (cell : ℕ → Cell) (text : List ℕ) (other : List (List Marked))
         → AreCellsOf files cell → AllByRecursion (λ scalar. IsScalar scalar) text
         → ArePassagesOf files profile text other
         → other ≡ passages profile cell text }
 {}
 
-/// What `read_passages` returns depends only on the files and the bytes of the text, however the reader gives them;
-/// and it is what a segmenter lends of the text.
+/// The result of `read_passages` depends only on the files and the bytes of the text, not on how the reader cuts them;
+/// and it is what a segmenter lends.
 pub fn passages_of_bytes()
     ensures once { (files : Files) (profile : Profile) (bytes : List ℕ) (one other : List Owned)
         → AreRead files profile (Some bytes) one → AreRead files profile (Some bytes) other → one ≡ other }
@@ -65,8 +64,8 @@ pub fn passages_of_bytes()
         ≡ owned_passage s.cell p.start ms }
 {}
 
-/// A passage's line has at most 12 bytes per byte of the passage's text and 9 more, its line end among them. Without
-/// its line end it is a line of the notation in form Kinds, which says the passage's scalars and marks.
+/// A passage's line has at most 12 bytes per byte of the passage's text and 9 more, including its line end. Without its
+/// line end it is a line of the notation in form Kinds, which means the passage's scalars and marks.
 pub fn shown_lines()
     ensures short { (ms : List Marked) → length (shown_passage ms) ≤ 12 * length (text_of ms) + 9 }
     ensures says { (ms : List Marked) → AllByRecursion (λ scalar. IsScalar scalar) (scalars_of ms)
@@ -74,10 +73,10 @@ pub fn shown_lines()
         (Some (passage_marks (scalars_of ms) (verdicts_of ms))) }
 {}
 
-/// What is written of a text may be written of its parts apart, where a line must end between each and the next.
-/// `mark` writes of each part what it writes of the part by itself. So does `show`, except the last label of a part:
-/// it is 3 of a part by itself, and 4 or 5 where another follows. `segment` writes that rule too, and the places of
-/// the whole text.
+/// The output for a text is that for its parts, if there is a required break between each two. `mark` writes for each
+/// part what it writes for the part as a separate text. So does `show`, except the last label of a part: it is 3 in a
+/// separate text, and 4 or 5 if another part follows. `segment` writes that rule, too, and the offsets in the whole
+/// text.
 pub fn joined_lines()
     ensures mark { (sign : List ℕ) (profile : Profile) (cell : ℕ → Cell) (parts : List (List ℕ)) → AreParts cell parts
         → signed_text sign cell (passages profile cell (flat_map (λ part. part) parts))
@@ -91,9 +90,8 @@ pub fn joined_lines()
         → DiffersInLabel profile cell (first ∷ rest) }
 {}
 
-/// What is written of the passages of ranges, each of which begins where the one before it ends, is, joined, what is
-/// written of the range of all: `mark`, `show` and `segment` over ranges that tile a text write what they write of
-/// the text.
+/// The outputs for adjacent ranges, joined, are the output for the range of all of them: `mark`, `show` and `segment`
+/// over ranges that tile a text write what they write for the text.
 pub fn joined_ranges()
     ensures whole { (lines : Lines) (profile : Profile) (cell : ℕ → Cell) (text : List ℕ) (tos : List ℕ)
         → AreRanges 0 tos
@@ -106,8 +104,8 @@ pub fn joined_ranges()
         ≡ text_within (lines_of lines cell) from (end_of_ranges from tos) (passages profile cell text) }
 {}
 
-/// What `chunk` writes of the chunks of ranges, each of which begins where the one before it ends, is, joined, what it
-/// writes of all chunks: over ranges that tile a text, what it writes of the text.
+/// The outputs of `chunk` for adjacent ranges, joined, are its output for the range of all of them: over ranges that
+/// tile a text, its output for the text.
 pub fn joined_ranges_of_chunks()
     ensures { (texts : Bool) (limits : Limits) (cell : ℕ → Cell) (passages : List (List Marked)) (chunks : List Chunk)
         (tos : List ℕ)
@@ -117,8 +115,7 @@ pub fn joined_ranges_of_chunks()
         ≡ chunk_lines (record { range = None; texts = texts }) (flat_map text_of passages) chunks }
 {}
 
-/// A task that names no text has one meaning: with files of text, whatever they are, `run_over_texts` does what `run`
-/// does, and reports nothing of them.
+/// For a task that names no text `run_over_texts` does what `run` does, with any files, and reports nothing about them.
 pub fn one_run_without_texts<T: Opens>(texts: &T)
     ensures { (file : List ℕ → Option (Option (List ℕ))) (task : Task) (counts after_counts : LoadCounts)
         (before after : Standing)

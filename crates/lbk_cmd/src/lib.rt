@@ -1,4 +1,4 @@
-//! The engines of the program, and its run: what each writes is a stated function of what it reads.
+//! The engines of the program, and its run. The output of each is a defined function of its input.
 #![tactic(auto)]
 
 mod broken;

@@ -1,4 +1,4 @@
-//! What a person reads where a run is refused.
+//! The message for a refused run.
 
 ghost use Rattle.std.specs.Prelude.{◌≡◌, Some, option_map};
 ghost use Rattle.std.specs.Fmt.{DisplaysOnOk};
@@ -18,32 +18,32 @@ use lbk_passage::{LIMIT_MAX, PassageFault};
 use lbk_ucd::Which;
 use std::fmt;
 
-/// Who asked for a run: by this its files and devices are named.
+/// Who asked for a run. It decides how messages name files and devices.
 #[derive(Clone, Copy)]
 pub enum Caller<'a> {
     /// A call of a library, over any files, reader and writer.
     Call,
-    /// The program without words, which goes by the sample files.
+    /// The program without arguments, which uses the sample files.
     NoWords,
-    /// The words of the program, which ask for this.
+    /// The program with arguments, which ask for this.
     Words {
         engine: Engine,
         files: FileNames<'a>,
     },
 }
 
-/// A fault in one line that a person can act on and an editor can jump by.
+/// A fault in one line, with what to do, and in a form that editors can jump to.
 ///
 /// Lines of files count from 1, bytes of the text from 0.
 #[derive(Clone, Copy)]
 pub struct Message<'a> {
     pub fault: RunFault,
     pub caller: Caller<'a>,
-    /// The operand that names the text; none is standard input.
+    /// The operand that names the text; none means standard input.
     pub text: Option<&'a str>,
     /// Why a file or a device failed.
     pub reason: Option<Reason>,
-    /// Whether the text begins as UTF-16 does.
+    /// Whether the text begins like UTF-16.
     pub is_utf16: bool,
 }
 
@@ -69,7 +69,7 @@ impl<'a> fmt::Display for Message<'a> {
 }
 
 impl<'a> Message<'a> {
-    /// The message of a call of a library.
+    /// The message for a library call.
     pub fn of_call(fault: RunFault) -> Message<'a>
         ensures { result ≡ of_call fault }
     {
@@ -82,7 +82,7 @@ impl<'a> Message<'a> {
         }
     }
 
-    /// A fault of the files after the name that the caller has for its file.
+    /// A fault of the files, after the caller's name for its file.
     fn named(&self, fault: CellsFault, which: Which) -> NamedFault<Name<'a>>
         ensures fault { result.fault ≡ fault }
         ensures name { text_of_name result.name ≡ file_text self.now.caller which }
@@ -98,7 +98,7 @@ impl<'a> Message<'a> {
         NamedFault { fault, name }
     }
 
-    /// The folder that a property file is of, where the words name one.
+    /// The folder of a property file, if the arguments name one.
     fn folder(&self, which: Which) -> Option<&'a str>
         ensures { option_map (λ folder. folder.now) result ≡ folder_of self.now.caller which }
     {
@@ -225,7 +225,7 @@ impl<'a> Message<'a> {
         write!(f, "{}: byte {at}: ", self.input())
     }
 
-    /// The most bytes of a paragraph, where the caller is the program.
+    /// The most bytes of a paragraph, if the caller is the program.
     fn limit(&self) -> Option<u32>
         ensures { result ≡ limit_of self.now.caller }
     {
@@ -243,7 +243,7 @@ impl<'a> Message<'a> {
     }
 }
 
-/// What is said of ill-formed bytes, and where the text begins as UTF-16 does.
+/// The message for ill-formed bytes, also for a text that begins like UTF-16.
 fn invalid_utf8<W: fmt::Write>(f: &mut fmt::Formatter<W>, is_utf16: bool) -> fmt::Result
     ensures { DisplaysOnOk W.write_str_gives f.old result (Some (invalid_text is_utf16)) f.new }
 {
@@ -270,7 +270,7 @@ fn than_limit<W: fmt::Write>(f: &mut fmt::Formatter<W>, limit: Option<u32>) -> f
     }
 }
 
-/// The option that names a file of one's own.
+/// The option that names any other file.
 fn option_of(which: Which) -> &'static str
     ensures { result.now ≡ option_of which }
 {

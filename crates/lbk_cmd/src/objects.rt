@@ -1,4 +1,4 @@
-//! The parts of an object of JSON (RFC 8259), each placed in a buffer with room for more.
+//! The parts of a JSON object (RFC 8259), each written to a buffer with enough room.
 
 ghost use Rattle.std.specs.Prelude.{◌≡◌, ◌+◌, ◌<◌, ◌≤◌, length};
 ghost use Rattle.std.specs.Char.{digit_char};
@@ -11,7 +11,7 @@ use super::placing::{place_byte, place_front};
 use super::waiting::place_number;
 use lbk_chunk_reader::Chunk;
 
-/// Places an object of a chunk up to the text in it.
+/// Writes the object of a chunk up to its text.
 pub fn place_front_of_object(line: &mut [u8], at: usize, chunk: &Chunk) -> usize
     requires { at + 128 ≤ length line.old }
     ensures { Placed line.old line.new at (front_of_object (numbered_chunk chunk.now)) result }
@@ -25,7 +25,7 @@ pub fn place_front_of_object(line: &mut [u8], at: usize, chunk: &Chunk) -> usize
     place_front(line, next, *b",\"text\":\"       ", 9)
 }
 
-/// Places what stands for a byte in a string.
+/// Writes a byte of a JSON string, escaped if needed.
 #[inline(always)]
 pub fn place_escaped(buf: &mut [u8], at: usize, byte: u8) -> usize
     requires { at + 8 ≤ length buf.old }
@@ -51,7 +51,7 @@ pub fn place_escaped(buf: &mut [u8], at: usize, byte: u8) -> usize
     place_byte(buf, at, byte)
 }
 
-/// The letter that stands for a byte behind a backslash, or 0 for a byte that has none.
+/// The letter that escapes a byte after a backslash, or 0 for a byte without one.
 #[inline(always)]
 fn escape_letter(byte: u8) -> u8
     ensures { result ≡ escape_letter byte }

@@ -1,4 +1,4 @@
-//! Offsets as decimal text. Most share all digits but the last four with the one before.
+//! Offsets as decimal text. Most share all digits except the last four with the previous one.
 
 ghost use Rattle.std.specs.Prelude.{◌≡◌, ◌+◌, ◌/◌, ◌%◌, ◌<◌, ◌≤◌, ◌^◌, decimal, length, take};
 ghost use Rattle.lbk_cmd.specs.Placing.{Placed};
@@ -9,10 +9,10 @@ use itoa::write_digits;
 /// The most digits that are kept.
 const MOST: usize = 16;
 
-/// How many offsets share all digits but the last four.
+/// How many offsets share all digits except the last four.
 const RANGE: u64 = 10_000;
 
-/// The digits of a number, in the front of some bytes.
+/// The digits of a number, at the front of some bytes.
 #[derive(Clone, Copy)]
 struct Digits {
     bytes: [u8; MOST],
@@ -37,7 +37,7 @@ fn digits_of(number: u64) -> Digits
     }
 }
 
-/// The digits of the offset that was placed last but for its last four, and the offsets that have these.
+/// The digits of the last written offset, except its last four, and the offsets that share them.
 #[derive(Clone, Copy)]
 pub struct Offsets {
     /// The least of the 10,000 offsets.
@@ -56,7 +56,7 @@ impl Offsets {
         }
     }
 
-    /// Places an offset in a buffer, and returns the place behind it.
+    /// Writes an offset to a buffer, and returns the index after it.
     #[inline(always)]
     pub fn place(&mut self, buf: &mut [u8], at: usize, offset: u64) -> usize
         requires { (offset < 2 ^ 63) × (at + 20 ≤ length buf.old) }
@@ -69,7 +69,7 @@ impl Offsets {
         self.place_other(buf, at, offset)
     }
 
-    /// Places one of the offsets whose digits are kept.
+    /// Writes one of the offsets that share the kept digits.
     #[inline(always)]
     fn place_known(&self, buf: &mut [u8], at: usize, offset: u64) -> usize
         requires known { (self.now.base ≤ offset) × (offset < self.now.base + 10000) }
@@ -81,7 +81,7 @@ impl Offsets {
         place_four(buf, next, offset - self.base)
     }
 
-    /// Places any offset, and keeps its digits if it has more than four.
+    /// Writes any offset, and keeps its digits if it has more than four.
     #[cold]
     #[inline(never)]
     fn place_other(&mut self, buf: &mut [u8], at: usize, offset: u64) -> usize

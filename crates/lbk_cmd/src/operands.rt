@@ -10,24 +10,24 @@ use lbk_feed::devices::MemorySource;
 use lbk_files::{LoadFault, MemoryStore, Opens};
 use std::alloc::Global;
 
-/// Files of text, and what is said of those that are refused.
+/// Texts by their names, and the reports of refused ones.
 pub trait Texts<'a>: Opens {
-    // The names that were refused, in order, each with its fault, where this is known.
+    // The refused names, in order, each with its fault, if this is known.
     ghost refused: { Self → Option (List (List ℕ × RunFault)) };
 
-    /// Hears what the words ask for, before anything is opened.
+    /// Receives what the arguments ask for, before anything is opened.
     fn begin(&mut self, order: &Order<'a>)
         ensures refused { refused self.new ≡ refused self.old }
         ensures contents { Self.contents self.new ≡ Self.contents self.old };
 
-    /// Reports that the text of a name was refused, and why.
+    /// Reports that the text with a name was refused, and why.
     fn refuse(&mut self, name: &str, fault: RunFault)
         ensures refused { refused self.new
             ≡ option_map (λ before. before ++ (name.now, fault) ∷ []) (refused self.old) }
         ensures contents { Self.contents self.new ≡ Self.contents self.old };
 }
 
-/// Files of text in memory, and why some of them were refused.
+/// Texts in memory, and why some of them were refused.
 #[derive(Drop)]
 pub struct MemoryTexts<'a> {
     files: MemoryStore<'a>,
@@ -35,7 +35,7 @@ pub struct MemoryTexts<'a> {
 }
 
 impl<'a> MemoryTexts<'a> {
-    /// The texts of these files. Any other name cannot be opened.
+    /// Texts with these names. No other name can be opened.
     pub fn new(alloc: Global, files: MemoryStore<'a>) -> MemoryTexts<'a>
         ensures files { result.files ≡ files.entry }
         ensures none { result.refused.items ≡ [] }
@@ -46,7 +46,7 @@ impl<'a> MemoryTexts<'a> {
         }
     }
 
-    /// Why texts were refused, in order, as long as memory could grow for it.
+    /// Why texts were refused, in order, as long as memory could grow for the list.
     pub fn refused(&self) -> &[RunFault]
         ensures { result.now ≡ self.now.refused.items }
     {
@@ -72,7 +72,7 @@ impl<'a> Texts<'a> for MemoryTexts<'_> {
 
     fn begin(&mut self, _order: &Order<'a>) {}
 
-    /// Notes the fault, as long as memory can grow for it.
+    /// Records the fault, if memory can grow for it.
     fn refuse(&mut self, _name: &str, fault: RunFault)
         ensures noted { Notes fault self.old self.new }
         ensures refused { refusals_told_by self.new
@@ -83,7 +83,7 @@ impl<'a> Texts<'a> for MemoryTexts<'_> {
     }
 }
 
-/// No files of text: none can be opened, and of none is it said why.
+/// No texts: none can be opened, and nothing is reported.
 #[derive(Drop)]
 pub(crate) struct NoTexts;
 

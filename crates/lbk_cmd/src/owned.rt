@@ -1,4 +1,4 @@
-//! A passage of a text with its breaks and its words, which holds all of it.
+//! A passage of a text with its breaks and its words, as an owned value.
 
 ghost use Rattle.std.specs.Prelude.{◌≡◌, ◌+◌, ◌^◌, ◌≤◌, filter, map, IfOk};
 ghost use Rattle.lbk_passage.specs.Laws.{break_at};
@@ -10,17 +10,17 @@ use lbk_rules::Break;
 use std::alloc::{AllocError, Global};
 use std::marker::Model;
 
-/// A word of a text (UAX #29, section 4), by bytes of the whole text.
+/// A word of a text (UAX #29, section 4). Offsets count bytes of the whole text.
 #[derive(Clone, Copy, PartialEq, Eq, Debug)]
 pub struct Word {
-    /// Where it begins.
+    /// Its offset.
     pub start: usize,
-    /// The byte after its last.
+    /// The byte after its last one.
     pub end: usize,
 }
 
-/// A passage: the text up to and with a position where a line must end (UAX #14, section 6.1), or up to the end of the
-/// whole text. It is never empty. All places are bytes of the whole text.
+/// A passage: the text up to a required break (UAX #14, section 6.1), or up to the end of the whole text. It is never
+/// empty. Offsets count bytes of the whole text.
 ///
 /// ```rust
 /// let passages = read_passages(rt.alloc(), SAMPLE_FILES, &mut reader, 65_536, profile)?;
@@ -43,7 +43,7 @@ impl Model for OwnedPassage {
 }
 
 impl OwnedPassage {
-    /// A passage that a segmenter lends. Returns an error if memory could not grow.
+    /// Copies a passage that a segmenter lends. Returns an error if memory could not grow.
     pub(crate) fn of(alloc: Global, passage: &Passage<'_>) -> Result<OwnedPassage, AllocError>
         requires { IsPlaced passage.now }
         ensures { IfOk result (λ owned. owned ≡ lent_as passage.now) }
@@ -57,7 +57,7 @@ impl OwnedPassage {
         })
     }
 
-    /// Where it begins.
+    /// Its offset.
     pub fn start(&self) -> usize
         ensures { result ≡ self.now.start }
     {
@@ -71,7 +71,7 @@ impl OwnedPassage {
         &self.text
     }
 
-    /// Where a line may or must end in it, the last of which is its end.
+    /// Its breaks; the last one is its end.
     pub fn breaks(&self) -> &[Break]
         ensures { result.now ≡ self.now.breaks }
     {
@@ -86,7 +86,7 @@ impl OwnedPassage {
     }
 }
 
-/// The breaks at the ends of some segments, whose passage begins at byte `start`.
+/// The breaks at the ends of segments of a passage that begins at byte `start`.
 fn breaks_from(alloc: Global, start: usize, segments: &[Segment]) -> Result<Vec<Break>, AllocError>
     requires { start ≤ 2 ^ 62 }
     ensures { IfOk result (λ breaks. breaks.items ≡ map (break_at start) segments.now) }
@@ -99,7 +99,7 @@ fn breaks_from(alloc: Global, start: usize, segments: &[Segment]) -> Result<Vec<
     breaks.collect(alloc)
 }
 
-/// The words among some pieces, whose passage begins at byte `start`.
+/// The words among pieces of a passage that begins at byte `start`.
 fn words_from(alloc: Global, start: usize, pieces: &[Piece]) -> Result<Vec<Word>, AllocError>
     requires { start ≤ 2 ^ 62 }
     ensures { IfOk result (λ words. words.items ≡ map (word_at start) (filter (λ p. p.word) pieces.now)) }

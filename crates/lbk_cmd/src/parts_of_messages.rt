@@ -1,4 +1,4 @@
-//! What a message is put together of.
+//! The parts of messages.
 
 ghost use Rattle.std.specs.Prelude.{◌≡◌, Some, option_map};
 ghost use Rattle.lbk_cmd.specs.Message.{advice_of, advice_of_folder, operand_text, text_of_input, text_of_name};
@@ -13,13 +13,13 @@ use std::io::ErrorKind;
 /// Why a file or a device failed.
 #[derive(Clone, Copy, Debug, PartialEq, Eq)]
 pub enum Reason {
-    /// What the system says.
+    /// The system's reason.
     System(ErrorKind),
-    /// A text is the output, too, and would grow while it is read.
+    /// The text is also the output, and would grow while it is read.
     IsOutput,
 }
 
-/// The reason after a colon, where there is one.
+/// The reason after a colon, if there is one.
 #[derive(Clone, Copy)]
 pub(crate) struct Why(pub(crate) Option<Reason>);
 
@@ -37,7 +37,7 @@ impl fmt::Display for Why {
     }
 }
 
-/// How to go on where a file cannot be read, of a folder if it is of one.
+/// What to do if a file cannot be read, and it is in a folder.
 #[derive(Clone, Copy)]
 pub(crate) struct FolderAdvice<'a>(pub(crate) Option<&'a str>);
 
@@ -52,7 +52,7 @@ impl<'a> fmt::Display for FolderAdvice<'a> {
     }
 }
 
-/// How to go on where a file of a folder cannot be read.
+/// What to do if a file in a folder cannot be read.
 fn advice_of_folder(folder: &str) -> &'static str
     ensures { result.now ≡ advice_of_folder folder.now }
 {
@@ -66,13 +66,13 @@ fn advice_of_folder(folder: &str) -> &'static str
 /// The name of a property file.
 #[derive(Clone, Copy)]
 pub(crate) enum Name<'a> {
-    /// That of the Unicode Character Database.
+    /// The name in the Unicode Character Database.
     Plain(Which),
-    /// That of a sample file.
+    /// The name of a sample file.
     Sample(Which),
-    /// As it stands in the words.
+    /// The name in the arguments.
     Given(&'a str),
-    /// That of a file in a folder.
+    /// The path of a file in a folder.
     InFolder(&'a str, Which),
 }
 

@@ -1,4 +1,4 @@
-//! The passages of a text in one call: from the bytes of four property files and of a text to what the rules say of it.
+//! The passages of a text in one call: from the bytes of four property files and of a text to its breaks and words.
 
 ghost use Rattle.std.specs.Prelude.{◌≡◌, [], Ok, Err, IfOk, IfErr, OnOk};
 ghost use Rattle.lbk_ucd.specs.Files.{AreLawful};
@@ -19,9 +19,9 @@ use lbk_ucd::Files;
 use std::alloc::Global;
 
 /// The passages of a text by the rules (UAX #14, section 6) and four property files, each with its text, its breaks and
-/// its words (UAX #29, section 4). They depend only on the bytes, however the reader gives them.
+/// its words (UAX #29, section 4). They depend only on the bytes, not on how the reader cuts them.
 ///
-/// `limit` is the most bytes of a paragraph, 1 to 16,777,216. The whole text is held in memory.
+/// `limit` is the most bytes of a paragraph, 1 to 16,777,216. The call holds the whole text in memory.
 ///
 /// ```rust
 /// let passages = read_passages(rt.alloc(), SAMPLE_FILES, &mut reader, 65_536, profile)?;
@@ -38,7 +38,7 @@ pub fn read_passages<R: Source>(
     // The bytes read are a text, and these are its passages by the cells of the files.
     ensures passages { IfOk result (λ list. AreRead files.entry profile (R.unread reader.old) list.items) }
 
-    // What was read, and why a text is refused: as `show` reads and refuses it.
+    // What was read, and why a text is refused: as in `show`.
     ensures done { OnOk result (ShowsBy files.entry limit profile
         (reader_alone R.Source reader.old) (reader_alone R.Source reader.new) (Ok (tt {0}))) }
     ensures refused { IfErr result (IsBreakFault files.entry limit profile
@@ -50,7 +50,7 @@ pub fn read_passages<R: Source>(
     Ok(passages)
 }
 
-/// Puts the passages of a text by these cells into an empty list. After an error some of them may stand there.
+/// Appends the passages of a text by these cells to an empty list. After an error some of them may be in it.
 fn own_passages<R: Source>(
     alloc: Global,
     reader: &mut R,

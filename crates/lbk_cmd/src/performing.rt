@@ -1,4 +1,4 @@
-//! What is ready, performed over the texts.
+//! Runs an engine over the texts.
 
 ghost use Rattle.std.specs.Prelude.{◌≡◌, map};
 ghost use Rattle.lbk_rules.specs.CellPages.{page_cell};
@@ -22,7 +22,7 @@ use lbk_files::{LoadFault, Opens, Ready};
 use lbk_notation::{Form, replay};
 use std::alloc::Global;
 
-/// Runs the engine that is ready over its texts, or over that of the reader where it has none.
+/// Runs the engine over its texts, or over that of the reader if it names none.
 #[tactic(none)]
 pub(crate) fn perform<'a, T: Texts<'a>, R: Source, W: Sink>(
     alloc: Global,
@@ -72,7 +72,7 @@ fn perform_all<'a, T: Texts<'a>, R: Source, W: Sink>(
     so_far
 }
 
-/// Reports the text of a name, where it was refused.
+/// Reports the text with a name, if it was refused.
 fn report<'a, T: Texts<'a>>(texts: &mut T, name: &str, ending: &Ending)
     ensures refused { T.refused texts.new ≡ refused_after (T.refused texts.old) name.now ending.now }
     ensures contents { T.contents texts.new ≡ T.contents texts.old }
@@ -82,7 +82,7 @@ fn report<'a, T: Texts<'a>>(texts: &mut T, name: &str, ending: &Ending)
     }
 }
 
-/// Runs the engine over the text of a name.
+/// Runs the engine over the text with a name.
 #[tactic(none)]
 fn perform_named<T: Opens, R: Source, W: Sink>(
     alloc: Global,
@@ -105,7 +105,7 @@ fn perform_named<T: Opens, R: Source, W: Sink>(
     }
 }
 
-/// Runs the engine that is ready over the text of a name, behind the line of the name if this is asked for.
+/// Runs the engine over the text with a name, after the line with the name if the task asks for it.
 #[tactic(none)]
 fn perform_titled<R: Source, W: Sink>(
     alloc: Global,
@@ -126,7 +126,7 @@ fn perform_titled<R: Source, W: Sink>(
     }
 }
 
-/// Runs the engine that is ready, over one text or its range of it.
+/// Runs the engine over one text, or over its range of it.
 #[tactic(none)]
 fn perform_one<R: Source, W: Sink>(
     alloc: Global,
@@ -188,7 +188,7 @@ fn perform_one<R: Source, W: Sink>(
     }
 }
 
-/// Writes the chunks of one text, as they are asked for.
+/// Writes the chunks of one text, as the task asks for them.
 #[tactic(none)]
 fn perform_chunk<R: Source, W: Sink>(
     alloc: Global,
@@ -226,7 +226,7 @@ fn limits(sizes: Sizes) -> Limits
     }
 }
 
-/// Writes these lines of the passages that begin in a range of one text.
+/// Writes these lines for the passages that begin in a range of one text.
 #[tactic(none)]
 fn perform_range<R: Source, W: Sink>(
     alloc: Global,
@@ -252,7 +252,7 @@ fn perform_range<R: Source, W: Sink>(
     ))
 }
 
-/// Runs the engine that is ready, over one text as a whole.
+/// Runs the engine over one whole text.
 #[tactic(none)]
 fn perform_whole<R: Source, W: Sink>(
     alloc: Global,
@@ -314,7 +314,7 @@ fn perform_whole<R: Source, W: Sink>(
     }
 }
 
-/// The form of the test notation: with `--kinds` a break that must be has a mark of its own.
+/// The form of the test notation: with `--kinds` required breaks have their own mark.
 fn form(kinds: bool) -> Form
     ensures { result ≡ form_of kinds }
 {

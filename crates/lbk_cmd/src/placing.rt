@@ -1,11 +1,11 @@
-//! The parts of a line, each placed in a buffer that has room for more than the line.
+//! The parts of a line, each written to a buffer with room for more than the line.
 
 ghost use Rattle.std.specs.Prelude.{◌≡◌, ◌+◌, ◌<◌, ◌≤◌, ◌∷◌, [], length, take};
 ghost use Rattle.lbk_cmd.specs.Placing.{Placed, four_digits, two_digits};
 
 use std::simd::Simd;
 
-/// Places a byte, and returns the place behind it.
+/// Writes a byte, and returns the index after it.
 #[inline(always)]
 pub fn place_byte(buf: &mut [u8], at: usize, byte: u8) -> usize
     requires { at < length buf.old }
@@ -15,7 +15,7 @@ pub fn place_byte(buf: &mut [u8], at: usize, byte: u8) -> usize
     at + 1
 }
 
-/// Places the first `len` of some bytes. All are written, so that it is one store.
+/// Writes the first `len` of some bytes. It writes all of them, so that it is one store.
 #[inline(always)]
 pub fn place_front<const N: usize>(buf: &mut [u8], at: usize, bytes: [u8; N], len: usize) -> usize
     requires { (len ≤ N) × (at + N ≤ length buf.old) }
@@ -40,7 +40,7 @@ static PAIRS: [[u8; 2]; 100] = [
     *b"90", *b"91", *b"92", *b"93", *b"94", *b"95", *b"96", *b"97", *b"98", *b"99",
 ];
 
-/// Places the four digits of a number below 10,000.
+/// Writes the four digits of a number below 10,000.
 #[inline(always)]
 pub fn place_four(buf: &mut [u8], at: usize, number: u64) -> usize
     requires { (number < 10000) × (at + 4 ≤ length buf.old) }
@@ -50,7 +50,7 @@ pub fn place_four(buf: &mut [u8], at: usize, number: u64) -> usize
     place_pair(buf, next, number % 100)
 }
 
-/// Places the two digits of a number below 100.
+/// Writes the two digits of a number below 100.
 #[inline(always)]
 fn place_pair(buf: &mut [u8], at: usize, number: u64) -> usize
     requires { (number < 100) × (at + 2 ≤ length buf.old) }
@@ -59,7 +59,7 @@ fn place_pair(buf: &mut [u8], at: usize, number: u64) -> usize
     place_front(buf, at, PAIRS[number as usize], 2)
 }
 
-/// Places a text of at most three bytes.
+/// Writes a text of at most three bytes.
 #[inline(always)]
 pub fn place_few(buf: &mut [u8], at: usize, text: &[u8]) -> usize
     requires { (length text.now ≤ 3) × (at + 3 ≤ length buf.old) }

@@ -1,4 +1,4 @@
-//! The engines over a range of a text: they write of the passages that begin in it.
+//! The engines over a range of a text: they write the passages that begin in it.
 
 ghost use Rattle.lbk_cmd.specs.Devices.{devices_of};
 ghost use Rattle.lbk_cmd.specs.Engines.{engine_of};
@@ -13,11 +13,11 @@ use lbk_passage::Segmenter;
 use lbk_rules::{CellSource, Profile};
 use std::alloc::Global;
 
-/// Writes the lines of the passages that begin in a range of bytes, as they are of the whole text. The text is read
-/// from its start, passages before the range are passed over, and no more is read once one ended at the end of the
-/// range or after it.
+/// Writes the lines of the passages that begin in a range of bytes, as for the whole text. It reads the text from its
+/// start, skips passages before the range, and stops reading after a passage that ends at or after the end of the
+/// range.
 ///
-/// `limit` and the faults are those of `show`: what stands before the range is refused as in a run over the whole text.
+/// `limit` and the faults are those of `show`: the text before the range is refused as in a run over the whole text.
 pub fn write_range<R: Source, W: Sink, C: CellSource>(
     lines: Lines<'_>,
     part: Part,

@@ -1,4 +1,4 @@
-//! The lines that `segment` writes of a passage.
+//! The lines that `segment` writes for a passage.
 
 ghost use Rattle.std.specs.Prelude.{◌≡◌, ◌+◌, ◌*◌, ◌<◌, ◌≤◌, ◌^◌, ◌++◌, ◌∷◌, [], length, take, OnOk, OnErr};
 ghost use Rattle.std.specs.List.{flat_map};
@@ -15,14 +15,14 @@ use std::alloc::AllocError;
 /// Room for a line, and for what its parts write past its end.
 const LINE: usize = 64;
 
-/// How many parts of a passage get room together.
+/// How many parts of a passage get room at once.
 const PARTS: usize = 64;
 
-/// Room for so many lines.
+/// Room for this many lines.
 static ROOM: [u8; LINE * PARTS] = [b'\n'; LINE * PARTS];
 
-/// Puts the lines of a passage at the end of `out`: `P` and its bytes, `S` for each segment with the kind and the rule
-/// at its end, `W` for each word. Offsets count bytes of the whole text. After an error some of them may stand there.
+/// Appends the lines of a passage to `out`: `P` with its offsets, `S` for each segment with the kind and the rule at
+/// its end, `W` for each word. Offsets count bytes of the whole text. After an error some of them may be appended.
 pub fn push_segmented(
     out: &mut Vec<u8>,
     offsets: &mut Offsets,
@@ -40,7 +40,7 @@ pub fn push_segmented(
     push_words(out, offsets, start, passage.pieces)
 }
 
-/// Puts the line of a passage itself at the end of `out`.
+/// Appends the line `P` of a passage to `out`.
 fn push_passage(
     out: &mut Vec<u8>,
     offsets: &mut Offsets,
@@ -74,7 +74,7 @@ fn push_segments(
     Ok(())
 }
 
-/// Puts the lines of a few segments at the end of `out`.
+/// Appends the lines of a few segments to `out`.
 fn push_some_segments(
     out: &mut Vec<u8>,
     offsets: &mut Offsets,
@@ -93,7 +93,7 @@ fn push_some_segments(
     Ok(())
 }
 
-/// Places the lines of some segments.
+/// Writes the lines of some segments.
 fn place_segments(
     buf: &mut [u8],
     at: usize,
@@ -128,7 +128,7 @@ fn push_words(
     Ok(())
 }
 
-/// Puts the lines of those of a few pieces that are words at the end of `out`.
+/// Appends the lines of the words among a few pieces to `out`.
 fn push_some_words(
     out: &mut Vec<u8>,
     offsets: &mut Offsets,
@@ -147,7 +147,7 @@ fn push_some_words(
     Ok(())
 }
 
-/// Places the lines of those of some pieces that are words.
+/// Writes the lines of the words among some pieces.
 fn place_words(
     buf: &mut [u8],
     at: usize,
@@ -166,7 +166,7 @@ fn place_words(
     behind
 }
 
-/// Places the line of a piece, if it is a word.
+/// Writes the line of a piece, if it is a word.
 #[inline(always)]
 fn place_word(line: &mut [u8], at: usize, offsets: &mut Offsets, start: u64, piece: &Piece) -> usize
     requires { (start ≤ 2 ^ 62) × (at + 64 ≤ length line.old) }
@@ -180,7 +180,7 @@ fn place_word(line: &mut [u8], at: usize, offsets: &mut Offsets, start: u64, pie
     place_line(line, at, offsets, b'W', from, start + u64::from(piece.end))
 }
 
-/// Places the line of a segment.
+/// Writes the line of a segment.
 #[inline(always)]
 fn place_segment(
     line: &mut [u8],
@@ -201,7 +201,7 @@ fn place_segment(
     place_front(line, next, end.bytes, end.len)
 }
 
-/// Places a line of a letter and two offsets.
+/// Writes a line of a letter and two offsets.
 #[inline(always)]
 fn place_line(
     line: &mut [u8],
@@ -219,7 +219,7 @@ fn place_line(
     place_byte(line, next, b'\n')
 }
 
-/// Places the letter of a line and two offsets.
+/// Writes the letter of a line and two offsets.
 #[inline(always)]
 fn place_part(
     line: &mut [u8],
@@ -239,7 +239,7 @@ fn place_part(
     offsets.place(line, next, end)
 }
 
-/// Places the name of a kind, between two spaces.
+/// Writes the name of a kind, between two spaces.
 #[inline(always)]
 pub(crate) fn place_kind(line: &mut [u8], at: usize, kind: Kind) -> usize
     requires { at + 8 ≤ length line.old }
@@ -260,7 +260,7 @@ struct LineEnd {
     len: usize,
 }
 
-/// Those of the rules, by their places.
+/// Those of the rules, in their order.
 #[rattlefmt::skip]
 static LINE_ENDS: [LineEnd; 38] = [
     LineEnd { bytes: *b"2\n  ", len: 2 },

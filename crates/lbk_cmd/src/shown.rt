@@ -1,4 +1,4 @@
-//! The line that `show` writes of a passage.
+//! The line that `show` writes for a passage.
 
 ghost use Rattle.std.specs.Prelude.{◌≡◌, ◌+◌, ◌<◌, ◌≤◌, ◌^◌, ◌++◌, ◌∷◌, [], length, map, take, OnOk};
 ghost use Rattle.std.specs.Option.{ForSome};
@@ -15,8 +15,8 @@ use lbk_notation::{Form, mark_of, push_mark, push_scalar};
 use lbk_rules::{CellSource, Kind, Profile, Rule, Stepper, Verdict};
 use std::alloc::AllocError;
 
-/// Writes the verdicts of all positions of a passage in place of what the list held: those of its text by itself, the
-/// last being `end` (UAX #14, section 6). Where memory could not grow the list holds some of them.
+/// Replaces the list by the verdicts of all positions of a passage: those of its text as a separate text, the last
+/// being `end` (UAX #14, section 6). If memory could not grow, the list has some of them.
 pub fn decide<C: CellSource>(
     cells: &C,
     profile: Profile,
@@ -42,7 +42,7 @@ pub fn decide<C: CellSource>(
     Ok(())
 }
 
-/// Puts the verdict of the position that was held in its place, where it comes.
+/// Writes the verdict of the held position, once it is known.
 fn place(verdicts: &mut Vec<Verdict>, late: Option<(u64, Verdict)>)
     requires { ForSome late (λ answer. answer.0 < length verdicts.old.items) }
     ensures { verdicts.new.items ≡ written late verdicts.old.items }
@@ -52,7 +52,7 @@ fn place(verdicts: &mut Vec<Verdict>, late: Option<(u64, Verdict)>)
     }
 }
 
-/// The verdict of a position; one that is held has another in its place until its own comes.
+/// The verdict of a position; a held one has a placeholder until its verdict is known.
 fn now_or_none(now: Option<Verdict>) -> Verdict
     ensures { result ≡ placed now }
 {
@@ -62,9 +62,8 @@ fn now_or_none(now: Option<Verdict>) -> Verdict
     })
 }
 
-/// Puts the line of a passage at the end of `out`, with its line end: the marks of its positions with its scalars
-/// between them, a tab, `#`, and the number of the rule that decided each position. After an error some of it may
-/// stand there.
+/// Appends the line of a passage to `out`, with its line end: the marks of its positions with its scalars between them,
+/// a tab, `#`, and the number of the rule that decided each position. After an error some of it may be appended.
 #[tactic(auto, using(crate::proofs::Places::front_append))]
 pub fn push_shown(out: &mut Vec<u8>, text: &str, verdicts: &[Verdict]) -> Result<(), AllocError>
     requires { length verdicts.now ≡ length (chars text.now) + 1 }

@@ -1,4 +1,4 @@
-//! The text that `mark` writes of a passage.
+//! The text that `mark` writes for a passage.
 
 ghost use Rattle.std.specs.Prelude.{◌≡◌, ◌<◌, ◌≤◌, ◌^◌, ◌++◌, [], List, drop, length, map, take, IfOk, IfSome, OnOk};
 ghost use Rattle.std.specs.Prelude.{None, false};
@@ -17,15 +17,15 @@ use std::alloc::AllocError;
 /// How many breaks are found at a time.
 pub const BLOCK: usize = 64;
 
-/// A block that nothing was found into.
+/// An unused block.
 pub const NO_BREAKS: [Break; BLOCK] = [Break {
     at: 0,
     kind: Kind::No,
     rule: Rule::Lb31,
 }; BLOCK];
 
-/// Puts the text of a passage at the end of `out`, with a mark at each position where a line may end, and with a line
-/// end where the text has none. `block` is a list to work in. After an error some of it may stand there.
+/// Appends the text of a passage to `out`, with a mark at each position where a line may end, and with a line end if
+/// the text has none. `block` is a list to work in. After an error some of it may be appended.
 #[tactic(auto, using(crate::proofs::Places::front_append))]
 pub fn push_signed<C: CellSource>(
     out: &mut Vec<u8>,
@@ -46,7 +46,7 @@ pub fn push_signed<C: CellSource>(
     Ok(())
 }
 
-/// Puts a text at the end of `out`, with its signs.
+/// Appends a text with its signs to `out`.
 fn push_text<C: CellSource>(
     out: &mut Vec<u8>,
     mark: &str,
@@ -71,7 +71,7 @@ fn push_text<C: CellSource>(
     }
 }
 
-/// Puts the text from the byte `start` on at the end of `out`.
+/// Appends the text from byte `start` on to `out`.
 fn push_rest(out: &mut Vec<u8>, text: &[u8], start: usize) -> Result<(), AllocError>
     requires { start ≤ length text.now }
     ensures text { OnOk result (out.new.items ≡ out.old.items ++ drop start text.now) }
@@ -80,8 +80,8 @@ fn push_rest(out: &mut Vec<u8>, text: &[u8], start: usize) -> Result<(), AllocEr
     out.extend_from_slice(&text[start..])
 }
 
-/// Puts the text from the byte `start` up to the last of these breaks at the end of `out`, with their signs, and
-/// returns where the rest begins.
+/// Appends the text from byte `start` up to the last of these breaks to `out`, with their signs, and returns where the
+/// rest begins.
 #[tactic(auto, using(crate::proofs::Places::front_append))]
 fn push_block(
     out: &mut Vec<u8>,

@@ -1,4 +1,4 @@
-//! The line with the name of a text before what is written of it.
+//! The line with the name of a text, before its output.
 
 ghost use Rattle.std.specs.Prelude.{◌≡◌, IfOk, string_bytes};
 ghost use Rattle.lbk_cmd.specs.Run.{failed_writes_with};

@@ -1,4 +1,4 @@
-//! The lines of chunks, which wait in a buffer of fixed size: no memory grows for them.
+//! The lines of chunks, in a buffer of fixed size: no memory grows for them.
 
 ghost use Rattle.std.specs.Prelude.{◌≡◌, ◌⊎◌, ℕ, ◌+◌, ◌≤◌, ◌++◌, ◌∷◌, [], length, take, decimal, true};
 ghost use Rattle.std.specs.Prelude.{OnErr, OnOk, option_map};
@@ -22,7 +22,7 @@ use lbk_feed::{Failed, Sink, write_all};
 use lbk_passage::Segmenter;
 use lbk_rules::CellSource;
 
-/// How many bytes wait at most.
+/// How many bytes are buffered at most.
 const ROOM: usize = 16_384;
 
 /// Room for a line, and for what its parts write past its end.
@@ -31,7 +31,7 @@ const LINE: usize = 128;
 /// The most digits of a number.
 const DIGITS: usize = 20;
 
-/// Lines that were not written yet.
+/// Buffered lines.
 #[derive(Drop)]
 pub(crate) struct Waiting {
     bytes: [u8; ROOM],
@@ -42,7 +42,7 @@ pub(crate) struct Waiting {
 impl Waiting {
     ghost use Rattle.lbk_cmd.specs.Waiting.{waiting_in};
 
-    /// None.
+    /// No lines.
     pub fn new() -> Waiting
         ensures { waiting_in result ≡ [] }
     {
@@ -67,7 +67,7 @@ impl Waiting {
         Ok(())
     }
 
-    /// Writes the lines, but where the next passage is settled by what was read.
+    /// Writes the lines, unless the bytes read settle the next passage.
     pub fn write_due<W: Sink, C: CellSource>(
         &mut self,
         segmenter: &mut Segmenter<'_, C>,
@@ -89,7 +89,7 @@ impl Waiting {
         self.write(writer)
     }
 
-    /// Puts the line of a chunk behind the others, if it is asked for: an object where its text is given.
+    /// Appends the line of a chunk, if it is in the range: an object if its text is given.
     pub fn push<W: Sink>(
         &mut self,
         range: Option<Part>,
@@ -110,7 +110,7 @@ impl Waiting {
         }
     }
 
-    /// Puts the line of a chunk's place behind the others.
+    /// Appends the line `C` of a chunk.
     fn push_place<W: Sink>(&mut self, chunk: &Chunk, writer: &mut W) -> Result<(), Failed>
         ensures line { Pushes result (W.written writer.old) (W.written writer.new) (waiting_in self.old)
             (waiting_in self.new) (chunk_line (numbered_chunk chunk.now)) }
@@ -121,7 +121,7 @@ impl Waiting {
         Ok(())
     }
 
-    /// Puts the object of a chunk with this text behind the others.
+    /// Appends the object of a chunk with this text.
     fn push_object<W: Sink>(
         &mut self,
         chunk: &Chunk,
@@ -140,7 +140,7 @@ impl Waiting {
         Ok(())
     }
 
-    /// Puts what stands for a text in a string of JSON behind the lines.
+    /// Appends a text as the content of a JSON string.
     fn push_escaped<W: Sink>(&mut self, text: &[u8], writer: &mut W) -> Result<(), Failed>
         ensures line { Pushes result (W.written writer.old) (W.written writer.new) (waiting_in self.old)
             (waiting_in self.new) (escape text.now) }
@@ -155,7 +155,7 @@ impl Waiting {
         Ok(())
     }
 
-    /// Writes the lines where no room is left for one more.
+    /// Writes the lines if there is no room for one more.
     fn make_room<W: Sink>(&mut self, writer: &mut W) -> Result<(), Failed>
         ensures line { Pushes result (W.written writer.old) (W.written writer.new) (waiting_in self.old)
             (waiting_in self.new) [] }
@@ -169,7 +169,7 @@ impl Waiting {
     }
 }
 
-/// Whether a chunk that begins at this byte is asked for.
+/// Whether a chunk that begins at this byte is in the range.
 fn is_asked(range: Option<Part>, start: usize) -> bool
     ensures { result ≡ is_asked range start }
 {
@@ -179,7 +179,7 @@ fn is_asked(range: Option<Part>, start: usize) -> bool
     }
 }
 
-/// Places the line of a chunk.
+/// Writes the line of a chunk.
 fn place_chunk(line: &mut [u8], at: usize, chunk: &Chunk) -> usize
     requires { at + 128 ≤ length line.old }
     ensures placed { Placed line.old line.new at (chunk_line (numbered_chunk chunk.now)) result }
@@ -196,7 +196,7 @@ fn place_chunk(line: &mut [u8], at: usize, chunk: &Chunk) -> usize
     place_byte(line, next, b'\n')
 }
 
-/// Places the digits of a number.
+/// Writes the digits of a number.
 pub(crate) fn place_number(line: &mut [u8], at: usize, number: usize) -> usize
     requires { at + 20 ≤ length line.old }
     ensures placed { Placed line.old line.new at (decimal number) result }

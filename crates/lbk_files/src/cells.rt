@@ -1,4 +1,4 @@
-//! The cells that the program decides by, out of property files.
+//! The cells of property files.
 
 ghost use Rattle.std.specs.Prelude.{◌≡◌, IfOk, IfErr, OnOk, MatchResult};
 ghost use Rattle.lbk_ucd.specs.Files.{AreLawful};
@@ -12,7 +12,7 @@ use lbk_rules::CellPages;
 use lbk_ucd::{Files, SAMPLE_CATEGORY, SAMPLE_EAST_ASIAN, SAMPLE_EMOJI, SAMPLE_LINE_BREAK, Tables};
 use std::alloc::Global;
 
-/// The sample files, small files of this project, by which the program decides where it is given no others.
+/// The sample files, small files of this project; the program uses them if it is given no others.
 pub const SAMPLE_FILES: Files<'static> = Files {
     line_break: SAMPLE_LINE_BREAK,
     east_asian: SAMPLE_EAST_ASIAN,
@@ -20,10 +20,10 @@ pub const SAMPLE_FILES: Files<'static> = Files {
     emoji: SAMPLE_EMOJI,
 };
 
-/// The cells of all scalar values by four property files (UAX #14, section 6.1, rule LB1).
+/// The cells of all scalar values, by four property files (UAX #14, section 6.1, rule LB1).
 ///
-/// `Tables` names the first fault of the files, or the line at which their tables could not grow; `Memory` comes
-/// where the pages could not grow.
+/// Returns `Tables` for the first fault of the files, or for the line at which their tables could not grow, and
+/// `Memory` if the pages could not grow.
 ///
 /// ```rust
 /// let cells = read_cells(rt.alloc(), SAMPLE_FILES)?;
@@ -37,7 +37,7 @@ pub fn read_cells(alloc: Global, files: Files<'_>) -> Result<CellPages, CellsFau
     CellPages::build(alloc, &tables).map_err(|_| CellsFault::Memory)
 }
 
-/// The cells of the sample files. An error comes only where memory runs out.
+/// The cells of the sample files. Fails only if memory runs out.
 pub fn sample_cells(alloc: Global) -> Result<CellPages, CellsFault>
     ensures { MatchResult result (λ pages. AreSampleCells (page_cell pages)) IsSampleFault }
 {

@@ -6,7 +6,7 @@ ghost use Rattle.lbk_files.specs.Named.{joined, name_in_database};
 use lbk_ucd::Which;
 use std::alloc::{AllocError, Global};
 
-/// The name of a file in a folder of the Unicode Character Database, as Unicode and Debian lay it out.
+/// The path of a file in a folder of the Unicode Character Database, in Unicode's and Debian's layout.
 pub fn name_in_database(which: Which) -> &'static str
     ensures { result.now ≡ name_in_database which }
 {
@@ -18,7 +18,7 @@ pub fn name_in_database(which: Which) -> &'static str
     }
 }
 
-/// The name of a file of a folder, after the folder's name.
+/// The path of a file in a folder: the folder's name and the path below it.
 pub(crate) fn joined(alloc: Global, folder: &str, which: Which) -> Result<String, AllocError>
     ensures { IfOk result (λ name. string_bytes name ≡ joined folder.now which) }
 {

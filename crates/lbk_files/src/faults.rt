@@ -1,27 +1,27 @@
-//! Why there are no cells to decide by, and why no engine runs.
+//! Why there are no cells, and why no engine runs.
 
 use super::named_fault::NamedFault;
 use lbk_ucd::{ClaimCause, UcdFault, Which, file_name};
 use thiserror::Error;
 
-/// Why there are no cells to decide by.
+/// Why there are no cells.
 #[derive(Clone, Copy, Debug, PartialEq, Eq, Error)]
 pub enum CellsFault {
     /// The file cannot be opened or read.
     #[error("{}", named(*self, *.0))]
     Load(Which),
-    /// The file has to be the one that Unicode 15.0.0 published, and is not.
+    /// The file should be the one that Unicode 15.0.0 published, and is not.
     #[error("{}", named(*self, *.0))]
     Claim(Which, ClaimCause),
-    /// The property files were refused at their first fault, or at a line where their tables could not grow.
+    /// The first fault of the property files, or a line where their tables could not grow.
     #[error("{}", named(*self, .0.file))]
     Tables(UcdFault),
-    /// An allocation was refused.
+    /// An allocation failed.
     #[error("out of memory")]
     Memory,
 }
 
-/// A fault after the name that its file has in the Unicode Character Database.
+/// A fault, after its file's name in the Unicode Character Database.
 fn named(fault: CellsFault, which: Which) -> NamedFault<&'static str> {
     NamedFault {
         fault,
@@ -32,10 +32,10 @@ fn named(fault: CellsFault, which: Which) -> NamedFault<&'static str> {
 /// Why no engine runs.
 #[derive(Debug, Drop)]
 pub enum Stop {
-    /// The words ask for help or for the version, which is the text.
+    /// The arguments ask for help or for the version; this is its text.
     Help { text: String },
-    /// The words are no command line of the program; the text says why.
+    /// The arguments are not a command line of the program; the text says why.
     Usage { text: String },
-    /// There are no cells, or an allocation was refused.
+    /// There are no cells, or an allocation failed.
     Refused(CellsFault),
 }

@@ -1,4 +1,4 @@
-//! Files that are opened by their names, as a store.
+//! A store that opens files by their names.
 
 ghost use Rattle.std.specs.Prelude.{◌≡◌, ℕ, ◌+◌, ◌-◌, ◌^◌, ◌<◌, ◌≤◌, List, Option, vec_len, IfErr, IfOk, MatchResult};
 ghost use Rattle.lbk_feed.specs.Devices.{count_up};
@@ -10,23 +10,23 @@ use super::store::{LoadFault, Store};
 use lbk_feed::Source;
 use std::alloc::Global;
 
-/// Opens files by their names, to be read from their beginning.
+/// Opens files by their names, to read them from the start.
 pub trait Opens {
     type File: Source + Drop;
 
-    // What the file of a name holds, where this is known; `None` in it is a file that cannot be opened.
+    // The content of a file, if it is known; an inner `None` is a file that cannot be opened.
     ghost contents: { Self → List ℕ → Option (Option (List ℕ)) };
 
-    /// Opens the file of a name.
+    /// Opens the file with a name.
     ///
-    /// `Unreadable` is returned if it cannot be opened, `Memory` where memory cannot grow for that.
+    /// Returns `Unreadable` if it cannot be opened, and `Memory` if memory could not grow.
     fn open(&self, name: &str) -> Result<Self::File, LoadFault>
         ensures opened { IfOk result (λ file. AreLeft (contents self.now name.now) (Self.File.unread file)) }
         ensures fault { IfErr result (IsLoadFault (contents self.now name.now)) };
 }
 
-/// A store that opens each file and reads the first bytes of it. As a store it tells nothing of what files hold,
-/// since a read may fail.
+/// A store that opens each file and reads its first bytes. Its model does not know the content of files, because a read
+/// may fail.
 #[derive(Drop)]
 pub struct FileStore<'a, O> {
     opener: &'a O,
@@ -56,7 +56,7 @@ impl<'a, O: Opens> Store for FileStore<'a, O> {
 
     ghost refusal_count = { λ store. refusals_of store };
 
-    /// The first `most + 1` bytes of a file that was opened, or all of them if it has fewer.
+    /// The first `most + 1` bytes of an open file, or all of them if it has fewer.
     fn load(&mut self, alloc: Global, name: &str, most: usize) -> Result<Vec<u8>, LoadFault>
         requires { most < 2 ^ 64 - 1 }
         ensures front { IfOk result (λ bytes. IsFront (O.contents (opener_of self.old) name.now) most bytes.items) }
@@ -86,7 +86,7 @@ impl<'a, O: Opens> Store for FileStore<'a, O> {
     }
 }
 
-/// The first `most + 1` bytes of the file of a name, or all of them if it has fewer.
+/// The first `most + 1` bytes of the file with a name, or all of them if it has fewer.
 fn front_of<O: Opens>(
     alloc: Global,
     opener: &O,

@@ -1,4 +1,4 @@
-//! The front of a reader's bytes.
+//! The first bytes of a reader.
 
 ghost use Rattle.std.specs.Prelude.{◌≡◌, ◌+◌, ◌-◌, ◌^◌, ◌<◌, ◌≤◌, take, vec_len, Err, IfOk, IfSome, IsErrOf, IsTrue};
 ghost use Rattle.std.specs.Io.KnownBytes.{Consumes};
@@ -10,10 +10,10 @@ use std::alloc::Global;
 
 const BLOCK: usize = 16_384;
 
-/// The first `most + 1` bytes that a reader gives, or all of them if it has fewer, in at most `most + 1` reads, and
-/// one more than bytes came.
+/// The first `most + 1` bytes of a reader, or all of them if it has fewer, in at most `most + 1` reads, and at most one
+/// more than bytes returned.
 ///
-/// `Unreadable` is returned if a read fails, `Memory` where memory could not grow.
+/// Returns `Unreadable` if a read fails, and `Memory` if memory could not grow.
 pub fn read_front<R: Source>(
     alloc: Global,
     reader: &mut R,

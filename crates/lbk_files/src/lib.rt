@@ -1,4 +1,4 @@
-//! What the words of the program name: files out of a store, and the cells that they give.
+//! The property files that the arguments name, from a store, and their cells.
 #![tactic(auto)]
 
 mod cells;

@@ -1,4 +1,4 @@
-//! The four files that words name, loaded in order and read.
+//! Loads the four files that arguments name, in order, and reads them.
 
 ghost use Rattle.std.specs.Prelude.{◌≡◌, ◌+◌, ◌<◌, ◌≤◌, Err, MatchResult, OnOk, true};
 ghost use Rattle.lbk_feed.specs.Devices.{count_up};
@@ -17,13 +17,13 @@ use lbk_rules::CellPages;
 use lbk_ucd::{Files, LONGEST_FILE, Which, check_claim};
 use std::alloc::Global;
 
-/// The cells of the files that are named: they are loaded in the order of `Files`, then read.
+/// The cells of the named files: they are loaded in the order of `Files`, then read.
 ///
-/// A file of a folder has to be, byte for byte, the one that Unicode 15.0.0 published, as `check_claim` tests it.
+/// A file in a folder has to be, byte for byte, the one that Unicode 15.0.0 published (`check_claim`).
 ///
-/// `Load` names the first file that cannot be read, and `Claim` the first of a folder that is not the published one. `Tables` comes as
-/// in `read_cells`. `Memory` comes before any load, for the names of the files of a folder; where a load was refused
-/// memory, after which none is made; or for well-formed files, once all four are loaded.
+/// `Load` names the first file that cannot be read, and `Claim` the first one of a folder that is not the published
+/// one. `Tables` is as in `read_cells`. `Memory` is returned before any load, for the paths of the files in a folder;
+/// if a load runs out of memory, and then there is no further load; or for well-formed files, once all four are loaded.
 pub fn load_cells<S: Store>(
     alloc: Global,
     names: &FileNames<'_>,
@@ -46,7 +46,7 @@ pub fn load_cells<S: Store>(
     }
 }
 
-/// The cells of the files at these places.
+/// The cells of the files with these names.
 fn load_places<S: Store>(
     alloc: Global,
     places: &Places<'_>,
@@ -77,7 +77,7 @@ fn load_places<S: Store>(
     )
 }
 
-/// The bytes of the file at a place.
+/// The bytes of the file with a name.
 fn load_file<S: Store>(
     alloc: Global,
     place: &Place<'_>,
@@ -96,7 +96,7 @@ fn load_file<S: Store>(
     }
 }
 
-/// The bytes of the file of this name, which has to be the published one.
+/// The bytes of the file with this name, which has to be the published one.
 fn load_claimed<S: Store>(
     alloc: Global,
     name: &str,
@@ -117,7 +117,7 @@ fn load_claimed<S: Store>(
     }
 }
 
-/// The bytes of the file of this name.
+/// The bytes of the file with this name.
 #[tactic(auto, unfolding(crate::specs::FileFault::greatest_file))]
 fn load_named<S: Store>(
     alloc: Global,
@@ -132,7 +132,7 @@ fn load_named<S: Store>(
     ensures files { S.file store.new ≡ S.file store.old }
     ensures loads { S.load_count store.new ≡ count_up (S.load_count store.old) }
 {
-    // One byte more is loaded, so that a longer file is refused as too long.
+    // Loads one more byte, so that a longer file is refused as too long.
     match store.load(alloc, name, LONGEST_FILE) {
         Ok(bytes) => Ok(bytes),
         Err(LoadFault::Unreadable) => Err(CellsFault::Load(which)),

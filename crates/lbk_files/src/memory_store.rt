@@ -1,4 +1,4 @@
-//! A store over memory.
+//! A store in memory.
 
 ghost use Rattle.std.specs.Prelude.{◌≡◌, Some, option_map};
 ghost use Rattle.lbk_files.specs.MemoryStore.{contents_of, loads_of, named_files, refusals_of};
@@ -6,7 +6,7 @@ ghost use Rattle.lbk_files.specs.MemoryStore.{contents_of, loads_of, named_files
 use super::store::{LoadFault, Store};
 use std::alloc::Global;
 
-/// Files by their names, the first of a name where there are more.
+/// Files by their names; of several with one name, the first.
 ///
 /// ```rust
 /// let files = [
@@ -26,7 +26,7 @@ pub struct MemoryStore<'a> {
 }
 
 impl<'a> MemoryStore<'a> {
-    /// The files of these names, each with its bytes. Any other name cannot be read.
+    /// Files with these names and contents. No other name can be read.
     pub fn new(files: &'a [(&'a str, &'a [u8])]) -> MemoryStore<'a>
         ensures files { named_files result ≡ files.entry.now }
         ensures loads { loads_of result ≡ 0 }
@@ -39,7 +39,7 @@ impl<'a> MemoryStore<'a> {
         }
     }
 
-    /// What the file of a name holds.
+    /// The content of the file with a name.
     pub fn contents(&self, name: &str) -> Option<&'a [u8]>
         ensures { contents_of (named_files self.now) name.now ≡ option_map (λ bytes. bytes.now) result }
     {

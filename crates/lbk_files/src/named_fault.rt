@@ -1,4 +1,4 @@
-//! A fault of the property files, as a person reads it.
+//! A fault of the property files, as text.
 
 ghost use Rattle.std.specs.Prelude.{option_map};
 ghost use Rattle.lbk_files.specs.FaultText.{fault_text};
@@ -7,9 +7,8 @@ use super::faults::CellsFault;
 use lbk_ucd::{UcdFault, cause_text, claim_text};
 use std::fmt;
 
-/// A fault of the property files after the name of its file: `NAME: cause`, or `NAME:LINE: cause` where a line is
-/// meant.
-/// `Memory` is of no file, and has no name.
+/// A fault of the property files, after the name of its file: `NAME: cause`, or `NAME:LINE: cause` for a line. `Memory`
+/// concerns no file, and has no name.
 #[derive(Clone, Copy)]
 pub struct NamedFault<N> {
     pub fault: CellsFault,

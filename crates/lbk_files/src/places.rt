@@ -1,4 +1,4 @@
-//! The names by which the four files are loaded.
+//! The names under which the four files are loaded.
 
 ghost use Rattle.std.specs.Prelude.{◌≡◌, ℕ, List, Option, IfOk, IsTrue, OnErr};
 ghost use Rattle.lbk_args.specs.Task.{files_of_names, named_of};
@@ -11,12 +11,12 @@ use lbk_args::{FileName, FileNames};
 use lbk_ucd::Which;
 use std::alloc::{AllocError, Global};
 
-/// The name by which a file is loaded.
+/// The name under which a file is loaded.
 #[derive(Drop)]
 pub(crate) enum Place<'a> {
-    /// That of its option.
+    /// The name in its option.
     Given(&'a str),
-    /// That of a file of a folder, which has to be the published one.
+    /// The path of a file in a folder, which has to be the published one.
     InFolder(String),
 }
 
@@ -29,7 +29,8 @@ pub(crate) struct Places<'a> {
     pub(crate) emoji: Place<'a>,
 }
 
-/// The names by which the files are loaded. Returns an error if memory cannot grow for the name of a file of a folder.
+/// The names under which the files are loaded. Returns an error if memory could not grow for the path of a file in a
+/// folder.
 pub(crate) fn places_of<'a>(alloc: Global, names: &FileNames<'a>) -> Result<Places<'a>, AllocError>
     ensures places { IfOk result (λ places. (file : List ℕ → Option (Option (List ℕ)))
         → files_at file places ≡ files_of file (files_of_names names.now)) }

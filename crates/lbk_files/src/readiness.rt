@@ -1,4 +1,4 @@
-//! From the words to an engine with the cells that it decides by.
+//! From the arguments to an engine with its cells.
 
 ghost use Rattle.std.specs.Prelude.{◌≡◌, ◌+◌, ◌<◌, ◌≤◌, Some, Err, MatchResult, map};
 ghost use Rattle.lbk_args.specs.Accepted.{AreAccepted};
@@ -15,8 +15,8 @@ use lbk_args::{Engine, Order, Part, WordsFault, parse};
 use lbk_rules::{CellPages, Profile};
 use std::alloc::Global;
 
-/// An engine with its option, the profile, which passages of each text, unless all, the sign of `mark`, whether lines
-/// with their names are written, the cells of the files and the names of the texts.
+/// An engine with its options, the profile, the range of passages, the sign of `mark`, whether to write names, the
+/// cells of the files, and the names of the texts.
 #[derive(Drop)]
 pub struct Ready<'a> {
     pub engine: Engine,
@@ -28,9 +28,9 @@ pub struct Ready<'a> {
     pub texts: Vec<&'a str>,
 }
 
-/// Reads the words.
+/// Parses the arguments.
 ///
-/// `Help` and `Usage` come for words that are no order, and `Refused` where an allocation was refused.
+/// Returns `Help` or `Usage` for arguments without a task, and `Refused` if an allocation fails.
 pub fn read_order<'a>(alloc: Global, words: &'a [&'a str]) -> Result<Order<'a>, Stop>
     ensures plain { (task : Task) → IsPlainFor task (map (λ w. w.now) words.entry.now)
         → MatchResult result (λ order. task_of order ≡ task) IsWantOfMemory }
@@ -48,10 +48,10 @@ pub fn read_order<'a>(alloc: Global, words: &'a [&'a str]) -> Result<Order<'a>, 
     }
 }
 
-/// Loads the files that an order names, and reads these.
+/// Loads the files that a task names, and reads them.
 ///
-/// The error is that of the first step that fails: `Memory` comes before any load, in a load, or for well-formed
-/// files once all four are loaded.
+/// The error is that of the first step that fails: `Memory` before any load, in a load, or for well-formed files once
+/// all four are loaded.
 pub fn prepare<'a, S: Store>(
     alloc: Global,
     order: Order<'a>,

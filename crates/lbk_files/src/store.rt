@@ -1,4 +1,4 @@
-//! Where files come from.
+//! Sources of files.
 
 ghost use Rattle.std.specs.Prelude.{◌≡◌, ℕ, ◌+◌, ◌-◌, ◌^◌, ◌<◌, ◌≤◌, List, Option, vec_len, IfOk, MatchResult};
 ghost use Rattle.lbk_feed.specs.Devices.{count_up};
@@ -11,20 +11,20 @@ use std::alloc::Global;
 pub enum LoadFault {
     /// It cannot be opened or read.
     Unreadable,
-    /// An allocation was refused.
+    /// An allocation failed.
     Memory,
 }
 
-/// Files by their names, whose loads are counted, and of these the ones that were refused memory.
+/// Files by their names. It counts loads, and those that ran out of memory.
 ///
-/// A count stays at `u64::MAX` once it is there.
+/// Counts saturate at `u64::MAX`.
 ///
 /// ```rust
 /// let ending = run(alloc, words, &mut store, reader, writer);
 /// (ending, store.loads())
 /// ```
 pub trait Store {
-    // What the file of a name holds, where the store tells it; `None` in it is a file that cannot be read.
+    // The content of the file with a name, if the store tells it; an inner `None` is a file that cannot be read.
     ghost file: { Self → List ℕ → Option (Option (List ℕ)) };
 
     ghost load_count: { Self → ℕ };
@@ -33,7 +33,7 @@ pub trait Store {
 
     /// The first `most + 1` bytes of a file, or all of them if it has fewer.
     ///
-    /// `Unreadable` is returned if it cannot be opened or read, `Memory` where memory could not grow. No load changes what
+    /// Returns `Unreadable` if it cannot be opened or read, and `Memory` if memory could not grow. No load changes what
     /// the store tells.
     fn load(&mut self, alloc: Global, name: &str, most: usize) -> Result<Vec<u8>, LoadFault>
         requires { most < 2 ^ 64 - 1 }
@@ -44,11 +44,11 @@ pub trait Store {
         ensures loads { load_count self.new ≡ count_up (load_count self.old) }
         ensures refusals { refusal_count self.new ≡ refusals_after (refusal_count self.old) result };
 
-    /// How many loads were made, those that failed among them.
+    /// How many loads were made, including failed ones.
     fn loads(&self) -> u64
         ensures { result ≡ load_count self.now };
 
-    /// How many loads were refused memory.
+    /// How many loads ran out of memory.
     fn refusals(&self) -> u64
         ensures { result ≡ refusal_count self.now };
 }

@@ -10,10 +10,10 @@ use std::alloc::{AllocError, AllocFailed};
 pub enum LineFault {
     /// It has more than 268,435,456 bytes.
     LineTooLong,
-    /// It is no line of the notation: with its bytes up to and with the one at `at`, counted from 0, no
-    /// line begins; where `at` is its length, it ends before a line does.
+    /// It is not a line of the notation: no line begins with its bytes up to and including the one at `at`, counted
+    /// from 0. If `at` is its length, it ends too early.
     Bad { at: u32 },
-    /// Memory was refused.
+    /// An allocation failed.
     Memory,
 }
 

@@ -1,4 +1,4 @@
-//! What the definitions of a test file and its replay amount to, as the contracts of functions with empty bodies.
+//! Laws about the definitions of test files and replays. Each is the contract of a function with an empty body.
 
 ghost use Rattle.std.specs.Prelude.{◌≡◌, ℕ, List, ◌++◌};
 ghost use Rattle.std.specs.List.{AllByRecursion};
@@ -11,15 +11,15 @@ ghost use Rattle.lbk_notation.specs.Findings.{IsFinding};
 ghost use Rattle.lbk_notation.specs.Replay.{IsEndedText, IsReplayText};
 ghost use Rattle.lbk_notation.specs.Stream.{HasNoLineEnd, cut_of, ended_lines, with_line_ends, without_mark};
 
-/// A file without its byte order mark is its lines, each with its LF, and what stands after the last LF;
-/// none of these holds an LF.
+/// A file without its byte order mark is its lines, each with its LF, and the text after the last LF; none of these has
+/// an LF.
 pub fn lines_make_up_the_file()
     ensures whole { (bytes : List ℕ) → with_line_ends (ended_lines bytes) ++ (cut_of bytes).rest ≡ without_mark bytes }
     ensures lines { (bytes : List ℕ) → AllByRecursion HasNoLineEnd (ended_lines bytes) }
     ensures rest { (bytes : List ℕ) → HasNoLineEnd (cut_of bytes).rest }
 {}
 
-/// A line comes to one thing only, and so a file has one replay text and one report.
+/// A line has only one result, so a file has one replay text and one report.
 pub fn one_replay_text()
     ensures line { (cell : ℕ → Cell) (form : Form) (profile : Profile) (bytes : List ℕ) (finding other : Finding)
         → IsFinding cell form profile bytes finding → IsFinding cell form profile bytes other → other ≡ finding }
@@ -29,8 +29,8 @@ pub fn one_replay_text()
         → (other ≡ report) × (another ≡ out) }
 {}
 
-/// What is written of ended lines stays, whatever follows them: it is the front of what is written of more
-/// bytes, and of the replay text of each file that goes on from them.
+/// The output of ended lines does not depend on what follows: it is a prefix of the output of more bytes, and of the
+/// replay text of each file that continues them.
 pub fn settled_text_stays()
     ensures more { (cell : ℕ → Cell) (form : Form) (profile : Profile) (bytes more out longer : List ℕ)
         → IsEndedText cell form profile bytes out → IsEndedText cell form profile (bytes ++ more) longer

@@ -1,4 +1,4 @@
-//! Whole test files against the rules.
+//! Compares whole test files with the rules.
 
 ghost use Rattle.std.specs.Prelude.{◌≡◌, ◌+◌, ◌<◌, ◌≤◌, ◌⊎◌, ℕ, List, [], ◌∷◌, length, take, IsTrue, IfSome, IfOk};
 ghost use Rattle.std.specs.Prelude.{IfErr, OnOk, IsErrOf};
@@ -19,21 +19,21 @@ use std::alloc::Global;
 
 const BLOCK: usize = 4096;
 
-/// Compares each line of a test file with the rules of the profile (UAX #14, section 6). It writes a line for
-/// each that differs or is refused, in the order of the file, and the counts last:
+/// Compares each line of a test file with the rules of the profile (UAX #14, section 6). It writes a line for each one
+/// that differs or is refused, in the order of the file, and the counts last:
 ///
-/// - `D line position file rules rule`: the first position that differs, in scalars from 0, the marks of the
-///   file and of the rules there as the form writes them, and the number of the rule;
-/// - `R line place`: it is no line of the notation, from that byte on, counted from 0; `R line long`: it has
-///   more than 268,435,456 bytes;
-/// - `T lines agreed differed refused`: blank lines and comments are in none of these.
+/// - `D line position file rules rule`: the first position that differs, in scalars from 0, the marks of the file and
+///   of the rules there in this form, and the number of the rule;
+/// - `R line place`: it is not a line of the notation, from that byte on, counted from 0; `R line long`: it has more
+///   than 268,435,456 bytes;
+/// - `T lines agreed differed refused`: none of these counts blank lines and comments.
 ///
-/// Lines are numbered from 1, blank ones and comments too. They end at LF, which the last may lack, and a byte
-/// order mark at the front of the file is passed over. One line is held at a time, and none that is too long.
+/// Lines are numbered from 1, including blank ones and comments. They end at LF; the last may lack it. A leading byte
+/// order mark is skipped. Replay holds one line at a time, and none that is too long.
 ///
-/// After `Read` what went out is that of the lines whose LF was read, and no counts; after `StreamTooLong` that of
-/// the lines ended among the first 1,073,741,824 bytes; after `Write` a prefix of the output, and after `Memory` a
-/// prefix of whole lines. In both is what the lines write that the bytes of all reads but the last end.
+/// After `Read` the output is that of the lines whose LF was read, without counts; after `StreamTooLong` that of the
+/// lines that end within the first 1,073,741,824 bytes; after `Write` a prefix of the output; after `Memory` a prefix
+/// of whole lines. In the last two cases it has the output of all lines that end in reads before the last.
 ///
 /// ```rust
 /// let mut sink = MemorySink::new(alloc, ROOM)?;
@@ -47,18 +47,18 @@ pub fn replay<R: Source, W: Sink, C: CellSource>(
     form: Form,
     profile: Profile,
 ) -> Result<Report, ReplayFault>
-    // What is written of a file that the reader tells.
+    // The output, if the reader's bytes are known.
     ensures replayed { IfOk result (λ report. IfSome (R.unread reader.old) (λ input.
         IsReplayed (C.cell_of cells.now) form profile input report (W.written writer.old) (W.written writer.new))) }
 
-    // What is written of what was read, whatever the result.
+    // The output for the bytes that were read, whatever the result.
     ensures run { Ran (is_read_fault result) (R.unread reader.old) (R.unread reader.new) (W.written writer.old)
         (W.written writer.new)
         (IsReplayRun (C.cell_of cells.now) form profile (R.reads_made reader.old) (R.reads_made reader.new)
         (IsTrue (R.has_ended reader.new) × IsAtEnd (R.unread reader.new)) result) }
     ensures ended { OnOk result (IsTrue (R.has_ended reader.new) × IsAtEnd (R.unread reader.new)) }
 
-    // When a device's fault comes, and how much is read.
+    // When a device's fault is returned, and how much is read.
     ensures read { IsErrOf result ReplayFault.Read
         → HasFailed (R.failure_count reader.old) (R.failure_count reader.new) }
     ensures read_failed { R.failure_count reader.old < R.failure_count reader.new → result ≡ Err ReplayFault.Read }
@@ -80,7 +80,7 @@ pub fn replay<R: Source, W: Sink, C: CellSource>(
     finish(alloc, writer, &replayer, progress)
 }
 
-/// Reads the file to its end, and writes what its ended lines write.
+/// Reads the file to its end, and writes the output of its ended lines.
 fn read_all<R: Source, W: Sink, C: CellSource>(
     alloc: Global,
     reader: &mut R,
@@ -122,7 +122,7 @@ fn read_all<R: Source, W: Sink, C: CellSource>(
     }
 }
 
-/// Takes bytes one after another, and writes what each line that they end writes.
+/// Takes bytes one after another, and writes the output of each line that they end.
 fn take_all<W: Sink, C: CellSource>(
     alloc: Global,
     writer: &mut W,
@@ -149,7 +149,7 @@ fn take_all<W: Sink, C: CellSource>(
     Ok(())
 }
 
-/// Takes a byte, and writes what the line that it ends writes.
+/// Takes a byte, and writes the output of the line that it ends.
 fn take<W: Sink, C: CellSource>(
     alloc: Global,
     writer: &mut W,
@@ -178,7 +178,7 @@ fn take<W: Sink, C: CellSource>(
     put(writer, progress.text())
 }
 
-/// Ends the file: writes what its last line writes, and the counts.
+/// Ends the file: writes the output of its last line, and the counts.
 fn finish<W: Sink, C: CellSource>(
     alloc: Global,
     writer: &mut W,

@@ -1,4 +1,4 @@
-//! What a line of a test file comes to.
+//! The result of a line of a test file.
 
 ghost use Rattle.std.specs.Prelude.{◌≡◌, ◌+◌, ◌<◌};
 ghost use Rattle.lbk_notation.specs.Stream.{longest_stream};
@@ -12,10 +12,10 @@ use std::alloc::{AllocError, AllocFailed};
 /// How a line of a break test compares with the rules (UAX #14, section 6).
 #[derive(Clone, Copy, Debug, PartialEq, Eq)]
 pub enum Outcome {
-    /// Each mark agrees.
+    /// Every mark agrees.
     Agree,
-    /// The first position whose mark does not agree, counted in scalars from 0, the line's mark there, and what
-    /// the rules say.
+    /// The first position whose mark does not agree, counted in scalars from 0, the line's mark there, and the rules'
+    /// verdict.
     Differ {
         position: usize,
         file: Mark,
@@ -23,14 +23,14 @@ pub enum Outcome {
     },
 }
 
-/// What one line of a test file comes to.
+/// The result of one line of a test file.
 #[derive(Clone, Copy, Debug, PartialEq, Eq)]
 pub enum Finding {
     /// It is blank, or a comment.
     NoLine,
     /// Its marks were compared with the rules.
     Replayed(Outcome),
-    /// It is no line of the notation, from byte `at` on.
+    /// It is not a line of the notation, from byte `at` on.
     Bad { at: u32 },
     /// It has more bytes than a line may have.
     Long,
@@ -53,13 +53,13 @@ pub enum ReplayFault {
     Read,
     /// The writer failed in this call.
     Write,
-    /// An allocation was refused.
+    /// An allocation failed.
     Memory,
     /// More than 1,073,741,824 bytes were read.
     StreamTooLong,
 }
 
-/// The most bytes of a file that is replayed: as many as of a text.
+/// The most bytes of a replayed file: as many as of a text.
 pub const STREAM_MAX: usize = TEXT_MAX as usize;
 
 impl From<AllocError> for ReplayFault {
@@ -81,7 +81,7 @@ impl<T: Drop> From<AllocFailed<T>> for ReplayFault {
 impl Report {
     ghost use Rattle.lbk_notation.specs.Counted.{counted};
 
-    /// No line yet.
+    /// No lines.
     pub(crate) fn none() -> Report
         ensures { result ≡ record { lines = 0; agreed = 0; differed = 0; refused = 0 } }
     {
@@ -93,7 +93,7 @@ impl Report {
         }
     }
 
-    /// One line more.
+    /// One more line.
     pub(crate) fn count(&mut self, finding: Finding)
         requires few { self.old.lines < longest_stream }
         requires sum { self.old.agreed + self.old.differed + self.old.refused ≡ self.old.lines }

@@ -1,4 +1,4 @@
-//! The notation of the published break tests: its lines, and the replay of files against the rules.
+//! The notation of the published break tests: its lines, and the comparison of files with the rules.
 //!
 //! The notation is that of LineBreakTest.txt of the Unicode Character Database: a mark at each position of a text, and
 //! the scalars between them in hex.

@@ -16,16 +16,16 @@ use std::alloc::{AllocError, Global};
 /// The longest line, in bytes.
 pub(crate) const LONGEST: usize = 268_435_456;
 
-/// Reads a line of the notation, without its line end: its scalars and marks, or None for a blank line or
-/// a comment. A line over 268,435,456 bytes is `LineTooLong`, which is checked first; one that is none
-/// of the notation is `Bad`, with the place where it stops being the beginning of any line. `Memory` may
-/// come in place of a line with marks, where an allocation was refused; the other results need no memory.
+/// Reads a line of the notation, without its line end: its scalars and marks, or `None` for a blank line or a comment.
+/// A line over 268,435,456 bytes is `LineTooLong`, which is checked first. One that is not in the notation is `Bad`,
+/// with the offset where it stops being the start of any line. `Memory` is returned instead of a line with marks if an
+/// allocation fails; the other results need no memory.
 pub fn read_line(alloc: Global, bytes: &[u8], form: Form) -> Result<Option<TestLine>, LineFault>
     ensures long { IsErrOf result LineTooLong ↔ (longest < length bytes.now) }
     // The line is one that the grammar relates to the bytes, and it relates no other.
     ensures found { IfOk result (λ line. IsLine form bytes.now line) }
     ensures only { IfOk result (λ line. (other : Option Line) → IsLine form bytes.now other → other ≡ line) }
-    // At Bad the bytes are outside the grammar and go wrong at the place, at Memory they are a line with marks.
+    // For `Bad` the bytes are outside the grammar, from the offset on; for `Memory` they are a line with marks.
     ensures fault { IfErr result (λ fault. IsFault form bytes.now fault) }
 {
     if bytes.len() > LONGEST {
@@ -40,7 +40,7 @@ pub fn read_line(alloc: Global, bytes: &[u8], form: Form) -> Result<Option<TestL
     }
 }
 
-/// Reads a line that is not too long, or says where it goes wrong. Returns an error if an allocation was refused.
+/// Reads a line that is not too long, or says where it is wrong. Returns an error if an allocation fails.
 fn read_bytes(
     alloc: Global,
     bytes: &[u8],
@@ -69,12 +69,12 @@ fn read_bytes(
     if !state.can_end() {
         return Ok(Err(bytes.len() as u32));
     }
-    // Without a mark there is no line.
+    // Only a line with a mark has content.
     Ok(Ok(TestLine::new(scalars, marks)))
 }
 
-/// What can be said without memory of a line that is not too long: where it goes wrong, or that it has no
-/// marks. Of a line with marks the result is `Memory`.
+/// What a line that is not too long shows without memory: where it is wrong, or that it has no marks. For a line with
+/// marks the result is `Memory`.
 fn judge(bytes: &[u8], form: Form) -> Result<Option<TestLine>, LineFault>
     requires { length bytes.now ≤ longest }
     ensures line { IfOk result (λ line. run_line form bytes.now ≡ Ok line) }

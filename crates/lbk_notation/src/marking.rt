@@ -1,4 +1,4 @@
-//! What the rules say of a text, as a line of the notation.
+//! The verdicts of the rules for a text, as a line of the notation.
 
 ghost use Rattle.std.specs.Prelude.{◌≡◌, ◌+◌, ◌<◌, ℕ, length, map, IfOk};
 ghost use Rattle.std.specs.Option.{ForSome};
@@ -11,8 +11,8 @@ use super::test_line::TestLine;
 use lbk_rules::{CellSource, Kind, Profile, Stepper, Verdict};
 use std::alloc::{AllocError, Global};
 
-/// The scalars of a text, and at each position what the rules say of it (UAX #14, section 6). Returns an error if
-/// memory could not grow.
+/// The scalars of a text, and the rules' verdict at each position (UAX #14, section 6). Returns an error if memory
+/// could not grow.
 pub fn mark_text<C: CellSource>(
     alloc: Global,
     cells: &C,
@@ -32,7 +32,7 @@ fn scalars_of(alloc: Global, text: &str) -> Result<Vec<char>, AllocError>
     text.chars().collect(alloc)
 }
 
-/// The marks of all positions. The stepper keeps what it needs of the scalars before.
+/// The marks of all positions. The stepper keeps what it needs of earlier scalars.
 fn marks_of<C: CellSource>(
     alloc: Global,
     source: &C,
@@ -55,7 +55,7 @@ fn marks_of<C: CellSource>(
     Ok(marks)
 }
 
-/// Puts the mark of a position that was held at its place.
+/// Writes the mark of a held position once its verdict is known.
 fn put_late(marks: &mut Vec<Mark>, late: Option<(u64, Verdict)>)
     requires { ForSome late (λ answer. answer.0 < length marks.old.items) }
     ensures { marks.new.items ≡ put late marks.old.items }
@@ -65,7 +65,7 @@ fn put_late(marks: &mut Vec<Mark>, late: Option<(u64, Verdict)>)
     }
 }
 
-/// The mark of a verdict; a position that is held has one in its place until its verdict comes.
+/// The mark of a verdict; a held position has a placeholder until its verdict is known.
 fn mark_now(now: Option<Verdict>) -> Mark
     ensures { result ≡ mark_now now }
 {

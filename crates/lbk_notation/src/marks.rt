@@ -1,6 +1,6 @@
-//! Marks of positions, and which of them a line may have.
+//! Marks of positions, and the two forms of the notation.
 
-/// What a line of the notation says of a position.
+/// The mark of a position in a line of the notation.
 #[derive(Clone, Copy, PartialEq, Eq, Debug)]
 pub enum Mark {
     /// `×`: no break.
@@ -14,8 +14,8 @@ pub enum Mark {
 /// Which marks a line may have.
 #[derive(Clone, Copy, PartialEq, Eq, Debug)]
 pub enum Form {
-    /// That of the published tests: `×` and `÷`, which stands for every break.
+    /// The form of the published tests: `×`, and `÷` for every break.
     Plain,
-    /// With `!` for a break that must be.
+    /// With `!` for a required break.
     Kinds,
 }

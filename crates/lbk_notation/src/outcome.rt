@@ -1,4 +1,4 @@
-//! A line of a break test against the rules.
+//! Compares a line of a break test with the rules.
 
 ghost use Rattle.std.specs.Prelude.{◌≡◌, ◌<◌, length, MatchOption};
 ghost use Rattle.std.specs.Option.{ForSome};
@@ -10,10 +10,10 @@ use super::marks::{Form, Mark};
 use super::test_line::TestLine;
 use lbk_rules::{CellSource, Kind, Profile, Stepper, Verdict};
 
-/// Compares the marks of a line with what the rules of the profile say of its scalars (UAX #14, section 6).
+/// Compares the marks of a line with the verdicts of the profile's rules for its scalars (UAX #14, section 6).
 ///
-/// In form Kinds a mark agrees where it is the rules' kind, in form Plain where both are No or neither is. It
-/// takes no memory: it goes over the line once, and keeps the first difference so far.
+/// In form Kinds a mark agrees if it is the rules' kind, in form Plain if both are No or neither is. It allocates
+/// nothing: it reads the line once, and keeps the first difference so far.
 pub fn replay_line<C: CellSource>(
     cells: &C,
     line: &TestLine,
@@ -36,7 +36,7 @@ pub fn replay_line<C: CellSource>(
     met_now(outcome, form, marks, scalars.len(), Some(end.end))
 }
 
-/// With the verdict that came late, if one came.
+/// Adds a late verdict, if there is one.
 fn met_late(outcome: Outcome, form: Form, marks: &[Mark], late: Option<(u64, Verdict)>) -> Outcome
     requires { ForSome late (λ answer. answer.0 < length marks.now) }
     ensures { MatchOption late (result ≡ outcome) (λ answer. Meets form marks.now answer.0 answer.1 outcome result) }
@@ -50,7 +50,7 @@ fn met_late(outcome: Outcome, form: Form, marks: &[Mark], late: Option<(u64, Ver
     }
 }
 
-/// With the verdict of this position, if it came.
+/// Adds the verdict of this position, if there is one.
 fn met_now(
     outcome: Outcome,
     form: Form,
@@ -67,7 +67,7 @@ fn met_now(
     }
 }
 
-/// With the verdict of one position more: the difference there, if it is one and none came before it.
+/// Adds the verdict of one more position: its difference, if it differs and no earlier position does.
 fn met(outcome: Outcome, form: Form, position: usize, file: Mark, rules: Verdict) -> Outcome
     ensures { result ≡ met form outcome position file rules }
 {
@@ -81,7 +81,7 @@ fn met(outcome: Outcome, form: Form, position: usize, file: Mark, rules: Verdict
     }
 }
 
-/// Whether a difference was met before this position.
+/// Whether an earlier position differs.
 fn is_before(outcome: Outcome, position: usize) -> bool
     ensures { result ≡ is_before outcome position }
 {
@@ -91,7 +91,7 @@ fn is_before(outcome: Outcome, position: usize) -> bool
     }
 }
 
-/// Whether a mark agrees with what the rules say.
+/// Whether a mark agrees with the rules.
 fn agrees(form: Form, file: Mark, kind: Kind) -> bool
     ensures { result ≡ agrees form file kind }
 {

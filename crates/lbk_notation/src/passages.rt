@@ -1,4 +1,4 @@
-//! The line that is written of a passage.
+//! The line written for a passage.
 
 ghost use Rattle.std.specs.Prelude.{◌≡◌, ◌+◌, ◌++◌, length, map, OnOk, OnErr};
 ghost use Rattle.lbk_notation.specs.declared.marks.Form.TheVariants.{Kinds};
@@ -13,10 +13,9 @@ use super::writing::{push_mark, push_scalar};
 use lbk_rules::Verdict;
 use std::alloc::AllocError;
 
-/// Appends the line of a passage to the text, without a line end: its marks and scalars in form
-/// Kinds, a tab, `#`, and the numbers of the rules that decided, each after a space. The verdicts are those
-/// of all its positions, one more than its scalars. Returns an error if memory could not grow; a front of the line may
-/// stand there then.
+/// Appends the line of a passage to the text, without a line end: its marks and scalars in form Kinds, a tab, `#`, and
+/// the numbers of the rules that decided, each after a space. There are verdicts for all positions, one more than
+/// scalars. Returns an error if memory could not grow; a prefix of the line may be written then.
 pub fn push_passage_line(
     text: &mut Vec<u8>,
     scalars: &[char],

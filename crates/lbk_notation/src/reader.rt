@@ -1,4 +1,4 @@
-//! The reader of a line: a state, and what a byte does to it.
+//! The reader of a line: its states, and the effect of a byte.
 
 ghost use Rattle.std.specs.Prelude.{◌≡◌};
 ghost use Rattle.lbk_notation.specs.Run.{sort_of, step_of, digits_step, marking, ending, takes_digit, can_end, IsGood};
@@ -6,7 +6,7 @@ ghost use Rattle.lbk_notation.specs.declared.reader.State.TheVariants.{Digits};
 
 use super::marks::{Form, Mark};
 
-/// What a byte can be in a line.
+/// The kinds of bytes in a line.
 #[derive(Clone, Copy)]
 pub(crate) enum Sort {
     Space,
@@ -22,7 +22,7 @@ pub(crate) enum Sort {
     Other,
 }
 
-/// What was read of a line.
+/// What was read of a line so far.
 #[derive(Clone, Copy)]
 pub(crate) enum State {
     /// White space.
@@ -43,7 +43,7 @@ pub(crate) enum State {
     Ended,
 }
 
-/// What a byte does.
+/// The effect of a byte.
 #[derive(Clone, Copy)]
 pub(crate) enum Taken {
     /// No line begins with what was read.
@@ -85,7 +85,7 @@ pub(crate) fn sort_of(byte: u8) -> Sort
     }
 }
 
-/// What a byte of this sort does in a state.
+/// The effect of a byte of this kind in a state.
 pub(crate) fn step(form: Form, state: State, sort: Sort) -> Taken
     requires { IsGood state }
     ensures taken { result ≡ step_of form state sort }
@@ -140,7 +140,7 @@ fn marking(form: Form, sort: Sort) -> Taken
     }
 }
 
-/// Where a comment or the last carriage return may come.
+/// Where a comment or the final carriage return may begin.
 fn ending(sort: Sort) -> Taken
     ensures { result ≡ ending sort }
 {
@@ -151,7 +151,7 @@ fn ending(sort: Sort) -> Taken
     }
 }
 
-/// Within a token.
+/// Inside a token.
 fn digits_step(count: u8, number: u32, sort: Sort) -> Taken
     requires { IsGood (Digits count number) }
     ensures { result ≡ digits_step count number sort }
@@ -169,8 +169,8 @@ fn digits_step(count: u8, number: u32, sort: Sort) -> Taken
     }
 }
 
-/// Whether some token goes on with any digit after these: a fifth needs a first that is not 0, a sixth
-/// digits that begin with 10.
+/// Whether a token may continue after these digits: a fifth digit needs a first that is not 0, a sixth needs 10 at the
+/// start.
 fn takes_digit(count: u8, number: u32) -> bool
     ensures { result ≡ takes_digit count number }
 {

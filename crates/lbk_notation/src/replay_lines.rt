@@ -15,8 +15,7 @@ use itoa::Buffer;
 use lbk_rules::Verdict;
 use std::alloc::AllocError;
 
-/// Writes what a line of the file comes to, by its number, as a line of its own; nothing of one that agrees, nor
-/// of a blank one or a comment.
+/// Writes the result of a line of the file as a line; nothing for a line that agrees, for a blank one or a comment.
 pub fn push_finding(
     text: &mut Vec<u8>,
     form: Form,
@@ -50,7 +49,7 @@ pub fn push_finding(
     }
 }
 
-/// Writes the counts of a whole file, as a line of its own.
+/// Writes the counts of a whole file as a line.
 pub fn push_total(text: &mut Vec<u8>, report: Report) -> Result<(), AllocError>
     ensures { OnOk result (text.new.items ≡ text.old.items ++ total_text report) }
 {
@@ -61,7 +60,7 @@ pub fn push_total(text: &mut Vec<u8>, report: Report) -> Result<(), AllocError>
     push_end(text)
 }
 
-/// The letter and the number that a line begins with.
+/// The letter and the number at the start of a line.
 fn push_head(text: &mut Vec<u8>, letter: &[u8], number: u32) -> Result<(), AllocError>
     ensures { OnOk result (text.new.items ≡ text.old.items ++ (letter.now ++ 32 ∷ decimal number)) }
 {
@@ -69,7 +68,7 @@ fn push_head(text: &mut Vec<u8>, letter: &[u8], number: u32) -> Result<(), Alloc
     push_number(text, number as u64)
 }
 
-/// The position, the line's mark there, that of the rules and the rule's number, and the line's end.
+/// The position, the line's mark there, the rules' mark, the rule's number, and the line's end.
 fn push_difference(
     text: &mut Vec<u8>,
     form: Form,

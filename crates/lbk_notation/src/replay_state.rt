@@ -1,4 +1,4 @@
-//! How far a replay has come: the line that is not ended yet, what the last one wrote, and the counts.
+//! The state of a replay: the unfinished line, the output of the last one, and the counts.
 
 ghost use Rattle.std.specs.Prelude.{◌≡◌, ◌≢◌, ◌⊎◌, ℕ, ◌+◌, ◌<◌, ◌≤◌, List, [], ◌∷◌, ◌++◌, length, true, false, OnOk};
 ghost use Rattle.std.specs.Prelude.{IfOk, IfErr};
@@ -15,13 +15,13 @@ use std::alloc::{AllocError, Global};
 
 const MARK: [u8; 3] = [0xEF, 0xBB, 0xBF];
 
-/// The state of a replay, which holds at most one line of the file.
+/// The state of a replay; it holds at most one line of the file.
 #[derive(Drop)]
 pub struct ReplayState {
     // The bytes after the last LF, unless they are too many for a line.
     line: Vec<u8>,
     is_long: bool,
-    // What the last line that was ended writes.
+    // The output of the last line that ended.
     text: Vec<u8>,
     // How many bytes were taken, and how many lines ended.
     taken: u32,
@@ -45,7 +45,7 @@ impl ReplayState {
     ghost use Rattle.lbk_notation.specs.ReplayText.{total_text};
     ghost use Rattle.lbk_notation.specs.Stream.{byte_order_mark};
 
-    /// Nothing is taken yet.
+    /// Nothing was taken.
     pub fn new(alloc: Global) -> ReplayState
         ensures stands { (cell : ℕ → Cell) (form : Form) (profile : Profile) → Stands cell form profile result [] [] }
         ensures taken { result.taken ≡ 0 }
@@ -60,28 +60,28 @@ impl ReplayState {
         }
     }
 
-    /// How many bytes may still come.
+    /// How many more bytes are allowed.
     pub fn room(&self) -> usize
         ensures { result + self.now.taken ≡ longest_stream }
     {
         STREAM_MAX - self.taken as usize
     }
 
-    /// What the last line that was ended writes.
+    /// The output of the last line that ended.
     pub fn text(&self) -> &[u8]
         ensures { result.now ≡ self.now.text.items }
     {
         self.text.as_slice()
     }
 
-    /// The counts of the lines that were ended.
+    /// The counts of the lines that ended.
     pub fn report(&self) -> Report
         ensures { result ≡ self.now.report }
     {
         self.report
     }
 
-    /// Takes a byte that ends no line.
+    /// Takes a byte that does not end a line.
     pub fn add(&mut self, byte: u8) -> Result<(), AllocError>
         requires room { self.old.taken < longest_stream }
         requires within_line { byte ≢ 10 }
@@ -115,7 +115,7 @@ impl ReplayState {
         self.taken == 3 && self.line.as_slice() == MARK.as_slice()
     }
 
-    /// Takes the LF that ends a line. What the line writes is then `text`.
+    /// Takes the LF that ends a line, and sets `text` to the output of the line.
     pub fn end_line<C: CellSource>(
         &mut self,
         alloc: Global,
@@ -133,7 +133,7 @@ impl ReplayState {
         self.settle(alloc, replayer)
     }
 
-    /// Ends the last line of the file, unless an LF has ended it. What it writes is then `text`.
+    /// Ends the last line of the file, unless an LF has ended it, and sets `text` to its output.
     pub fn end_last<C: CellSource>(
         &mut self,
         alloc: Global,
@@ -152,7 +152,7 @@ impl ReplayState {
         self.settle(alloc, replayer)
     }
 
-    /// Whether bytes stand after the last LF.
+    /// Whether there are bytes after the last LF.
     fn holds_line(&self) -> bool
         ensures yes { OnTrue result ((self.now.is_long ≡ true) ⊎ (0 < length self.now.line.items)) }
         ensures no { OnFalse result ((self.now.is_long ≡ false) × (self.now.line.items ≡ [])) }
@@ -164,7 +164,7 @@ impl ReplayState {
         !self.line.is_empty()
     }
 
-    /// Makes `text` the line of the counts.
+    /// Sets `text` to the line of the counts.
     pub fn total(&mut self) -> Result<(), ReplayFault>
         ensures text { OnOk result (self.new.text.items ≡ total_text self.old.report) }
         ensures report { self.new.report ≡ self.old.report }
@@ -175,7 +175,7 @@ impl ReplayState {
         Ok(())
     }
 
-    /// Judges the line that is held, counts it, and makes `text` what it writes.
+    /// Judges the held line, counts it, and sets `text` to its output.
     fn settle<C: CellSource>(
         &mut self,
         alloc: Global,
@@ -197,7 +197,7 @@ impl ReplayState {
         Ok(())
     }
 
-    /// What the line that is held comes to.
+    /// The result of the held line.
     fn finding<C: CellSource>(
         &self,
         alloc: Global,

@@ -1,4 +1,4 @@
-//! What a line of a test file comes to.
+//! The result of a line of a test file.
 
 ghost use Rattle.std.specs.Prelude.{◌≡◌, IfOk, IfErr};
 ghost use Rattle.lbk_notation.specs.Fault.{HasMarks};
@@ -12,7 +12,7 @@ use super::outcome::replay_line;
 use lbk_rules::{CellSource, Profile};
 use std::alloc::Global;
 
-/// What the lines of a file are compared with, and in which form.
+/// The rules and the form for comparing the lines of a file.
 #[derive(Drop)]
 pub struct Replayer<'a, C: CellSource> {
     pub cells: &'a C,
@@ -21,7 +21,7 @@ pub struct Replayer<'a, C: CellSource> {
 }
 
 impl<C: CellSource> Replayer<'_, C> {
-    /// What a line comes to, given without its line end. `Memory` is returned only for a line with marks.
+    /// The result of a line without its line end. `Memory` is returned only for a line with marks.
     pub fn finding(&self, alloc: Global, line: &[u8]) -> Result<Finding, ReplayFault>
         ensures finding { IfOk result
             (IsFinding (C.cell_of self.now.cells.now) self.now.form self.now.profile line.now) }

@@ -1,4 +1,4 @@
-//! What is written is read again.
+//! Round trips: a written line is read back.
 
 ghost use Rattle.std.specs.Prelude.{◌≡◌, ◌+◌, ◌<◌, ◌≤◌, ◌⊎◌, ◌↔◌, ℕ, List, Option, Some, length, IfOk, IfErr, OnOk};
 ghost use Rattle.std.specs.Prelude.{IsErrOf};
@@ -22,9 +22,8 @@ use super::test_line::TestLine;
 use super::writing::write_line;
 use std::alloc::Global;
 
-/// Writes a line and reads what it wrote: in form Kinds the line itself, in Plain the line with each Must
-/// as a May. `LineTooLong` is returned if the written line is over 268,435,456 bytes, `Memory` where an
-/// allocation was refused.
+/// Writes a line and reads it back: in form Kinds the line itself, in Plain the line with each Must as a May. Returns
+/// `LineTooLong` if the written line has over 268,435,456 bytes, and `Memory` if an allocation fails.
 pub fn read_back(alloc: Global, line: &TestLine, form: Form) -> Result<Option<TestLine>, LineFault>
     ensures same { IfOk result (λ read. read ≡ Some (shown_line form line.now)) }
     ensures within { OnOk result (length (written_line form line.now) ≤ longest) }
@@ -35,15 +34,15 @@ pub fn read_back(alloc: Global, line: &TestLine, form: Form) -> Result<Option<Te
     read_line(alloc, &text, form)
 }
 
-/// Reads a line in form Kinds. The line that is written of a passage of at most 16,777,216 bytes, with the
-/// rules' labels in its comment, is read as the passage's scalars and marks, or `Memory` is returned.
+/// Reads a line in form Kinds. The line written for a passage of at most 16,777,216 bytes, with the rules' labels in
+/// its comment, is read as the passage's scalars and marks, or `Memory` is returned.
 pub fn read_passage_line(alloc: Global, bytes: &[u8]) -> Result<Option<TestLine>, LineFault>
-    // Of any bytes, what `read_line` returns in form Kinds.
+    // For any bytes, the result of `read_line` in form Kinds.
     ensures long { IsErrOf result LineTooLong ↔ (longest < length bytes.now) }
     ensures found { IfOk result (λ line. IsLine Kinds bytes.now line) }
     ensures only { IfOk result (λ line. (other : Option Line) → IsLine Kinds bytes.now other → other ≡ line) }
     ensures bad { IfErr result (λ fault. IsFault Kinds bytes.now fault) }
-    // Of the line of a passage, its scalars and marks, or out of memory.
+    // For the line of a passage, its scalars and marks, or out of memory.
     ensures same { (scalars : List ℕ) (verdicts : List Verdict) → bytes.now ≡ passage_line scalars verdicts
         → length verdicts ≡ length scalars + 1 → AllByRecursion (λ scalar. IsScalar scalar) scalars
         → IfOk result (λ read. read ≡ Some (passage_marks scalars verdicts)) }

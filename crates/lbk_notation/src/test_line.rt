@@ -32,7 +32,7 @@ impl Model for TestLine {
 }
 
 impl TestLine {
-    /// The line of these. None, both lists being dropped, unless the marks are one more than the scalars.
+    /// A line with these, or `None`, dropping both lists, unless there is one more mark than scalars.
     pub fn new(scalars: Vec<char>, marks: Vec<Mark>) -> Option<TestLine>
         ensures { result ≡ made scalars.items marks.items }
     {
@@ -42,7 +42,7 @@ impl TestLine {
         Some(TestLine { scalars, marks })
     }
 
-    /// The line of these, where the marks are one more than the scalars.
+    /// A line with these; there is one more mark than scalars.
     pub(crate) fn of(scalars: Vec<char>, marks: Vec<Mark>) -> TestLine
         requires { length marks.items ≡ length scalars.items + 1 }
         ensures { result ≡ record { scalars = scalars.items; marks = marks.items } }
@@ -50,7 +50,7 @@ impl TestLine {
         TestLine { scalars, marks }
     }
 
-    /// The scalars in their order.
+    /// The scalars, in order.
     pub fn scalars(&self) -> &[char]
         ensures value { result.now ≡ self.now.scalars }
         ensures one_less { length self.now.marks ≡ length self.now.scalars + 1 }
@@ -58,7 +58,7 @@ impl TestLine {
         &self.scalars
     }
 
-    /// The marks of all positions, one more than the scalars.
+    /// The marks of all positions, one more than scalars.
     pub fn marks(&self) -> &[Mark]
         ensures value { result.now ≡ self.now.marks }
         ensures one_more { length self.now.marks ≡ length self.now.scalars + 1 }

@@ -11,12 +11,12 @@ use super::marks::{Form, Mark};
 use super::test_line::TestLine;
 use std::alloc::{AllocError, Global};
 
-/// The line as bytes, without a line end: marks and hex tokens with one space between them, each token
-/// with the fewest digits that are four or more. Form Plain has `÷` for every break. Returns an error if memory could
-/// not grow.
+/// The line as bytes, without a line end: marks and hex tokens, separated by one space, each token with as few digits
+/// as possible, at least four. Form Plain has `÷` for every break. Returns an error if memory could not grow.
 pub fn write_line(alloc: Global, line: &TestLine, form: Form) -> Result<Vec<u8>, AllocError>
     ensures text { IfOk result (λ bytes. bytes.items ≡ written_line form line.now) }
-    // What is written is a line of the grammar that says the marks shown and the scalars, and nothing else.
+    // The written line is in the grammar; it means these marks, as shown in the form, and these scalars, and nothing
+    // else.
     ensures again { IfOk result (λ bytes. IsLine form bytes.items (Some (shown_line form line.now))) }
     ensures only { IfOk result (λ bytes. (other : Option Line) → IsLine form bytes.items other
         → other ≡ Some (shown_line form line.now)) }
@@ -26,8 +26,8 @@ pub fn write_line(alloc: Global, line: &TestLine, form: Form) -> Result<Vec<u8>,
     Ok(text)
 }
 
-/// Appends the written line of these, the marks being one more than the scalars, to the text. An error comes
-/// where memory could not grow; a front of the line may stand there then.
+/// Appends the written line of these to the text; there is one more mark than scalars. Returns an error if memory could
+/// not grow; a prefix of the line may be written then.
 pub fn push_line(
     text: &mut Vec<u8>,
     scalars: &[char],
@@ -46,8 +46,8 @@ pub fn push_line(
     Ok(())
 }
 
-/// Appends a space, a scalar's token, a space and the mark after it to the text. Returns an error if memory
-/// could not grow; a front of these may stand there then.
+/// Appends a space, a scalar's token, a space and the mark after it to the text. Returns an error if memory could not
+/// grow; a prefix of these may be written then.
 pub fn push_scalar(
     text: &mut Vec<u8>,
     scalar: char,
@@ -63,13 +63,13 @@ pub fn push_scalar(
     push_mark(text, mark, form)
 }
 
-/// Appends a mark to the text, in the form's writing. Returns an error if memory could not grow; the text is as
-/// before then.
+/// Appends a mark to the text, as the form writes it. Returns an error if memory could not grow; the text is unchanged
+/// then.
 pub fn push_mark(text: &mut Vec<u8>, mark: Mark, form: Form) -> Result<(), AllocError>
     ensures text { OnOk result (text.new.items ≡ text.old.items ++ mark_bytes (shown form mark)) }
     ensures refused { OnErr result (text.new.items ≡ text.old.items) }
 {
-    // Each has a call of its own, which knows how many bytes it puts.
+    // Each mark has its own call with a constant number of bytes.
     match (form, mark) {
         (_, Mark::No) => text.extend_from_slice("×".as_bytes()),
         (Form::Kinds, Mark::Must) => text.extend_from_slice("!".as_bytes()),
@@ -77,8 +77,8 @@ pub fn push_mark(text: &mut Vec<u8>, mark: Mark, form: Form) -> Result<(), Alloc
     }
 }
 
-/// Appends the token of a scalar, with a space before it and one after it, to the text: four hex digits, or five or
-/// six where it needs them.
+/// Appends the token of a scalar to the text, with a space before and after it: four hex digits, or five or six if
+/// needed.
 fn push_token(text: &mut Vec<u8>, code: u32) -> Result<(), AllocError>
     requires { code < 0x11_0000 }
     ensures text { OnOk result (text.new.items ≡ text.old.items ++ (32 ∷ (token code ++ 32 ∷ []))) }

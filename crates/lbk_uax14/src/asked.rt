@@ -1,5 +1,4 @@
-//! What the rules ask of what stands on the left of a position: what no rule tells apart there is
-//! one.
+//! What the rules ask about the left side of a position. What no rule distinguishes there is one value.
 
 ghost use Rattle.std.specs.Prelude.{◌≡◌};
 ghost use Rattle.lbk_uax14.specs.Asked.{asked_before_spaces, asked_class, asked_of_cell, asked_of_unit};
@@ -9,7 +8,7 @@ use crate::cells::Cell;
 use crate::classes::{Class, Quote};
 
 impl Class {
-    /// What rules LB4 to LB10 ask of the class of the last cell.
+    /// What rules LB4 to LB10 ask about the class of the last cell.
     #[tactic(auto, unfolding(crate::specs::Classes::is, crate::specs::Asked::asked_of_cell))]
     pub(crate) fn asked_of_cell(self) -> Class
         ensures { result ≡ asked_of_cell self }
@@ -22,7 +21,7 @@ impl Class {
         }
     }
 
-    /// What rules LB14 to LB17 ask of the class that stands before the spaces.
+    /// What rules LB14 to LB17 ask about the class before the spaces.
     #[tactic(auto, unfolding(crate::specs::Classes::is, crate::specs::Asked::asked_before_spaces))]
     pub(crate) fn asked_before_spaces(self) -> Class
         ensures { result ≡ asked_before_spaces self }
@@ -34,7 +33,7 @@ impl Class {
         }
     }
 
-    /// What the rules ask of the class of the last unit.
+    /// What the rules ask about the class of the last unit.
     #[tactic(auto, unfolding(crate::specs::Classes::is, crate::specs::Asked::asked_class))]
     fn asked_of_unit(self, wide: bool) -> Class
         ensures { result ≡ asked_class self wide }
@@ -70,7 +69,7 @@ impl Class {
 }
 
 impl Cell {
-    /// What the rules ask of the last unit.
+    /// What the rules ask about the last unit.
     #[tactic(auto, unfolding(crate::specs::Asked::asked_of_unit))]
     pub(crate) fn asked_of_unit(self) -> Cell
         ensures { result ≡ asked_of_unit self }

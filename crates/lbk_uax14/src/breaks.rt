@@ -2,7 +2,7 @@
 
 use crate::verdicts::{Kind, Rule};
 
-/// A position of a text where a line may or must end (UAX #14, section 3). The first of `ab cd` is
+/// A position in a text where a line may or must end (UAX #14, section 3). The first of `ab cd` is
 ///
 /// ```rust
 /// let may = Break {
@@ -13,9 +13,9 @@ use crate::verdicts::{Kind, Rule};
 /// ```
 #[derive(Clone, Copy, PartialEq, Eq, Debug)]
 pub struct Break {
-    /// The byte that it stands before, counted from the text's start; the text's length at its end.
+    /// The offset of the byte after it, from the text's start; the text's length at its end.
     pub at: usize,
-    /// Whether the line may or must end there; never `No` in a text's breaks.
+    /// Whether a line may or must end there; never `No` in a text's breaks.
     pub kind: Kind,
     /// The rule that decided there.
     pub rule: Rule,

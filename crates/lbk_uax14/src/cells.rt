@@ -23,7 +23,7 @@ pub struct Cell {
 }
 
 impl Cell {
-    /// The unit that this cell heads (rules LB9 and LB10): a mark by itself is a plain letter.
+    /// The unit that this cell heads (rules LB9 and LB10): a mark without a base is a plain letter.
     pub fn unit(self) -> Cell
         ensures { result ≡ unit self }
     {
@@ -44,8 +44,8 @@ impl Cell {
         self.class.is(Class::Quotation) && matches!(self.quote, Quote::Final)
     }
 
-    /// Whether the unit that it heads leaves a closing quotation mark before it closed (rule LB15b). None comes where
-    /// it heads no unit: it is a mark, and `fresh` is false.
+    /// Whether the unit that it heads leaves a closing quotation mark before it closed (rule LB15b). `None` if it heads
+    /// no unit: it is a mark, and `fresh` is false.
     pub fn unit_closes(self, fresh: bool) -> Option<bool>
         ensures { result ≡ (if fresh || none_of mark self.class then Some (closes_before (unit self).class) else None) }
     {
@@ -55,7 +55,7 @@ impl Cell {
         None
     }
 
-    /// Whether a mark after it heads a unit (rule LB10): it is one after which lines may end.
+    /// Whether a mark after it heads a unit (rule LB10), because a line may end after it.
     pub fn leaves_fresh(self) -> bool
         ensures { result ≡ hard self.class }
     {

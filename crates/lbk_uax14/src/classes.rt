@@ -1,12 +1,12 @@
-//! Line breaking classes, and the sets of them that the rules ask for (UAX #14, section 5.1).
+//! Line breaking classes, and the sets of them in the rules (UAX #14, section 5.1).
 
 ghost use Rattle.std.specs.Prelude.{◌≡◌};
 ghost use Rattle.lbk_uax14.specs.Classes.{is, hard, mark, closes_before, opens_after, ◌or◌, AL, BA, BK, CL, CP, CR};
 ghost use Rattle.lbk_uax14.specs.Classes.{EB, EM, EX, GL, isH2, isH3, HL, HY, ID, IS, isJL, isJT, isJV, LF, NL, NS};
 ghost use Rattle.lbk_uax14.specs.Classes.{NU, OP, PO, PR, QU, SP, SY, WJ, ZW};
 
-/// A line breaking class once rule LB1 has resolved the text (UAX #14, section 5.1): the values of
-/// `Line_Break` without AI, CJ, SA, SG and XX.
+/// A line breaking class as rule LB1 resolves it (UAX #14, section 5.1): the values of `Line_Break` without AI, CJ, SA,
+/// SG and XX.
 #[derive(Clone, Copy, PartialEq, Eq, Debug)]
 pub enum Class {
     Alphabetic,
@@ -58,7 +58,7 @@ impl Class {
         self as u8 == other as u8
     }
 
-    /// Whether a mark after it stands by itself.
+    /// Whether a mark after it has no base.
     #[tactic(auto, unfolding(crate::specs::Classes::is))]
     pub fn is_hard(self) -> bool
         ensures { result ≡ hard self }
@@ -101,7 +101,7 @@ impl Class {
         matches!(self, Class::Space | Class::ZWSpace)
     }
 
-    /// Whether a glue after it may stand on a new line (rule LB12a).
+    /// Whether a glue after it may begin a line (rule LB12a).
     #[tactic(auto, unfolding(crate::specs::Classes::is))]
     pub fn is_space_or_hyphen(self) -> bool
         ensures { result ≡ (SP or BA or HY) self }
@@ -109,7 +109,7 @@ impl Class {
         matches!(self, Class::Space | Class::BreakAfter | Class::Hyphen)
     }
 
-    /// Whether it stays with what is before it, spaces or not (rule LB13).
+    /// Whether it stays with what is before it, even after spaces (rule LB13).
     #[tactic(auto, unfolding(crate::specs::Classes::is))]
     pub fn is_end_punctuation(self) -> bool
         ensures { result ≡ (CL or CP or EX or IS or SY) self }
@@ -194,7 +194,7 @@ impl Class {
         )
     }
 
-    /// Whether it goes on after a leading consonant (rule LB26).
+    /// Whether it continues a leading consonant (rule LB26).
     #[tactic(auto, unfolding(crate::specs::Classes::is))]
     pub fn follows_leading(self) -> bool
         ensures { result ≡ (isJL or isJV or isH2 or isH3) self }
@@ -210,7 +210,7 @@ impl Class {
         matches!(self, Class::JV | Class::H2)
     }
 
-    /// Whether it goes on after a vowel (rule LB26).
+    /// Whether it continues a vowel (rule LB26).
     #[tactic(auto, unfolding(crate::specs::Classes::is))]
     pub fn follows_vowel(self) -> bool
         ensures { result ≡ (isJV or isJT) self }

@@ -6,8 +6,8 @@ ghost use Rattle.lbk_uax14.specs.Codes.{rule_number, rules};
 use crate::verdicts::Rule;
 
 impl Rule {
-    /// The rule of a number, which is 8 times its own and the place of its letter: 65 for rule 8a. None comes for a
-    /// number that no rule has.
+    /// The rule with a number, which is 8 times its own number plus the place of its letter: 65 for rule 8a. `None` for
+    /// a number that no rule has.
     #[inline(always)]
     pub fn numbered(number: u8) -> Option<Rule>
         ensures { result ≡ find (λ rule. rule_number rule == number) rules }

@@ -1,4 +1,4 @@
-//! The verdict of any one position of a list of cells.
+//! The verdict at one position of a list of cells.
 
 ghost use Rattle.std.specs.Prelude.{◌≡◌, ◌≤◌, length};
 ghost use Rattle.lbk_uax14.specs.Facts.{closes_in};
@@ -11,8 +11,8 @@ use crate::facts::Left;
 use crate::verdicts::Verdict;
 use lbk_values::Profile;
 
-/// The verdict at position `k` of a text, which stands before the cell `k`, or after all cells, in
-/// the first profile (UAX #14, section 6). Positions count cells from 0.
+/// The verdict at position `k` of a text, before cell `k` or after all cells, in the first profile (UAX #14, section
+/// 6). Positions count cells from 0.
 pub fn decide(cells: &[Cell], k: usize) -> Verdict
     requires { k ≤ length cells.now }
     ensures { result ≡ verdict cells.now k }
@@ -20,8 +20,8 @@ pub fn decide(cells: &[Cell], k: usize) -> Verdict
     decide_in(Profile::First, cells, k)
 }
 
-/// The verdict at position `k` of a text, which stands before the cell `k`, or after all cells, by
-/// the rules of the profile. Positions count cells from 0.
+/// The verdict at position `k` of a text, before cell `k` or after all cells, in this profile. Positions count cells
+/// from 0.
 pub fn decide_in(profile: Profile, cells: &[Cell], k: usize) -> Verdict
     requires { k ≤ length cells.now }
     ensures { result ≡ verdict_in profile cells.now k }

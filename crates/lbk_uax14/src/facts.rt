@@ -1,4 +1,4 @@
-//! The few facts of the cells on the left of a position that the rules ask for.
+//! The few facts about the left side of a position that the rules need.
 
 ghost use Rattle.std.specs.Prelude.{◌≡◌, [], ◌∷◌, reverse};
 ghost use Rattle.lbk_uax14.specs.Facts.{facts, facts_of_units};
@@ -8,34 +8,32 @@ ghost use Rattle.lbk_uax14.specs.Sides.{Side};
 use crate::cells::Cell;
 use crate::classes::{Class, Quote};
 
-/// What the rules ask of the units before a position.
+/// What the rules ask about the units before a position.
 #[derive(Clone, Copy, PartialEq, Eq, Debug)]
 pub struct Before {
-    /// The last unit, or a space where there is none: only what the rules ask of it.
+    /// What the rules ask about the last unit; a space if there is none.
     pub last: Cell,
-    /// Whether the last unit that is no space is OP, QU, CL (which stands for CP too) or B2. A space
-    /// stands for all other classes.
+    /// Whether the last unit that is no space is OP, QU, CL (also for CP) or B2. A space means any other class.
     pub before_spaces: Class,
     /// Whether the last unit is HY or BA, and the one before it a Hebrew letter (rule LB21a).
     pub hebrew_hyphen: bool,
     /// Whether the run of regional indicators at the end has odd length.
     pub odd_indicators: bool,
-    /// Whether an opening quotation mark that stays open stands at the end, or before the spaces
-    /// there.
+    /// Whether an opening quotation mark that stays open is at the end, or before the spaces there.
     pub opens_quotation: bool,
 }
 
-/// What the rules ask of the cells before a position.
+/// What the rules ask about the cells before a position.
 #[derive(Clone, Copy, PartialEq, Eq, Debug)]
 pub struct Left {
     /// Whether there are none.
     pub empty: bool,
-    /// The class of the last cell, or of a space where there is none: LF stands for NL too, SP for
-    /// ZW, and AL for all but BK, CR, LF, SP and ZWJ.
+    /// The class of the last cell, or SP if there is none: LF also means NL, SP also ZW, and AL any class except BK,
+    /// CR, LF, SP and ZWJ.
     pub last: Class,
     /// Whether they end with a zero width space and any number of spaces.
     pub past_zero_width: bool,
-    /// What is asked of their units.
+    /// What the rules ask about their units.
     pub units: Before,
 }
 
@@ -48,7 +46,7 @@ const SPACE: Cell = Cell {
 };
 
 impl Before {
-    /// What is known once a unit follows.
+    /// The facts after one more unit.
     fn then(self, unit: Cell) -> Before
         ensures { (side : Side) → facts_of_units side ≡ self → result ≡ facts_of_units (unit ∷ side) }
     {
@@ -70,7 +68,7 @@ impl Before {
 }
 
 impl Left {
-    /// What is known at the start of a text.
+    /// The facts at the start of a text.
     #[tactic(auto, unfolding(crate::specs::Classes::is, crate::specs::Asked::asked_of_cell, crate::specs::Asked::asked_before_spaces, crate::specs::Asked::asked_class, crate::specs::Asked::asked_of_unit, crate::specs::Facts::facts, crate::specs::Sides::before_spaces, crate::specs::Sides::at_odd_run, crate::specs::Sides::opens_quotation))]
     pub fn start() -> Left
         ensures { result ≡ facts [] }
@@ -98,7 +96,7 @@ impl Left {
         self.last.is_hard() || !cell.class.is_mark()
     }
 
-    /// What is known once a cell follows.
+    /// The facts after one more cell.
     #[tactic(auto, unfolding(crate::specs::Facts::facts, crate::specs::Sides::before_spaces))]
     pub fn then(self, cell: Cell) -> Left
         ensures { (side : Side) → facts side ≡ self → result ≡ facts (cell ∷ side) }
@@ -123,7 +121,7 @@ impl Left {
         }
     }
 
-    /// What is known after some cells.
+    /// The facts after these cells.
     pub fn of(cells: &[Cell]) -> Left
         ensures { result ≡ facts (reverse cells.now) }
     {

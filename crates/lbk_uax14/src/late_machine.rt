@@ -1,4 +1,4 @@
-//! The machine of either profile, which decides a position late where what follows decides it.
+//! The machine of either profile, which holds a position if it depends on what follows.
 
 ghost use Rattle.std.specs.Prelude.{◌≡◌, ◌+◌, ◌<◌, ◌≤◌, ℕ, List, [], ◌∷◌, ◌++◌, length, reverse, Some, None};
 ghost use Rattle.std.specs.Prelude.{if◌then◌else◌, slice_get, option_map};
@@ -12,7 +12,7 @@ use crate::facts::Left;
 use crate::verdicts::{Verdict, is_second};
 use lbk_values::Profile;
 
-/// A position whose verdict waits for the unit after a closing quotation mark.
+/// A held position: its verdict waits for the unit after a closing quotation mark.
 #[derive(Clone, Copy, PartialEq, Eq, Debug)]
 struct Held {
     position: u64,
@@ -30,7 +30,7 @@ pub struct LateMachine {
     held: Option<Held>,
 }
 
-/// What a step decides. Positions count cells from 0.
+/// The verdicts of a step. Positions count cells from 0.
 #[derive(Clone, Copy, PartialEq, Eq, Debug)]
 pub struct Out {
     /// The verdict of the position before the cell, unless it is held.
@@ -39,7 +39,7 @@ pub struct Out {
     pub late: Option<(u64, Verdict)>,
 }
 
-/// What the end of the text decides. Positions count cells from 0.
+/// The verdicts at the end of the text. Positions count cells from 0.
 #[derive(Clone, Copy, PartialEq, Eq, Debug)]
 pub struct End {
     /// The position that was held until now, and its verdict.
@@ -78,8 +78,8 @@ impl LateMachine {
         self.steps
     }
 
-    /// Takes the next cell: the verdict of the position before it, unless that is held, and that of the
-    /// position that was held until now, where the cell heads the unit after its quotation mark. It takes at most
+    /// Takes the next cell: returns the verdict of the position before it, unless that is held, and that of the
+    /// position held until now, if the cell heads the unit after its quotation mark. It takes at most
     /// 18,446,744,073,709,551,615 cells.
     #[tactic(auto, unfolding(crate::specs::LateFits::steps_of))]
     pub fn step(&mut self, cell: Cell) -> Out
@@ -101,8 +101,7 @@ impl LateMachine {
         Out { now, late }
     }
 
-    /// The verdict of the position after all cells taken, where the text ends, and that of the position
-    /// that was held until now.
+    /// The verdict of the position after all cells taken, where the text ends, and that of the position held until now.
     pub fn finish(&self) -> End
         ensures late { (profile : Profile) (cells : List Cell) → LateFits self.now profile cells
             → result.late ≡ answer_at profile cells [] }
@@ -115,8 +114,8 @@ impl LateMachine {
         }
     }
 
-    /// The position that was held until now, and its verdict. `closes`: the unit that comes leaves the
-    /// quotation mark closed, or none comes.
+    /// The position that was held until now, and its verdict. `closes`: the next unit leaves the quotation mark closed,
+    /// or there is none.
     fn answer(&self, closes: bool) -> Option<(u64, Verdict)>
         ensures { (profile : Profile) (cells more : List Cell) → LateFits self.now profile cells
             → closes_in Second (units_after (hard (nearest (reverse cells)).class) more) ≡ closes
@@ -151,7 +150,7 @@ impl LateMachine {
         self.answer(cell.unit().class.closes_before())
     }
 
-    /// What it holds once `cell` was taken. `holds`: the position before the cell is held.
+    /// What the machine holds after `cell`. `holds`: the position before the cell is held.
     fn holding(&self, cell: Cell, holds: bool) -> Option<Held>
         ensures { (profile : Profile) (cells : List Cell) → LateFits self.now profile cells
             → is_15b (from_cells profile (reverse cells) (cell ∷ [])).rule ≡ holds
@@ -171,7 +170,7 @@ impl LateMachine {
     }
 }
 
-/// The verdict, unless rule 15b gives it.
+/// The verdict, unless it is by rule 15b.
 pub fn unless_held(verdict: Verdict) -> Option<Verdict>
     ensures { result ≡ (if is_15b verdict.rule then None else Some verdict) }
 {
@@ -182,9 +181,9 @@ pub fn unless_held(verdict: Verdict) -> Option<Verdict>
     }
 }
 
-/// Writes the verdict of every position of a text, all its paragraphs, by one late machine, and returns how
-/// many verdicts came: as many as positions, so that each position's came once (UAX #14, section 6). There is room
-/// for one verdict more than there are cells.
+/// Writes the verdict of every position of a text, in all its paragraphs, by one late machine, and returns how many
+/// verdicts it wrote: as many as positions, so each position has one (UAX #14, section 6). There is room for one more
+/// verdict than cells.
 pub fn decide_all_in(profile: Profile, cells: &[Cell], verdicts: &mut [Verdict]) -> usize
     requires { length verdicts.old ≡ length cells.now + 1 }
     ensures each { (k : ℕ) → k ≤ length cells.now
@@ -221,7 +220,7 @@ fn write_late(verdicts: &mut [Verdict], late: Option<(u64, Verdict)>) -> usize
     }
 }
 
-/// Writes the verdict of position `k`, if there is one, and tells how many there were.
+/// Writes the verdict of position `k`, if there is one, and returns how many there were.
 fn write_now(verdicts: &mut [Verdict], k: usize, now: Option<Verdict>) -> usize
     requires { k < length verdicts.old }
     ensures list { verdicts.new ≡ written (option_map (λ verdict. (k, verdict)) now) verdicts.old }

@@ -1,5 +1,4 @@
-//! What the verdicts of a text have in common, over definitions only. Each law is the contract of a
-//! function that does nothing.
+//! Laws about the verdicts of a text, over definitions only. Each is the contract of a function with an empty body.
 ghost use Rattle.std.specs.Prelude.{◌≡◌, ℕ, ◌+◌, ◌-◌, ◌<◌, ◌≤◌, ◌⊎◌, true, false, not, List, [], ◌∷◌, ◌++◌, length};
 ghost use Rattle.std.specs.Prelude.{map, reverse, take, drop, encode_utf8_all, IsSome, IsTrue, Some, None};
 ghost use Rattle.std.specs.List.{flat_map};
@@ -21,9 +20,9 @@ ghost use Rattle.lbk_uax14.specs.Once.{named, came_late, came_now};
 ghost use Rattle.lbk_uax14.specs.Units.{heads, next_unit};
 ghost use Rattle.lbk_uax14.specs.Verdict.{verdict, verdict_in, verdict_between, verdict_between_in};
 
-/// The paragraph law: after a position before the end where a line must end, the text before it decides
-/// nothing any more (UAX #14, section 6.1, rules LB4 and LB5). Between a left and a right list it says so with
-/// `left` before such a position, and `cell` and `more` between it and another.
+/// The paragraph law: after a required break before the end, the text before it affects no verdict (UAX #14, section
+/// 6.1, rules LB4 and LB5). For a left and a right list: `left` is before such a position, and `cell` and `more` are
+/// between it and another.
 pub fn paragraph()
     ensures at { (profile : Profile) (cells : List Cell) (p k : ℕ) → p < length cells → p < k
         → (verdict_in profile cells p).kind ≡ Must
@@ -34,16 +33,16 @@ pub fn paragraph()
         ≡ verdict_between_in profile (cell ∷ more) right }
 {}
 
-/// The look-ahead law of the first profile: no cell after the one at `k` decides there. So no cell after the first
-/// on the right decides between a left and a right list.
+/// The look-ahead law of the first profile: no cell after the one at `k` affects the verdict there. So no cell after
+/// the first on the right affects the verdict between a left and a right list.
 pub fn look_ahead()
     ensures at { (a b : List Cell) (k : ℕ) → take (k + 1) a ≡ take (k + 1) b → verdict a k ≡ verdict b k }
     ensures between { (left a b : List Cell) → take 1 a ≡ take 1 b → verdict_between left a ≡ verdict_between left b }
 {}
 
-/// The look-ahead law of the second profile: two lists that agree up to the head of the unit after the
-/// cell at `k`, or that both end before it, have the same verdict there. Two right lists decide by their first cell
-/// and by the unit after it.
+/// The look-ahead law of the second profile: two lists that agree up to the head of the unit after the cell at `k`, or
+/// that both end before it, have the same verdict there. Of a right list only the first cell and the unit after it
+/// matter.
 pub fn look_ahead_second()
     ensures at { (a b : List Cell) (k n : ℕ) → k < n → take n a ≡ take n b
         → IsSome (next_unit (drop k (take n a))) ⊎ ((length a ≤ n) × (length b ≤ n))
@@ -52,25 +51,24 @@ pub fn look_ahead_second()
         → verdict_between_in Second left a ≡ verdict_between_in Second left b }
 {}
 
-/// What waits in the second profile: a position is open after some cells where it is held and no
-/// unit has come after its closing quotation mark.
+/// Open positions in the second profile: after some cells a position is open if it is held and no unit followed its
+/// closing quotation mark.
 pub fn unanswered_position()
     ensures { (profile : Profile) (cells : List Cell) (p : ℕ) → unanswered profile cells ≡ Some p
         → (p < length cells) × IsTrue (is_held profile (take p cells) (drop p cells))
         × (next_unit (drop p cells) ≡ None) }
 {}
 
-/// At most one position is open, the one that a machine names: each position that is held and after
-/// whose quotation mark no unit has come.
+/// At most one position is open, the one that a machine names.
 pub fn unanswered_alone()
     ensures { (profile : Profile) (cells : List Cell) (p : ℕ) → p < length cells
         → IsTrue (is_held profile (take p cells) (drop p cells)) → next_unit (drop p cells) ≡ None
         → unanswered profile cells ≡ Some p }
 {}
 
-/// A line must end before more text exactly between a cell of BK, CR, LF or NL and the next cell, except CR
-/// and LF, by rule 4 after BK and by rule 5 after the others. Such a position is never held (UAX #14, section
-/// 6.1, rules LB2, LB4 and LB5).
+/// Before more text a line must end exactly between a cell of BK, CR, LF or NL and the next cell, except between CR and
+/// LF: by rule 4 after BK, and by rule 5 after the others. Such a position is never held (UAX #14, section 6.1, rules
+/// LB2, LB4 and LB5).
 pub fn must_end()
     ensures there { (profile : Profile) (left : List Cell) (x y : Cell) (right : List Cell)
         → IsTrue (ends_between x.class y.class)
@@ -93,7 +91,7 @@ pub fn must_end_of_text()
         → verdict_in profile cells (length cells) ≡ end_of_text }
 {}
 
-/// Nothing after a cell of BK, CR, LF or NL decides before that cell.
+/// Nothing after a cell of BK, CR, LF or NL affects the verdicts before that cell.
 pub fn before_line_end()
     ensures between { (profile : Profile) (left middle : List Cell) (x : Cell) (a b : List Cell)
         → IsTrue (ends_line x.class)
@@ -103,8 +101,8 @@ pub fn before_line_end()
         → verdict_in profile (cells ++ x ∷ a) k ≡ verdict_in profile (cells ++ x ∷ b) k }
 {}
 
-/// A mark that joins the cell before it comes after no break, by rule 9, or by rule 8a after ZWJ, and its
-/// position is never held. Those marks are the cells that head no unit.
+/// No break comes before a mark that joins the cell before it, by rule 9, or by rule 8a after ZWJ, and its position is
+/// never held. These marks are the cells that head no unit.
 pub fn joined_mark()
     ensures between { (profile : Profile) (left : List Cell) (x y : Cell) (right : List Cell)
         → IsTrue (joins x.class y.class)
@@ -117,7 +115,7 @@ pub fn joined_mark()
         → heads (reverse left) cell ≡ false → (verdict_between_in profile left (cell ∷ more)).kind ≡ No }
 {}
 
-/// A position that is not held is decided by what stands before it and the cell after it. The cell after a
+/// The verdict of a position that is not held depends on what is before it and on the cell after it. The cell after a
 /// held one heads a unit.
 pub fn held_or_settled()
     ensures settled { (profile : Profile) (left : List Cell) (cell : Cell) (a b : List Cell)
@@ -133,8 +131,8 @@ pub fn machine_holds()
         → held_position machine ≡ unanswered profile cells }
 {}
 
-/// A step decides each position once: the positions that come late, that stay open and that come now are
-/// the one that was open and the step's own. The end decides the one that is open then.
+/// Steps decide each position once: the positions that a step decides late, leaves open and decides now are the one
+/// that was open and its own. The end decides the one that is open then.
 pub fn answered_once()
     ensures step { (profile : Profile) (cells : List Cell) (cell : Cell) (more : List Cell)
         → came_late (late_at profile cells cell more)
@@ -147,8 +145,8 @@ pub fn answered_once()
         × (now_at First cells right ≡ Some (verdict_between_in First cells right)) }
 {}
 
-/// What no rule asks of a cell changes no verdict, in either profile, nor which positions are held: a text
-/// may be decided by its normal cells (UAX #14, section 6).
+/// Properties that no rule uses change no verdict in either profile, nor which positions are held: normal cells have
+/// the same verdicts (UAX #14, section 6).
 pub fn normal_cells()
     ensures between { (profile : Profile) (left right : List Cell)
         → verdict_between_in profile (map normal left) (map normal right) ≡ verdict_between_in profile left right }
@@ -158,10 +156,9 @@ pub fn normal_cells()
         → is_held profile (map normal left) (map normal right) ≡ is_held profile left right }
 {}
 
-/// Texts between which a line must end may be decided apart. Joined, their marks are those of the whole, except at
-/// the end of the first: a text ends by rule 3, and by rule 4 or 5 where another follows. Their breaks are those of
-/// the whole, if the places of the second are moved by the bytes of the first (UAX #14, section 6.1, rules LB3 to
-/// LB5).
+/// A required break separates two texts. Joined, their marks are those of the whole, except at the end of the first: it
+/// is by rule 3 in a text, and by rule 4 or 5 if another text follows. Their breaks are those of the whole, if the
+/// length of the first is added to the offsets of the second (UAX #14, section 6.1, rules LB3 to LB5).
 pub fn joined_texts()
     ensures marks { (profile : Profile) (cell : ℕ → Cell) (first second : List ℕ)
         → IsTrue (must_end_between cell first second)
@@ -173,8 +170,7 @@ pub fn joined_texts()
         ++ breaks_in profile cell (length (encode_utf8_all first)) false second }
 {}
 
-/// So may any number of parts: each is decided by itself, with the byte at which it begins and whether another
-/// follows it.
+/// The same for any number of parts: each is a separate text, given its offset and whether another part follows.
 pub fn joined_parts()
     ensures marks { (profile : Profile) (cell : ℕ → Cell) (parts : List (List ℕ)) → AreParts cell parts
         → marks profile cell (flat_map (λ part. part) parts) ≡ of_parts (λ at. marks_in profile cell) 0 parts }

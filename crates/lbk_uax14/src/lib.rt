@@ -1,7 +1,8 @@
 //! The rules of line breaking: Unicode Standard Annex #14, Unicode 15.0, over cells.
 //!
-//! A text is seen as a list of [`Cell`]s, one a scalar. [`decide`] returns for a position in it whether the line may
-//! break, must break or must not, and the rule that decided. The crate `lbk_rules` decides texts by constant steps, and is fast.
+//! A text is a list of [`Cell`]s, one for each scalar. [`decide`] returns for a position whether the line may break,
+//! must break or must not, and the rule that decided. The crate `lbk_rules` decides texts by constant steps, and is
+//! fast.
 #![tactic(auto)]
 
 pub mod annex;
@@ -19,7 +20,7 @@ mod resolution;
 mod table;
 mod verdicts;
 
-// What callers name.
+// What callers use.
 pub use breaks::Break;
 pub use cells::Cell;
 pub use classes::{Class, Quote};
@@ -28,7 +29,7 @@ pub use lbk_values::Profile;
 pub use resolution::resolve;
 pub use verdicts::{Kind, Rule, Verdict};
 
-// What `lbk_rules` is made of, and what tests compare it with.
+// What `lbk_rules` is built on, and what tests compare it with.
 pub use facts::{Before, Left};
 pub use late_machine::{End, LateMachine, Out, decide_all_in, unless_held};
 pub use machine::{Machine, decide_all};

@@ -1,4 +1,4 @@
-//! The machine of the first profile, which decides position after position.
+//! The machine of the first profile.
 
 ghost use Rattle.std.specs.Prelude.{◌≡◌, ◌+◌, ◌≤◌, ℕ, List, [], ◌∷◌, ◌++◌, length, Option, Some, slice_get};
 ghost use Rattle.lbk_uax14.specs.Verdict.{verdict};
@@ -8,8 +8,8 @@ use crate::facts::Left;
 use crate::verdicts::Verdict;
 use lbk_values::Profile;
 
-/// Decides the positions of a text one after another in the first profile, without looking back: a
-/// few facts of the cells so far suffice (UAX #14, section 6).
+/// Decides the positions of a text one after another in the first profile, without looking back: a few facts about the
+/// cells so far suffice (UAX #14, section 6).
 #[derive(Clone, Copy, PartialEq, Eq, Debug)]
 pub struct Machine {
     left: Left,
@@ -28,7 +28,7 @@ impl Machine {
         }
     }
 
-    /// Takes the next cell: the verdict of the position before it, whatever follows.
+    /// Takes the next cell: returns the verdict of the position before it, whatever follows.
     #[tactic(auto, unfolding(crate::specs::Fits::Fits))]
     pub fn step(&mut self, cell: Cell) -> Verdict
         ensures decides { (cells more : List Cell) → Fits self.old cells
@@ -49,8 +49,8 @@ impl Machine {
     }
 }
 
-/// Writes the verdict of every position of a text, all its paragraphs, in the first profile by one machine:
-/// one step a cell, and the end (UAX #14, section 6). There is room for one verdict more than there are cells.
+/// Writes the verdict of every position of a text, in all its paragraphs, in the first profile, by one machine: one
+/// step for each cell, and the end (UAX #14, section 6). There is room for one more verdict than cells.
 pub fn decide_all(cells: &[Cell], verdicts: &mut [Verdict])
     requires { length verdicts.old ≡ length cells.now + 1 }
     ensures { (k : ℕ) → k ≤ length cells.now → slice_get verdicts.new k ≡ Some (verdict cells.now k) }

@@ -1,4 +1,4 @@
-//! The cell of a scalar value, by its properties (UAX #14, section 6.1, rule LB1).
+//! The cell of a scalar value, from its properties (UAX #14, section 6.1, rule LB1).
 
 ghost use Rattle.std.specs.Prelude.{◌≡◌};
 ghost use Rattle.lbk_uax14.specs.Resolve.{cell_of_properties, class_of, is_letter_or_number, is_wide, quote_of};
@@ -78,7 +78,7 @@ fn class_of(line_break: LineBreak, category: Category) -> Class
     }
 }
 
-/// Whether rule LB30 takes it as wide: East Asian Width F, W or H.
+/// Whether it is wide for rule LB30: East Asian Width F, W or H.
 fn is_wide(east_asian: EastAsian) -> bool
     ensures { result ≡ is_wide east_asian }
 {

@@ -1,5 +1,4 @@
-//! The rules of UAX #14, section 6, in their order, a method for each group: the first that matches
-//! decides.
+//! The rules of UAX #14, section 6, in order, a method for each group. The first one that matches decides.
 ghost use Rattle.std.specs.Prelude.{◌≡◌, ◌&&◌, [], ◌∷◌};
 ghost use Rattle.lbk_values.specs.declared.profile.Profile.TheVariants.{First, Second};
 ghost use Rattle.lbk_uax14.specs.Chain.{choose, from_11, from_14, from_15, from_16, from_19, from_23, from_25};
@@ -17,8 +16,8 @@ use crate::verdicts::{Rule, Verdict};
 use lbk_values::Profile;
 
 impl Left {
-    /// The verdict before `right`. `closes` tells, in the second profile, whether the unit after the
-    /// one that `right` heads leaves a closing quotation mark closed.
+    /// The verdict before `right`. `closes` says, in the second profile, whether the unit after the one that `right`
+    /// heads leaves a closing quotation mark closed.
     #[tactic(auto, unfolding(crate::specs::Rules::cell_rules, crate::specs::Facts::facts, crate::specs::Chain::from_cells))]
     pub fn verdict(self, profile: Profile, right: Cell, closes: bool) -> Verdict
         ensures { (side more : Side) → facts side ≡ self
@@ -44,7 +43,7 @@ impl Left {
         }
     }
 
-    /// Rules LB4 to LB31, where some cell stands on the left. Of that cell it sees what is asked.
+    /// Rules LB4 to LB31, after some cell. It sees only what the rules ask about that cell.
     #[tactic(auto, unfolding(crate::specs::Rules::cell_rules))]
     fn from_4(self, profile: Profile, right: Cell, closes: bool) -> Verdict
         ensures { (cell : Cell) (side more : Side) → facts (cell ∷ side) ≡ self

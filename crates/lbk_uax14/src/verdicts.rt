@@ -1,4 +1,4 @@
-//! What is decided at a position, by which rule, and in which profile.
+//! Verdicts, rules and profiles.
 
 ghost use Rattle.std.specs.Prelude.{◌≡◌, []};
 ghost use Rattle.lbk_uax14.specs.Facts.{closes_in};
@@ -61,7 +61,7 @@ pub enum Rule {
 }
 
 impl Rule {
-    /// The rule's number without `LB`, as `8a`.
+    /// The rule's number without `LB`, such as `8a`.
     pub fn label(&self) -> &'static str
         ensures { result.now ≡ label_of self.now }
     {
@@ -125,7 +125,7 @@ pub fn is_second(profile: Profile) -> bool
     matches!(profile, Profile::Second)
 }
 
-/// What is decided at a position, and the rule that decides it.
+/// Whether a line breaks at a position, and the rule that decided.
 #[derive(Clone, Copy, PartialEq, Eq, Debug)]
 pub struct Verdict {
     pub kind: Kind,

@@ -1,11 +1,11 @@
-//! What is wrong with a property file, in words.
+//! The texts of the causes of faults.
 
 ghost use Rattle.std.specs.Prelude.{◌≡◌, ◌≤◌, length};
 ghost use Rattle.lbk_ucd.specs.Causes.{cause_text};
 
 use crate::faults::UcdCause;
 
-/// What is wrong with a file or with one of its lines (UAX #44, section 4.2), in at most 80 bytes of ASCII.
+/// Says what is wrong with a file or with one of its lines (UAX #44, section 4.2), in at most 80 bytes of ASCII.
 pub fn cause_text(cause: UcdCause) -> &'static str
     ensures text { result.now ≡ cause_text cause }
     ensures short { length result.now ≤ 80 }

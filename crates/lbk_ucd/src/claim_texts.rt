@@ -1,4 +1,4 @@
-//! What a property file is that is not the published one, in words.
+//! The texts about files that are not the published ones.
 
 ghost use Rattle.std.specs.Prelude.{◌≡◌, ◌+◌, ◌≤◌, ◌++◌, decimal, length};
 ghost use Rattle.arrayvec.specs.ArrayString.{array_string_len};
@@ -11,8 +11,8 @@ use crate::which::Which;
 use arrayvec::ArrayString;
 use itoa::Buffer;
 
-/// What a file is that is not the published one: of which version it is, that it was changed or cut, or that it is
-/// another file. ASCII.
+/// Describes a file that is not the published one: its version, that it was changed or cut, or that it is another file.
+/// ASCII.
 pub fn claim_text(which: Which, cause: ClaimCause) -> ArrayString<95>
     ensures { result.bytes ≡ claim_text which cause }
 {
@@ -32,7 +32,7 @@ pub fn claim_text(which: Which, cause: ClaimCause) -> ArrayString<95>
     }
 }
 
-/// What a file is that claims a published name, and was cut ([`is_cut`](crate::is_cut)), in at most 95 bytes of ASCII.
+/// Describes a truncated file ([`is_cut`](crate::is_cut)), in at most 95 bytes of ASCII.
 pub fn cut_text() -> &'static str
     ensures text { result.now ≡ cut_text }
     ensures short { length result.now ≤ 95 }
@@ -40,7 +40,7 @@ pub fn cut_text() -> &'static str
     "the file was cut: its first line claims a published name, and its last is not # EOF"
 }
 
-/// Where the published files are, in at most 95 bytes of ASCII.
+/// Says where to get the published files, in at most 95 bytes of ASCII.
 pub fn remedy_text() -> &'static str
     ensures text { result.now ≡ remedy_text }
     ensures short { length result.now ≤ 95 }
@@ -48,7 +48,7 @@ pub fn remedy_text() -> &'static str
     "Debian 12's unicode-data has it, as has https://www.unicode.org/Public/15.0.0/ucd/UCD.zip"
 }
 
-/// Of which version a file is, where this is another.
+/// Names the version of a file of another version.
 fn version_text(which: Which, version: Version) -> ArrayString<95>
     ensures { result.bytes ≡ version_text which version }
 {
@@ -64,7 +64,7 @@ fn version_text(which: Which, version: Version) -> ArrayString<95>
     }
 }
 
-/// A text with the first two numbers of a version in it.
+/// A text with the first two numbers of a version.
 fn with_two_numbers(before: &str, version: Version, after: &str) -> ArrayString<95>
     requires before { length before.now ≤ 19 }
     requires after { length after.now ≤ 24 }
@@ -79,7 +79,7 @@ fn with_two_numbers(before: &str, version: Version, after: &str) -> ArrayString<
     text
 }
 
-/// A text with the three numbers of a version in it.
+/// A text with the three numbers of a version.
 fn with_three_numbers(before: &str, version: Version, after: &str) -> ArrayString<95>
     requires before { length before.now ≤ 19 }
     requires after { length after.now ≤ 24 }
@@ -91,7 +91,7 @@ fn with_three_numbers(before: &str, version: Version, after: &str) -> ArrayStrin
     text
 }
 
-/// The front of a text.
+/// A prefix of a text.
 fn begun(front: &str) -> ArrayString<95>
     requires { length front.now ≤ 95 }
     ensures bytes { result.bytes ≡ front.now }
@@ -102,7 +102,7 @@ fn begun(front: &str) -> ArrayString<95>
     text
 }
 
-/// Puts a number behind a text.
+/// Appends a number to a text.
 fn push_number(text: &mut ArrayString<95>, number: u32)
     requires { array_string_len text.old + 10 ≤ 95 }
     ensures bytes { text.new.bytes ≡ text.old.bytes ++ decimal number }

@@ -1,10 +1,10 @@
-//! What a file claims to be.
+//! The version that a file claims.
 
 ghost use Rattle.std.specs.Prelude.{◌≡◌};
 ghost use Rattle.lbk_ucd.specs.Claims.{TellsCut, claims_name};
 
-/// Whether a file was cut: its first line claims a name that Unicode published, as `# LineBreak-15.0.0.txt`, and its
-/// last line, without white space at the end, is not `# EOF`.
+/// Whether a file is truncated: its first line claims a name that Unicode published, such as `# LineBreak-15.0.0.txt`,
+/// and its last line, without trailing white space, is not `# EOF`.
 pub fn is_cut(bytes: &[u8]) -> bool
     ensures { TellsCut bytes.now result }
 {
@@ -13,7 +13,7 @@ pub fn is_cut(bytes: &[u8]) -> bool
     claims_name(bytes) && !is_whole
 }
 
-/// Whether a file begins as one that Unicode published.
+/// Whether a file begins like a published one.
 fn claims_name(bytes: &[u8]) -> bool
     ensures { result ≡ claims_name bytes.now }
 {

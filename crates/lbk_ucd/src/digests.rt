@@ -1,4 +1,4 @@
-//! The property files as Unicode 15.0.0 published them, by their digests.
+//! The digests of the property files that Unicode 15.0.0 published.
 
 ghost use Rattle.std.specs.Prelude.{◌≡◌, ◌↔◌, IsTrue, MatchOption};
 ghost use Rattle.sha2.specs.Sha256.{sha256};
@@ -30,8 +30,8 @@ const EMOJI: [u8; 32] = [
     0xeb, 0x02, 0x58, 0x66, 0x74, 0x07, 0x91, 0xf9, 0xc2, 0xd0, 0xb5, 0x5c, 0xc4, 0x5a, 0x34, 0x70,
 ];
 
-/// Whether a file is, byte for byte, that of its name in Unicode 15.0.0, where CR LF at the end of a line counts as
-/// LF. A file of more than 8,388,608 bytes is none, and is not read.
+/// Whether a file is, byte for byte, the one of its name in Unicode 15.0.0; CR LF at the end of a line counts as LF. A
+/// file of more than 8,388,608 bytes is not, and is not read.
 pub fn is_published(which: Which, bytes: &[u8]) -> bool
     ensures { IsTrue result ↔ IsPublished which bytes.now }
 {
@@ -41,7 +41,7 @@ pub fn is_published(which: Which, bytes: &[u8]) -> bool
     digest_with_line_feeds(bytes).as_slice() == digest_of(which).as_slice()
 }
 
-/// The first of four files that is not the published one. None comes where all are.
+/// The first of four files that is not the published one, or `None` if all are.
 pub fn first_unpublished(files: &Files<'_>) -> Option<Which>
     ensures { MatchOption result (ArePublished files.now) (IsFirstUnpublished files.now) }
 {
@@ -72,7 +72,7 @@ fn digest_of(which: Which) -> [u8; 32]
     }
 }
 
-/// The SHA-256 digest of the bytes with LF in the place of each CR LF.
+/// The SHA-256 digest of the bytes with each CR LF replaced by LF.
 fn digest_with_line_feeds(bytes: &[u8]) -> [u8; 32]
     ensures { result ≡ sha256 (with_line_feeds bytes.now) }
 {

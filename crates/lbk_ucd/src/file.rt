@@ -20,10 +20,10 @@ use std::alloc::Global;
 /// The most bytes of a property file.
 pub const LONGEST_FILE: usize = 8_388_608;
 
-/// How many bytes a line has at most, without its LF.
+/// The most bytes of a line, without its LF.
 const LONGEST_LINE: usize = 1_024;
 
-/// What a file assigns to codes, or the first fault of the file.
+/// Reads a file: the values of code points, or its first fault.
 pub(crate) fn read_file<V: Copy>(
     alloc: Global,
     which: Which,
@@ -73,7 +73,7 @@ pub(crate) fn read_file<V: Copy>(
     }
 }
 
-/// Keeps what a line gives, or returns its first cause.
+/// Keeps the entry of a line, or returns its first cause.
 #[tactic(auto, unfolding(crate::specs::File::cause_beside))]
 fn take_line<V: Copy>(
     gathered: &mut Gathered<V>,
@@ -139,7 +139,7 @@ fn take_entry<V: Copy>(
     }
 }
 
-/// Keeps a row, unless it shares a code with one that is kept, or there is no room.
+/// Keeps a row, unless it shares a code point with a kept one, or there is no room.
 fn keep_row<V: Copy>(gathered: &mut Gathered<V>, row: Row<V>) -> Result<(), UcdCause>
     requires { IsRange row }
     ensures none { OnOk result (cause_of_kept gathered.old.rows.items (count_of gathered.old) row.first row.last
@@ -176,7 +176,7 @@ fn keep_default<V: Copy>(gathered: &mut Gathered<V>, row: Row<V>) -> Result<(), 
     }
 }
 
-/// Without a byte order mark at the front.
+/// The bytes without a leading byte order mark.
 fn without_mark(bytes: &[u8]) -> &[u8]
     ensures { result.now ≡ without_mark bytes.now }
 {

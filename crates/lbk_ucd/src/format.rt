@@ -1,4 +1,4 @@
-//! What tells the four property files apart.
+//! The differences between the four property files.
 
 ghost use Rattle.std.specs.Prelude.{◌≡◌};
 ghost use Rattle.lbk_ucd.specs.File.{named};
@@ -6,19 +6,19 @@ ghost use Rattle.lbk_ucd.specs.Shown.{shown_names};
 
 use lbk_values::{Category, EastAsian, LineBreak};
 
-/// What tells one property file from another.
+/// What differs from one property file to another.
 pub(crate) struct Format<V: 'static> {
-    /// The names that are taken, each with its value: first those of most rows of the published file.
+    /// The accepted names, each with its value, ordered by frequency in the published file.
     pub(crate) names: &'static [(&'static [u8], V)],
-    /// Whether rows of other names are passed over, and not refused.
+    /// Whether rows with other names are skipped instead of refused.
     pub(crate) others: bool,
     /// Whether the file has default lines.
     pub(crate) defaults: bool,
-    /// The value of codes that neither a row nor a default holds.
+    /// The value of code points in neither a row nor a default.
     pub(crate) unlisted: V,
 }
 
-/// The value of a name, exact in case.
+/// The value of a name; case matters.
 pub(crate) fn value_named<V: Copy>(names: &[(&'static [u8], V)], name: &[u8]) -> Option<V>
     ensures { result ≡ named (shown_names names.now) name.now }
 {
@@ -182,7 +182,7 @@ pub(crate) static CATEGORY: Format<Category> = Format {
     unlisted: Category::Cn,
 };
 
-/// emoji-data.txt, of which one property is kept.
+/// emoji-data.txt; only one property is kept.
 pub(crate) static EMOJI: Format<bool> = Format {
     names: &[(b"Extended_Pictographic", true)],
     others: true,

@@ -1,4 +1,4 @@
-//! The generic reader at each of the four files.
+//! The generic reader, for each of the four files.
 ghost use Rattle.std.specs.Prelude.{◌≡◌, ℕ, IfOk, IfErr, OnOk};
 ghost use Rattle.lbk_ucd.specs.Tables.{value_of};
 ghost use Rattle.lbk_ucd.specs.File.{IsLawful, IsRefusal, property_of};

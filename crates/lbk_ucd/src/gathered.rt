@@ -1,4 +1,4 @@
-//! What the lines of one file have given so far.
+//! The rows and defaults of one file so far.
 ghost use Rattle.std.specs.Prelude.{◌≡◌, ◌+◌, ◌<◌, ◌≤◌, ℕ, false, [], ◌∷◌, ◌++◌, length, not, nat_lt, IfOk, OnOk};
 ghost use Rattle.std.specs.Prelude.{OnErr};
 ghost use Rattle.std.specs.List.{All, AllPairs, list_any};
@@ -11,11 +11,11 @@ use crate::ranges::{Assigned, Row, shares_in_order, stand_before};
 use crate::taken::Taken;
 use std::alloc::{AllocError, Global};
 
-/// How many kept rows and defaults a file has at most.
+/// The most kept rows and defaults of a file.
 pub(crate) const MOST_ROWS: usize = 65_536;
 
-/// The kept rows and the default lines so far, in the order of the file, and the value of the codes that neither
-/// holds. `taken` has the codes that rows hold, from the first row on that does not stand behind all before it.
+/// The kept rows and default lines so far, in the order of the file, and the value of the other code points. `taken`
+/// has the code points of the rows, once a row does not come after all earlier ones.
 #[derive(Drop)]
 pub(crate) struct Gathered<V> {
     pub(crate) rows: Vec<Row<V>>,
@@ -34,7 +34,7 @@ impl<V: Copy> Gathered<V> {
     ghost use Rattle.lbk_ucd.specs.Reading.{count_of};
     ghost use Rattle.lbk_ucd.specs.Tables.{value_of};
 
-    /// Nothing yet.
+    /// No rows and no defaults.
     pub(crate) fn new(alloc: Global, unlisted: V) -> Self
         ensures rows { result.rows.items ≡ [] }
         ensures defaults { result.defaults.items ≡ [] }
@@ -56,14 +56,14 @@ impl<V: Copy> Gathered<V> {
         self.rows.len() + self.defaults.len()
     }
 
-    /// Whether there is room for no further row or default.
+    /// Whether no further row or default has room.
     pub(crate) fn is_full(&self) -> bool
         ensures { result ≡ not (nat_lt (count_of self.now) MOST_ROWS) }
     {
         self.rows.len() + self.defaults.len() >= MOST_ROWS
     }
 
-    /// Whether a row shares a code with the codes from `first` to `last`.
+    /// Whether a row has a code point from `first` to `last`.
     pub(crate) fn any_shares(&self, first: u32, last: u32) -> bool
         requires rises { first ≤ last }
         requires last { last ≤ 0x10FFFF }
@@ -76,7 +76,7 @@ impl<V: Copy> Gathered<V> {
         }
     }
 
-    /// Keeps a row that shares no code with those kept.
+    /// Keeps a row that shares no code point with the kept ones.
     pub(crate) fn add_row(&mut self, row: Row<V>) -> Result<(), AllocError>
         requires range { IsRange row }
         requires apart { list_any (shares row.first row.last) self.old.rows.items ≡ false }
@@ -91,7 +91,7 @@ impl<V: Copy> Gathered<V> {
         self.push_row(row)
     }
 
-    /// Keeps a row that stands behind all those kept, or beside them where their codes are taken.
+    /// Keeps a row that comes after all kept ones, or any other if `taken` has their code points.
     fn push_row(&mut self, row: Row<V>) -> Result<(), AllocError>
         requires range { IsRange row }
         requires apart { list_any (shares row.first row.last) self.old.rows.items ≡ false }
@@ -109,7 +109,7 @@ impl<V: Copy> Gathered<V> {
         Ok(())
     }
 
-    /// Keeps a default line after those kept.
+    /// Keeps a further default line.
     pub(crate) fn add_default(&mut self, row: Row<V>) -> Result<(), AllocError>
         requires range { IsRange row }
         requires room { count_of self.old < MOST_ROWS }
@@ -121,7 +121,7 @@ impl<V: Copy> Gathered<V> {
         Ok(())
     }
 
-    /// What the rows and defaults assign to codes. Where there are none, no memory is taken.
+    /// The values of code points by the rows and defaults. Allocates nothing if there are none.
     pub(crate) fn assigned(self, alloc: Global) -> Result<Assigned<V>, AllocError>
         ensures values { IfOk result
             (λ assigned. (code : ℕ) → value_of assigned code

@@ -1,4 +1,4 @@
-//! Laws of the definitions that the contracts cite. Each is the contract of a function with an empty body.
+//! Laws about the definitions. Each is the contract of a function with an empty body.
 ghost use Rattle.std.specs.Prelude.{◌≡◌, ◌==◌, ◌≤◌, ◌↔◌, ◌⊎◌, ℕ, Bool, true, false, not, List, Some};
 ghost use Rattle.std.specs.List.{AllPairs, list_any, list_all, join_with_byte};
 ghost use Rattle.lbk_ucd.specs.declared.ranges.Row.{Row};
@@ -12,21 +12,20 @@ ghost use Rattle.lbk_ucd.specs.Grammar.{IsSaid};
 ghost use Rattle.lbk_ucd.specs.PropertyLine.{Meaning, meaning_of};
 ghost use Rattle.lbk_ucd.specs.Rows.{holds, shares, AreApart};
 
-/// What a line of a property file says is what the grammar relates to its bytes, and nothing else (UAX #44, section
-/// 4.2).
+/// A line of a property file means what the grammar relates to its bytes, and nothing else (UAX #44, section 4.2).
 pub fn lines_say_what_the_grammar_has()
     ensures { (defaults : Bool) (line : List ℕ) (meaning : Meaning) → (meaning_of defaults line ≡ Some meaning)
         ↔ IsSaid defaults line meaning }
 {}
 
-/// The lines of a file, with an LF between each two, are the file without its byte order mark, and no line holds an LF.
+/// The lines of a file, joined by LF, are the file without its byte order mark, and no line has an LF.
 pub fn lines_make_up_the_file()
     ensures joined { (bytes : List ℕ) → join_with_byte 10 (lines_of bytes) ≡ without_mark bytes }
     ensures apart { (bytes : List ℕ) → list_all (λ line. not (list_any (λ byte. byte == 10) line)) (lines_of bytes)
         ≡ true }
 {}
 
-/// A row shares a code with a range exactly if some code of the range is one that the row holds.
+/// A row shares a code point with a range exactly if it has a code point of the range.
 pub fn shared_codes_are_held<V: Copy>()
     ensures { (first last : ℕ) (row : Row V) → first ≤ last → row.first ≤ row.last
         → (shares first last row ≡ true) ↔ ((code : ℕ) × (first ≤ code) × (code ≤ last) × (holds code row ≡ true)) }
@@ -42,13 +41,13 @@ pub fn files_have_one_fault_or_none<V: Copy>()
         → IsFault format bytes line cause → IsFault format bytes other why → (line ≡ other) × (cause ≡ why) }
 {}
 
-/// No code is in two kept rows of a well-formed file, so the row that holds a code is one.
+/// No code point is in two kept rows of a well-formed file, so at most one row has it.
 pub fn kept_rows_are_apart<V: Copy>()
     ensures { (format : Format V) (bytes : List ℕ) → IsLawful format bytes
         → AllPairs AreApart (rows_in format (lines_of bytes)) }
 {}
 
-/// Files without a fault are refused only where memory runs out.
+/// Files without a fault are refused only if memory runs out.
 pub fn lawful_files_want_memory()
     ensures { (files : Files) (fault : UcdFault) → AreLawful files → IsRefused files fault → fault.cause
         ≡ UcdCause.Memory }

@@ -1,5 +1,5 @@
-//! The property files of Unicode that line breaking reads, and the tables that are made of them; the four that Unicode
-//! 15.0.0 published: their names and digests, and in words what is wrong with one.
+//! The property files that line breaking needs, and the tables made from them; the names and digests of the files that
+//! Unicode 15.0.0 published, and the texts about wrong ones.
 #![tactic(auto)]
 
 mod causes;

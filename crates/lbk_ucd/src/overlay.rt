@@ -1,4 +1,4 @@
-//! Ranges of codes that may share codes, made into ranges that share none.
+//! Makes disjoint ranges of overlapping ones.
 ghost use Rattle.std.specs.Prelude.{◌≡◌, ◌<◌, ◌≤◌, ℕ, true, false, length, reverse, IfOk, OnErr};
 ghost use Rattle.std.specs.List.{All, AllPairs};
 ghost use Rattle.lbk_ucd.specs.Ranges.{IsInOrder, IsOverlay, IsRange};
@@ -7,7 +7,7 @@ ghost use Rattle.lbk_ucd.specs.Rows.{AreApart, first_value};
 use crate::ranges::{LAST_CODE, Row, next_from, stretch_from};
 use std::alloc::{AllocError, Global};
 
-/// Rows of which no two share a code, in the order of their codes.
+/// Disjoint rows, sorted by code point.
 pub(crate) fn sorted<V: Copy>(rows: Vec<Row<V>>) -> Result<Vec<Row<V>>, AllocError>
     requires ranges { All IsRange rows.items }
     requires apart { AllPairs AreApart rows.items }
@@ -21,8 +21,7 @@ pub(crate) fn sorted<V: Copy>(rows: Vec<Row<V>>) -> Result<Vec<Row<V>>, AllocErr
     Ok(sorted)
 }
 
-/// Rows that share no code, sorted by their codes, in which a code has the value of the last of these rows that holds
-/// it.
+/// Disjoint rows, sorted by code point; a code point has the value of the last given row that has it.
 pub(crate) fn flatten<V: Copy>(alloc: Global, rows: &[Row<V>]) -> Result<Vec<Row<V>>, AllocError>
     requires { All IsRange rows.now }
     ensures ordered { IfOk result (λ flat. IsInOrder flat.items) }
@@ -38,7 +37,7 @@ pub(crate) fn flatten<V: Copy>(alloc: Global, rows: &[Row<V>]) -> Result<Vec<Row
     overlay(alloc, &under, &over)
 }
 
-/// Sorted rows in which a code has its value of `over`, or else that of `under`.
+/// Sorted rows; a code point has its value in `over`, or else in `under`.
 pub(crate) fn overlay<V: Copy>(
     alloc: Global,
     under: &[Row<V>],

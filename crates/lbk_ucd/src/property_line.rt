@@ -1,4 +1,4 @@
-//! What a line of a property file says (UAX #44, section 4.2).
+//! The lines of a property file (UAX #44, section 4.2).
 
 ghost use Rattle.std.specs.Prelude.{◌≡◌, ◌==◌, ◌+◌, ◌-◌, ◌≤◌, drop, length};
 ghost use Rattle.std.specs.List.{prefix_len, suffix_len, position_or_len, before_first, after_first, list_all};
@@ -9,7 +9,7 @@ ghost use Rattle.lbk_ucd.specs.Shown.{shown_entry, shown_meaning, shown_name};
 
 use memchr::memchr;
 
-/// The codes from `first` to `last`, and the name of a value.
+/// The code points from `first` to `last`, and the name of a value.
 #[derive(Clone, Copy)]
 pub(crate) struct Entry<'a> {
     pub(crate) first: u32,
@@ -17,7 +17,7 @@ pub(crate) struct Entry<'a> {
     pub(crate) name: &'a [u8],
 }
 
-/// What a line says: nothing, that codes have a value, or which value they have where no row holds them.
+/// The content of a line: nothing, a row that gives code points a value, or a default for code points without a row.
 #[derive(Clone, Copy)]
 pub(crate) enum Meaning<'a> {
     Nothing,
@@ -25,8 +25,8 @@ pub(crate) enum Meaning<'a> {
     Default(Entry<'a>),
 }
 
-/// What a line without its LF says (UAX #44, section 4.2), or None for one that is none of the grammar.
-/// `@missing` lines are read where the file has defaults, and are comments elsewhere.
+/// Parses a line without its LF (UAX #44, section 4.2), or returns `None` if the grammar does not allow it. `@missing`
+/// lines are defaults in a file with defaults, and comments in others.
 #[tactic(auto, unfolding(crate::specs::PropertyLine::meaning_of))]
 pub(crate) fn meaning_of(line: &[u8], defaults: bool) -> Option<Meaning<'_>>
     ensures { option_map shown_meaning result ≡ meaning_of defaults line.now }
@@ -45,7 +45,7 @@ pub(crate) fn meaning_of(line: &[u8], defaults: bool) -> Option<Meaning<'_>>
     }
 }
 
-/// The entry of a default line, of what stands after the first `#`.
+/// The entry of a default line, from the text after its first `#`.
 #[tactic(auto, unfolding(crate::specs::PropertyLine::default_of))]
 fn default_of(comment: &[u8]) -> Option<Entry<'_>>
     ensures { option_map shown_entry result ≡ default_of comment.now }
@@ -65,7 +65,7 @@ fn entry_of(bytes: &[u8], single: bool) -> Option<Entry<'_>>
     Some(Entry { first, last, name })
 }
 
-/// The ends of `code..code`, or where `single` also of one code.
+/// The ends of `code..code`, or, if `single`, also of one code point.
 #[tactic(auto, unfolding(crate::specs::PropertyLine::range_of))]
 fn range_of(field: &[u8], single: bool) -> Option<(u32, u32)>
     ensures { result ≡ range_of single field.now }
@@ -115,7 +115,7 @@ fn name_of(field: &[u8]) -> Option<&[u8]>
     Some(field)
 }
 
-/// Whether white space is all that there is.
+/// Whether there is only white space.
 fn is_blank(bytes: &[u8]) -> bool
     ensures { result ≡ list_all is_space bytes.now }
 {
@@ -140,7 +140,7 @@ fn is_name_byte(byte: u8) -> bool
     byte.is_ascii_alphanumeric() || byte == b'_'
 }
 
-/// Without the white space at both ends.
+/// The text without white space at both ends.
 fn trimmed(bytes: &[u8]) -> &[u8]
     ensures { result.now ≡ trimmed bytes.now }
 {
@@ -148,14 +148,14 @@ fn trimmed(bytes: &[u8]) -> &[u8]
     &rest[..end_of_text(rest)]
 }
 
-/// Without the white space at the front.
+/// The text without leading white space.
 fn trimmed_start(bytes: &[u8]) -> &[u8]
     ensures { result.now ≡ trimmed_start bytes.now }
 {
     &bytes[start_of_text(bytes)..]
 }
 
-/// The number of white spaces at the front.
+/// The number of leading white spaces.
 fn start_of_text(bytes: &[u8]) -> usize
     ensures within { result ≤ length bytes.now }
     ensures start { result ≡ prefix_len is_space bytes.now }
@@ -168,7 +168,7 @@ fn start_of_text(bytes: &[u8]) -> usize
     bytes.len()
 }
 
-/// The place where the white space at the end begins.
+/// The offset of the trailing white space.
 fn end_of_text(bytes: &[u8]) -> usize
     ensures within { result ≤ length bytes.now }
     ensures end { result ≡ length bytes.now - suffix_len is_space bytes.now }
@@ -180,7 +180,7 @@ fn end_of_text(bytes: &[u8]) -> usize
     end
 }
 
-/// Without a carriage return at the end.
+/// The text without a trailing carriage return.
 fn without_return(line: &[u8]) -> &[u8]
     ensures { result.now ≡ without_return line.now }
 {
@@ -190,21 +190,21 @@ fn without_return(line: &[u8]) -> &[u8]
     }
 }
 
-/// What stands before the first such byte, or all where there is none.
+/// The text before the first such byte, or all if there is none.
 fn before(bytes: &[u8], byte: u8) -> &[u8]
     ensures { result.now ≡ before_first (λ b. b == byte) bytes.now }
 {
     &bytes[..place_of(bytes, byte)]
 }
 
-/// What stands after the first such byte, or nothing where there is none.
+/// The text after the first such byte, or nothing if there is none.
 fn after(bytes: &[u8], byte: u8) -> &[u8]
     ensures { result.now ≡ after_first (λ b. b == byte) bytes.now }
 {
     behind(bytes, place_of(bytes, byte))
 }
 
-/// What stands behind a place, or nothing past the end.
+/// The text after an offset, or nothing past the end.
 fn behind(bytes: &[u8], place: usize) -> &[u8]
     ensures { result.now ≡ drop (place + 1) bytes.now }
 {
@@ -215,7 +215,7 @@ fn behind(bytes: &[u8], place: usize) -> &[u8]
     }
 }
 
-/// The place of the first such byte, or the length where there is none.
+/// The offset of the first such byte, or the length if there is none.
 pub(crate) fn place_of(bytes: &[u8], byte: u8) -> usize
     ensures within { result ≤ length bytes.now }
     ensures place { result ≡ position_or_len (λ b. b == byte) bytes.now }

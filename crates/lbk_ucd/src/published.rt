@@ -1,4 +1,4 @@
-//! The property files that Unicode 15.0.0 published, and what another file says of itself.
+//! Checks files against those that Unicode 15.0.0 published, and finds the version that another file claims.
 
 ghost use Rattle.std.specs.Prelude.{◌≡◌, ◌∷◌, ◌≤◌, ℕ, List, drop, length, take, MatchOption, MatchResult};
 ghost use Rattle.std.specs.Str.Parse.{AllDigits};
@@ -26,19 +26,19 @@ const RULES: Version = Version {
     update: 0,
 };
 
-/// Why a file is not the one of Unicode 15.0.0 that it has to be.
+/// Why a file is not the expected one of Unicode 15.0.0.
 #[derive(Clone, Copy, Debug, PartialEq, Eq)]
 pub enum ClaimCause {
-    /// It names no version as a file of its name does.
+    /// It names no version in the way of files of its name.
     Title,
-    /// It is of another version.
+    /// It has another version.
     Version(Version),
-    /// It names the version 15.0.0, and is not the published file.
+    /// It names the version 15.0.0, but is not the published file.
     Changed,
 }
 
-/// Tests that a file is, byte for byte, the one of its name that Unicode 15.0.0 published, by its SHA-256 digest, where
-/// CR LF at the end of a line counts as LF. The error is that of [`claim_of`].
+/// Checks by SHA-256 that a file is, byte for byte, the one of its name that Unicode 15.0.0 published; CR LF at the end
+/// of a line counts as LF. The error is that of [`claim_of`].
 pub fn check_claim(which: Which, bytes: &[u8]) -> Result<(), ClaimCause>
     ensures { MatchResult result (λ _. IsPublished which bytes.now) (IsClaimCause which bytes.now) }
 {
@@ -48,8 +48,8 @@ pub fn check_claim(which: Which, bytes: &[u8]) -> Result<(), ClaimCause>
     Err(claim_of(which, bytes))
 }
 
-/// What a file is that is not the published one: `Version` is the version that it names where that is not 15.0.0,
-/// `Changed` is returned if it names 15.0.0, and `Title` where it names none.
+/// Why a file is not the published one: `Version` if it names a version other than 15.0.0, `Changed` if it names
+/// 15.0.0, and `Title` if it names none.
 pub fn claim_of(which: Which, bytes: &[u8]) -> ClaimCause
     ensures { IsNamedWrong which bytes.now result }
 {
@@ -60,7 +60,7 @@ pub fn claim_of(which: Which, bytes: &[u8]) -> ClaimCause
     }
 }
 
-/// The version that a file of this name has.
+/// The version that a file of this name names.
 fn version_in(which: Which, bytes: &[u8]) -> Option<Version>
     ensures { MatchOption result (¬ ((version : Version) × NamesVersion which bytes.now version))
         (NamesVersion which bytes.now) }
@@ -73,7 +73,7 @@ fn version_in(which: Which, bytes: &[u8]) -> Option<Version>
     version_at(&bytes[at + words.len()..])
 }
 
-/// The version that bytes begin with.
+/// The version at the start of bytes.
 fn version_at(bytes: &[u8]) -> Option<Version>
     ensures { MatchOption result (¬ ((version : Version) × BeginsWithVersion bytes.now version))
         (BeginsWithVersion bytes.now) }
@@ -100,7 +100,7 @@ fn update_at(bytes: &[u8]) -> u32
     }
 }
 
-/// What a file of any version begins with.
+/// The start of a file of any version.
 fn name_before_version(which: Which) -> &'static str
     ensures { result.now ≡ name_before_version which }
 {
@@ -112,7 +112,7 @@ fn name_before_version(which: Which) -> &'static str
     }
 }
 
-/// What stands before the version of a file.
+/// The text before the version in a file.
 fn words_before_version(which: Which) -> &'static str
     ensures { result.now ≡ words_before_version which }
 {
@@ -122,7 +122,7 @@ fn words_before_version(which: Which) -> &'static str
     }
 }
 
-/// What stands after the dot that bytes begin with.
+/// The bytes after a leading dot.
 fn after_dot(bytes: &[u8]) -> Option<&[u8]>
     ensures { MatchOption result (¬ ((rest : List ℕ) × (bytes.now ≡ 46 ∷ rest))) (λ rest. bytes.now ≡ 46 ∷ rest.now) }
 {
@@ -132,7 +132,7 @@ fn after_dot(bytes: &[u8]) -> Option<&[u8]>
     }
 }
 
-/// The number that bytes begin with, and what stands after it.
+/// The number at the start of bytes, and the bytes after it.
 fn number(bytes: &[u8]) -> Option<(u32, &[u8])>
     ensures { MatchOption result (¬ ((number : ℕ) × (rest : List ℕ) × BeginsWithNumber bytes.now number rest))
         (λ read. BeginsWithNumber bytes.now read.0 read.1.now) }
@@ -147,7 +147,7 @@ fn number(bytes: &[u8]) -> Option<(u32, &[u8])>
     }
 }
 
-/// How many digits bytes begin with.
+/// The number of leading digits.
 fn digits_ahead(bytes: &[u8]) -> usize
     ensures within { result ≤ length bytes.now }
     ensures digits { AllDigits 10 (take result bytes.now) }

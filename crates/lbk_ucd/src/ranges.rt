@@ -1,14 +1,14 @@
-//! Ranges of codes with a value, and look-ups in them.
+//! Ranges of code points with a value, and look-ups in them.
 
 ghost use Rattle.std.specs.Prelude.{◌≡◌, ◌≤◌, ◌<◌, ℕ, true, length, unwrap_or};
 ghost use Rattle.std.specs.List.{All, AllWithin, list_any};
 ghost use Rattle.lbk_ucd.specs.Ranges.{IsInOrder};
 ghost use Rattle.lbk_ucd.specs.Rows.{first_value, shares};
 
-/// The greatest code.
+/// The greatest code point.
 pub(crate) const LAST_CODE: u32 = 0x10_FFFF;
 
-/// The codes from `first` to `last`, both included, and the value that they have.
+/// The code points from `first` to `last`, both included, and their value.
 #[derive(Clone, Copy)]
 pub(crate) struct Row<V> {
     pub(crate) first: u32,
@@ -16,7 +16,7 @@ pub(crate) struct Row<V> {
     pub(crate) value: V,
 }
 
-/// A value, the last code up to which all codes have it, and the place of the first row that doesn't end before the
+/// A value, the last code point up to which all have it, and the index of the first row that does not end before the
 /// first of them.
 #[derive(Clone, Copy)]
 pub(crate) struct Stretch<V> {
@@ -25,7 +25,7 @@ pub(crate) struct Stretch<V> {
     pub(crate) at: usize,
 }
 
-/// What one file assigns to codes: rows that share no code, sorted by their codes, and the value of the other codes.
+/// The values of code points in one file: disjoint rows, sorted by code point, and the value of all other code points.
 #[derive(Drop)]
 pub(crate) struct Assigned<V> {
     pub(crate) rows: Vec<Row<V>>,
@@ -36,15 +36,15 @@ pub(crate) struct Assigned<V> {
 impl<V: Copy> Assigned<V> {
     ghost use Rattle.lbk_ucd.specs.Tables.{value_of};
 
-    /// The value of a code.
+    /// The value of a code point.
     pub(crate) fn value(&self, code: u32) -> V
         ensures { result ≡ value_of self.now code }
     {
         row_value(&self.rows, code).unwrap_or(self.unlisted)
     }
 
-    /// The value of a code, and the last code up to which all codes have it. It is found soon where `near` is the
-    /// place of a stretch that ends a little before the code.
+    /// The value of a code point, and the last one up to which all have it. The look-up is fast if `near` is the index
+    /// of a range that ends a little before the code point.
     pub(crate) fn stretch(&self, code: u32, near: usize) -> Stretch<V>
         requires { code ≤ 0x10FFFF }
         ensures last { (code ≤ result.last) × (result.last ≤ 0x10FFFF) }
@@ -59,7 +59,7 @@ impl<V: Copy> Assigned<V> {
     }
 }
 
-/// Whether one of sorted rows shares a code with the codes from `first` to `last`.
+/// Whether one of the sorted rows has a code point from `first` to `last`.
 pub(crate) fn shares_in_order<V: Copy>(rows: &[Row<V>], first: u32, last: u32) -> bool
     requires ordered { IsInOrder rows.now }
     requires rises { first ≤ last }
@@ -69,7 +69,7 @@ pub(crate) fn shares_in_order<V: Copy>(rows: &[Row<V>], first: u32, last: u32) -
     at < rows.len() && rows[at].first <= last
 }
 
-/// Whether all of sorted rows end before a code.
+/// Whether all of the sorted rows end before a code point.
 pub(crate) fn stand_before<V: Copy>(rows: &[Row<V>], code: u32) -> bool
     requires { IsInOrder rows.now }
     ensures { result ≡ true → All (λ row. row.last < code) rows.now }
@@ -77,7 +77,7 @@ pub(crate) fn stand_before<V: Copy>(rows: &[Row<V>], code: u32) -> bool
     first_near(rows, code, rows.len()) == rows.len()
 }
 
-/// The value of the row that holds a code, by a binary search.
+/// The value of the row that has a code point, by binary search.
 fn row_value<V: Copy>(rows: &[Row<V>], code: u32) -> Option<V>
     requires { IsInOrder rows.now }
     ensures { result ≡ first_value code rows.now }
@@ -90,8 +90,8 @@ fn row_value<V: Copy>(rows: &[Row<V>], code: u32) -> Option<V>
     }
 }
 
-/// The value of the row that holds a code, if one does, and the last code up to which this stays so. The rows before
-/// `at` end before the code, and the others don't.
+/// The value of the row that has a code point, if one has it, and the last code point with the same result. The rows
+/// before `at` end before the code point, the others do not.
 pub(crate) fn stretch_from<V: Copy>(rows: &[Row<V>], at: usize, code: u32) -> Stretch<Option<V>>
     requires ordered { IsInOrder rows.now }
     requires code { code ≤ 0x10FFFF }
@@ -124,7 +124,7 @@ pub(crate) fn stretch_from<V: Copy>(rows: &[Row<V>], at: usize, code: u32) -> St
     }
 }
 
-/// The place of the first row that doesn't end before a code, or the number of rows.
+/// The index of the first row that does not end before a code point, or the number of rows.
 fn first_from<V: Copy>(rows: &[Row<V>], code: u32) -> usize
     requires { IsInOrder rows.now }
     ensures within { result ≤ length rows.now }
@@ -134,7 +134,7 @@ fn first_from<V: Copy>(rows: &[Row<V>], code: u32) -> usize
     rows.partition_point(|row| row.last < code)
 }
 
-/// The same, looked for from a place on where the rows before it end before the code.
+/// The same, searched from an index on; the rows before it end before the code point.
 fn first_near<V: Copy>(rows: &[Row<V>], code: u32, near: usize) -> usize
     requires { IsInOrder rows.now }
     ensures within { result ≤ length rows.now }
@@ -148,7 +148,7 @@ fn first_near<V: Copy>(rows: &[Row<V>], code: u32, near: usize) -> usize
     }
 }
 
-/// The place of the first row that doesn't end before a code, where those before `at` do.
+/// The index of the first row that does not end before a code point; those before `at` do.
 pub(crate) fn next_from<V: Copy>(rows: &[Row<V>], at: usize, code: u32) -> usize
     requires ordered { IsInOrder rows.now }
     requires within { at ≤ length rows.now }

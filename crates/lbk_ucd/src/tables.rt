@@ -1,4 +1,4 @@
-//! The four properties of every code, out of the property files.
+//! The four properties of every code point, from the property files.
 
 ghost use Rattle.std.specs.Prelude.{◌≡◌, ◌≤◌, ℕ, IfOk, IfErr, OnOk};
 
@@ -21,7 +21,7 @@ pub struct Files<'a> {
     pub emoji: &'a [u8],
 }
 
-/// The four properties of every code, as the files give them.
+/// The four properties of every code point, by the files.
 #[derive(Drop)]
 pub struct Tables {
     line_break: Assigned<LineBreak>,
@@ -30,7 +30,7 @@ pub struct Tables {
     pictographic: Assigned<bool>,
 }
 
-/// The properties of a code, which all codes from it to `last` have.
+/// The properties of a code point, and of all code points from it to `last`.
 #[derive(Clone, Copy, PartialEq, Eq, Debug)]
 pub struct Run {
     /// Line_Break (UAX #14, section 5).
@@ -41,14 +41,14 @@ pub struct Run {
     pub category: Category,
     /// Extended_Pictographic (UTS #51, Annex A).
     pub is_pictographic: bool,
-    /// The last code that is known to have them, at most 10FFFF.
+    /// The last code point that is known to have them, at most 10FFFF.
     pub last: u32,
-    /// Where they were found.
+    /// Where the look-up found them.
     pub places: Places,
 }
 
-/// Where the properties of a code were found in the tables, by which those of the next codes are found sooner. No
-/// result depends on it.
+/// Where the properties of a code point were found in the tables, a hint for the next code points. No result depends on
+/// it.
 #[derive(Clone, Copy, PartialEq, Eq, Debug)]
 pub struct Places {
     line_break: usize,
@@ -58,7 +58,7 @@ pub struct Places {
 }
 
 impl Places {
-    /// Before all codes.
+    /// Before all code points.
     pub const START: Places = Places {
         line_break: 0,
         east_asian: 0,
@@ -73,8 +73,8 @@ impl Tables {
     ghost use Rattle.lbk_ucd.specs.Files.{AreLawful, IsRefused};
     ghost use Rattle.lbk_ucd.specs.Names.{line_break_format, east_asian_format, category_format, emoji_format};
 
-    /// The tables of four files without a fault; else the first fault of the first file that has one, or `Memory` at
-    /// a line where the tables couldn't grow. Lines count from 1; a file that is too long is refused at line 0.
+    /// The tables of four files without a fault. Otherwise the first fault of the first file that has one, or `Memory`
+    /// at a line where the tables could not grow. Lines count from 1; a file that is too long is refused at line 0.
     #[tactic(auto, unfolding(crate::specs::Tables::line_break_of, crate::specs::Tables::east_asian_of, crate::specs::Tables::category_of, crate::specs::Tables::is_pictographic_of))]
     pub fn read(alloc: Global, files: Files<'_>) -> Result<Tables, UcdFault>
         ensures lawful { OnOk result (AreLawful files.entry) }
@@ -104,7 +104,7 @@ impl Tables {
         })
     }
 
-    /// Line_Break of a code, which is at most 10FFFF (UAX #14, section 5).
+    /// Line_Break of a code point, at most 10FFFF (UAX #14, section 5).
     #[tactic(auto, unfolding(crate::specs::Tables::line_break_of))]
     pub fn line_break(&self, code: u32) -> LineBreak
         requires { code ≤ 0x10FFFF }
@@ -113,7 +113,7 @@ impl Tables {
         self.line_break.value(code)
     }
 
-    /// East_Asian_Width of a code, which is at most 10FFFF (UAX #11).
+    /// East_Asian_Width of a code point, at most 10FFFF (UAX #11).
     #[tactic(auto, unfolding(crate::specs::Tables::east_asian_of))]
     pub fn east_asian(&self, code: u32) -> EastAsian
         requires { code ≤ 0x10FFFF }
@@ -122,7 +122,7 @@ impl Tables {
         self.east_asian.value(code)
     }
 
-    /// General_Category of a code, which is at most 10FFFF (Unicode Standard, section 4.5).
+    /// General_Category of a code point, at most 10FFFF (Unicode Standard, section 4.5).
     #[tactic(auto, unfolding(crate::specs::Tables::category_of))]
     pub fn category(&self, code: u32) -> Category
         requires { code ≤ 0x10FFFF }
@@ -131,7 +131,7 @@ impl Tables {
         self.category.value(code)
     }
 
-    /// Extended_Pictographic of a code, which is at most 10FFFF (UTS #51, Annex A).
+    /// Extended_Pictographic of a code point, at most 10FFFF (UTS #51, Annex A).
     #[tactic(auto, unfolding(crate::specs::Tables::is_pictographic_of))]
     pub fn is_pictographic(&self, code: u32) -> bool
         requires { code ≤ 0x10FFFF }
@@ -140,9 +140,9 @@ impl Tables {
         self.pictographic.value(code)
     }
 
-    /// The four properties of a code, which is at most 10FFFF, and a last code up to which all codes have them. So
-    /// all codes are gone through range by range: from 0, and each time from the code after `last` and near the
-    /// places found, until `last` is 10FFFF.
+    /// The four properties of a code point, at most 10FFFF, and a last code point up to which all have them. To visit
+    /// all code points range by range, start at 0 and continue with the one after `last`, with the hint found, until
+    /// `last` is 10FFFF.
     #[tactic(auto, unfolding(crate::specs::Tables::line_break_of, crate::specs::Tables::east_asian_of, crate::specs::Tables::category_of, crate::specs::Tables::is_pictographic_of))]
     pub fn run(&self, code: u32, near: Places) -> Run
         requires { code ≤ 0x10FFFF }

@@ -1,4 +1,4 @@
-//! Which codes rows hold.
+//! The code points that rows have.
 ghost use Rattle.std.specs.Prelude.{◌≡◌, ◌+◌, ◌*◌, ◌^◌, ◌<◌, ◌≤◌, ◌⊎◌, ◌&&◌, ℕ, true, false, [], length, nat_le, OnErr, OnOk};
 ghost use Rattle.std.specs.List.{All};
 ghost use Rattle.lbk_masks.specs.Bits.{is_marked};
@@ -10,13 +10,13 @@ use crate::ranges::Row;
 use lbk_masks::{join, kept_from};
 use std::alloc::{AllocError, Global};
 
-/// How many codes a word has bits for.
+/// How many code points a word has bits for.
 const BITS: usize = 64;
 
-/// How many words have a bit for each code.
+/// How many words have a bit for each code point.
 const WORDS: usize = 17_408;
 
-/// A bit for each code, or none at all before a code is taken.
+/// A bit for each code point, or no bits before one is taken.
 #[derive(Drop)]
 pub(crate) struct Taken {
     words: Vec<u64>,
@@ -24,7 +24,7 @@ pub(crate) struct Taken {
 }
 
 impl Taken {
-    /// No code is taken.
+    /// No code point is taken.
     pub(crate) fn new(alloc: Global) -> Self
         ensures { result.words.items ≡ [] }
     {
@@ -33,7 +33,7 @@ impl Taken {
         }
     }
 
-    /// Whether no code was taken yet.
+    /// Whether no code point is taken.
     pub(crate) fn is_unused(&self) -> bool
         ensures yes { result ≡ true → self.now.words.items ≡ [] }
         ensures no { result ≡ false → 0 < length self.now.words.items }
@@ -41,7 +41,7 @@ impl Taken {
         self.words.is_empty()
     }
 
-    /// Whether a code from `first` to `last` is taken.
+    /// Whether a code point from `first` to `last` is taken.
     pub(crate) fn any(&self, first: u32, last: u32) -> bool
         requires rises { first ≤ last }
         requires within { last ≤ 0x10FFFF }
@@ -51,7 +51,7 @@ impl Taken {
         !self.words.is_empty() && any_marked(&self.words, first as usize, last as usize)
     }
 
-    /// Takes the codes of some rows, as the first ones. On an error none is taken.
+    /// Takes the code points of the first rows. On an error none is taken.
     pub(crate) fn add_rows<V: Copy>(&mut self, rows: &[Row<V>]) -> Result<(), AllocError>
         requires unused { self.old.words.items ≡ [] }
         requires ranges { All IsRange rows.now }
@@ -64,7 +64,7 @@ impl Taken {
         Ok(())
     }
 
-    /// Takes the codes from `first` to `last` beside others.
+    /// Takes the code points from `first` to `last`, too.
     pub(crate) fn add(&mut self, first: u32, last: u32)
         requires rises { first ≤ last }
         requires within { last ≤ 0x10FFFF }
@@ -78,7 +78,7 @@ impl Taken {
     }
 }
 
-/// Sets the bits of the codes of these rows, where none is set.
+/// Sets the bits of the code points of these rows; none was set before.
 fn mark_rows<V: Copy>(words: &mut [u64], rows: &[Row<V>])
     requires room { length words.old ≡ WORDS }
     requires unset { (k : ℕ) → is_marked words.old k ≡ false }
@@ -90,7 +90,7 @@ fn mark_rows<V: Copy>(words: &mut [u64], rows: &[Row<V>])
     }
 }
 
-/// Sets the bits of the codes from `first` to `last`.
+/// Sets the bits of the code points from `first` to `last`.
 fn mark_all(words: &mut [u64], first: usize, last: usize)
     requires { (last ≤ 0x10FFFF) × (last < 64 * length words.old) }
     ensures inside { (k : ℕ) → first ≤ k → k ≤ last → is_marked words.new k ≡ true }
@@ -101,7 +101,7 @@ fn mark_all(words: &mut [u64], first: usize, last: usize)
     }
 }
 
-/// Whether a code from `first` to `last` has its bit set.
+/// Whether the bit of a code point from `first` to `last` is set.
 fn any_marked(words: &[u64], first: usize, last: usize) -> bool
     requires rises { first ≤ last }
     requires within { (last ≤ 0x10FFFF) × (last < 64 * length words.now) }
@@ -115,7 +115,7 @@ fn any_marked(words: &[u64], first: usize, last: usize) -> bool
     any
 }
 
-/// The bits of a word that stand for codes from `first` to `last`.
+/// The bits of a word for code points from `first` to `last`.
 #[inline(always)]
 fn bits_within(word: usize, first: usize, last: usize) -> u64
     requires { (word < 2 ^ 32) × (last < 2 ^ 32) }
@@ -124,7 +124,7 @@ fn bits_within(word: usize, first: usize, last: usize) -> u64
     bits_from(word, first) & !bits_from(word, last + 1)
 }
 
-/// The bits of a word that stand for codes from `first` on.
+/// The bits of a word for code points from `first` on.
 #[inline(always)]
 fn bits_from(word: usize, first: usize) -> u64
     requires { word < 2 ^ 32 }

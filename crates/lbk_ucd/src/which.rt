@@ -1,4 +1,4 @@
-//! Which of the four property files.
+//! The four property files.
 
 /// One of the four property files: LineBreak.txt, EastAsianWidth.txt, DerivedGeneralCategory.txt and emoji-data.txt.
 #[derive(Clone, Copy, PartialEq, Eq, Debug)]

@@ -1,6 +1,7 @@
-//! The values of the properties that line breaking reads, and which set of rules decides.
+//! The values of the properties that line breaking uses, and the two sets of rules.
 //!
-//! They stand below all, so that the command line waits for no rules, and the rules for no property files.
+//! A crate below all others, so that the command line does not wait for the rules, nor the rules for the property
+//! files.
 #![tactic(auto)]
 
 mod profile;

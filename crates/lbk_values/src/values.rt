@@ -1,4 +1,4 @@
-//! The values of the properties that line breaking reads.
+//! The values of the properties that line breaking uses.
 
 /// A value of the property Line_Break (UAX #14, section 5), under its long name.
 #[derive(Clone, Copy, PartialEq, Eq, Debug)]
