@@ -8,7 +8,7 @@ use Rattle.lbk_feed.specs.Devices.{KeepsIfTold}
 abbrev pub items : Block → List ℕ
 items b = slice_range b.bytes b.start b.end
 
--- n bytes came from the front of those unread to the end of those held, none only at the end
+-- n bytes were moved from the front of those unread to the end of those held; 0 only at the end
 pub record Gives (old new : List ℕ) (before after : Option (List ℕ)) (n : ℕ) : Type 0 where
   pub got : List ℕ
   pub count : length got ≡ n
@@ -16,6 +16,6 @@ pub record Gives (old new : List ℕ) (before after : Option (List ℕ)) (n : �
   pub taken : Consumes before after got
   pub at_end : n ≡ 0 → IsAtEnd after
 
--- a read into the block that answered r
+-- a read into the block that returned r
 abbrev pub Fills : {E : Type 0} → List ℕ → List ℕ → Option (List ℕ) → Option (List ℕ) → Result ℕ E → Type 0
 Fills old new before after r = MatchResult r (Gives old new before after) (λ _. (new ≡ old) × KeepsIfTold before after)

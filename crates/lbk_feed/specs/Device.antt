@@ -1,4 +1,4 @@
--- What a `Device` shows: what it is over, and what it has counted.
+-- What a `Device` shows: its inner reader or writer, and its counts.
 use Rattle.std.specs.Prelude.{ℕ, Bool}
 use Rattle.lbk_feed.specs.Devices.{Reads}
 use Rattle.lbk_feed.specs.declared.adapter.Device.{Device}
@@ -7,7 +7,7 @@ use Rattle.lbk_feed.specs.declared.adapter.Device.{Device}
 unfoldable pub inner_of : {D : Type 0} → Device D → D
 inner_of d = d.inner
 
--- how many reads were made, and what the last gave
+-- how many reads were made, and how many bytes the last one returned
 unfoldable pub reads_of : {D : Type 0} → Device D → Reads
 reads_of d = record { count = d.tally.reads; gave = d.tally.gave }
 
@@ -15,6 +15,6 @@ reads_of d = record { count = d.tally.reads; gave = d.tally.gave }
 unfoldable pub failures_of : {D : Type 0} → Device D → ℕ
 failures_of d = d.tally.failures
 
--- whether a read with room gave no byte
+-- whether a read with room returned no byte
 unfoldable pub has_met_end : {D : Type 0} → Device D → Bool
 has_met_end d = d.tally.ended

@@ -1,4 +1,4 @@
--- What an intake shows, when it wants to read on, and what its reads do.
+-- What an intake shows, when it needs to read, and what its reads do.
 use Rattle.std.specs.Prelude.{◌≡◌, ◌⊎◌, ℕ, ◌+◌, ◌<◌, ◌≤◌, true, false, List, ◌++◌, length, take, Option}
 use Rattle.std.specs.Io.KnownBytes.{Consumes, IsAtEnd, prepend_known}
 use Rattle.lbk_feed.specs.Text.{longest_text}
@@ -12,18 +12,18 @@ use Rattle.lbk_feed.specs.View.{View, BeginsWith, CanGoOn, IsStill, AreDue}
 unfoldable pub view_of : Intake → View
 view_of i = record { held = items i.block; ready = take i.ready_len (items i.block); given = i.given; is_ended = i.is_ended; is_spent = i.is_spent }
 
--- nothing is ready, and what is held may go on: a read is due
+-- nothing is ready, and the held bytes may continue: a read is needed
 pub record WantsMore (i : Intake) : Type 0 where
   pub none_ready : i.ready_len ≡ 0
   pub few : length (items i.block) < 4
   pub goes_on : CanGoOn i.given (items i.block)
   pub open_end : i.is_ended ≡ false
 
--- a piece is ready, the bytes are at fault, more were read than a text may have, or the end was met
+-- a piece is ready, the bytes have a fault, more were read than a text may have, or the end was reached
 abbrev pub IsSettled : Intake → Type 0
 IsSettled i = (0 < i.ready_len) ⊎ ((i.stop ≡ Faulty) ⊎ ((longest_text < i.given + length (items i.block)) ⊎ (i.is_ended ≡ true)))
 
--- what reads that did not fail bring: `before` and `after` are the bytes unread, `from` and `to` the reads made
+-- the result of reads that did not fail: `before` and `after` are the unread bytes, `from` and `to` the reads made
 pub record Draws (old new : View) (before after : Option (List ℕ)) (from to : Reads) : Type 0 where
   pub got : List ℕ
   pub grown : new.held ≡ old.held ++ got
@@ -36,11 +36,11 @@ pub record Draws (old new : View) (before after : Option (List ℕ)) (from to : 
   pub but_one_gave : to.count ≤ from.count + length got + 1
   pub due : IsStill old.held new.held from to ⊎ AreDue old.given old.held new.held from to
 
--- what the source tells after it failed is what was unread without the bytes got
+-- after a failure, if the source still tells, the unread bytes are those before without the bytes returned
 abbrev pub KeepsAfter : List ℕ → Option (List ℕ) → Option (List ℕ) → Type 0
 KeepsAfter got before after = KeepsIfTold before (prepend_known got after)
 
--- the same where the last read failed
+-- the same if the last read failed
 pub record DrawsAndFails (old new : View) (before after : Option (List ℕ)) (from to : Reads) : Type 0 where
   pub got : List ℕ
   pub grown : new.held ≡ old.held ++ got

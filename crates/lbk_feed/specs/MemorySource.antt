@@ -3,11 +3,11 @@ use Rattle.std.specs.Prelude.{ℕ, ◌-◌, ◌^◌, max, List, [], ◌∷◌, O
 use Rattle.lbk_feed.specs.declared.tally.Tally.{Tally}
 use Rattle.lbk_feed.specs.declared.devices.memory_source.MemorySource.{MemorySource}
 
--- the bytes that the source has left
+-- the unread bytes of the source
 unfoldable pub source_bytes : MemorySource → List ℕ
 source_bytes s = s.rest.now
 
--- the most bytes of each of the next reads, the last for all that follow
+-- the most bytes of each of the next reads; the last number is for all later ones
 unfoldable pub source_sizes : MemorySource → List ℕ
 source_sizes s = s.sizes.now
 
@@ -26,6 +26,6 @@ later_sizes [] = []
 later_sizes (n ∷ []) = n ∷ []
 later_sizes (n ∷ m ∷ sizes) = m ∷ sizes
 
--- what it has counted
+-- its counts
 unfoldable pub source_tally : MemorySource → Tally
 source_tally s = s.tally

@@ -3,10 +3,10 @@ use Rattle.std.specs.Prelude.{ℕ, List, replicate}
 use Rattle.lbk_feed.specs.declared.tally.Tally.{Tally}
 use Rattle.lbk_feed.specs.declared.devices.repeated_source.RepeatedSource.{RepeatedSource}
 
--- the bytes that the source has left
+-- the unread bytes of the source
 unfoldable pub repeated_bytes : RepeatedSource → List ℕ
 repeated_bytes s = replicate s.left s.byte
 
--- what it has counted
+-- its counts
 unfoldable pub repeated_tally : RepeatedSource → Tally
 repeated_tally s = s.tally

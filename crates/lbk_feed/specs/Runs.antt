@@ -1,5 +1,4 @@
--- What is said of a run that reads a stream and writes another: what it took, what it put out, and when a device
--- failed.
+-- A run that reads a stream and writes another: what it read, what it wrote, and when a device failed.
 use Rattle.std.specs.Prelude.{◌≡◌, ℕ, ◌-◌, ◌^◌, ◌<◌, Bool, true, false, List, ◌++◌, take, Option, Some}
 use Rattle.std.specs.Io.KnownBytes.{Consumes, Appends, prepend_known}
 use Rattle.lbk_feed.specs.Devices.{KeepsIfTold}
@@ -7,7 +6,7 @@ use Rattle.lbk_feed.specs.View.{BeginsWith}
 use Rattle.lbk_feed.specs.declared.faults.FeedFault.{FeedFault}
 use Rattle.lbk_feed.specs.declared.faults.FeedFault.TheVariants.{Read}
 
--- a device's failures rose from one count to the other, unless the count stood at the last value that it has
+-- a device's failures rose from one count to the other, unless the count was at its greatest value
 abbrev pub HasFailed : ℕ → ℕ → Type 0
 HasFailed before after = before < 2 ^ 64 - 1 → before < after
 
@@ -16,8 +15,8 @@ abbrev pub is_failed_read : Option FeedFault → Bool
 is_failed_read (Some Read) = true
 is_failed_read _ = false
 
--- the bytes read are the front of those that were unread and are taken from it; after a read that failed the reader
--- need not tell what it has left, and where it tells it, that is what stood behind them
+-- the bytes read are the front of the unread bytes, and are taken from them; after a failed read the reader need not
+-- tell what is unread, and if it does, it is the bytes after them
 abbrev pub Took : Bool → Option (List ℕ) → Option (List ℕ) → List ℕ → Type 0
 Took false before after read = Consumes before after read
 Took true before after read = BeginsWith read before × KeepsIfTold before (prepend_known read after)
@@ -31,8 +30,8 @@ pub record Ran (failed : Bool) (unread unread' written written' : Option (List �
   pub put : Appends written written' out
   pub so : So read out
 
--- a run that stopped at some place: `out` is the front of what some first bytes of those read settle, whatever follows
--- them, or, once the end was met, the front of what is written of all of them
+-- a run that stopped: `out` is a prefix of the output that some first bytes of those read settle, whatever follows
+-- them, or, once the end was reached, a prefix of the output for all of them
 pub data IsStopped (Settled Whole : List ℕ → List ℕ → Type 0) (ended : Type 0) (read out : List ℕ) : Type 0 where
   midway : (first later all : List ℕ) (n : ℕ) → read ≡ first ++ later → Settled first all → out ≡ take n all → IsStopped Settled Whole ended read out
   at_end : (all : List ℕ) (n : ℕ) → ended → Whole read all → out ≡ take n all → IsStopped Settled Whole ended read out

@@ -1,4 +1,4 @@
--- What a device has counted.
+-- The counts of a device.
 use Rattle.std.specs.Prelude.{◌≡◌, false}
 use Rattle.lbk_feed.specs.Devices.{Reads}
 use Rattle.lbk_feed.specs.declared.tally.Tally.{Tally}
@@ -7,7 +7,7 @@ use Rattle.lbk_feed.specs.declared.tally.Tally.{Tally}
 abbrev pub reads_in : Tally → Reads
 reads_in t = record { count = t.reads; gave = t.gave }
 
--- no call was made yet
+-- before any call
 pub record IsFresh (t : Tally) : Type 0 where
   pub reads : t.reads ≡ 0
   pub gave : t.gave ≡ 0

@@ -1,4 +1,4 @@
--- A feed as its callers see it, and what its calls say of it.
+-- A feed as its callers see it, and what its calls promise.
 use Rattle.std.specs.Prelude.{◌≡◌, ◌⊎◌, ℕ, ◌+◌, ◌<◌, ◌≤◌, Bool, true, false, ◌||◌, List, [], ◌++◌, length, Option}
 use Rattle.std.specs.Prelude.{None, Some, IfSome, IfNone, is_some, Result, Ok, Err, IfOk, MatchOption, ⊤, IsUtf8}
 use Rattle.std.specs.Borrow.{Bor}
@@ -8,8 +8,8 @@ use Rattle.lbk_feed.specs.declared.faults.FeedFault.TheVariants.{Read, NotUtf8, 
 use Rattle.lbk_feed.specs.Devices.{KeepsIfTold, Reads, count_up}
 use Rattle.lbk_feed.specs.Text.{longest_text, well_formed_prefix, counted, IsCutScalar, IsNotUtf8At, IsTooLong}
 
--- the bytes that were read and not yet used up, those of them that are lent, how many were used up,
--- whether a read gave no byte, and whether a fault was answered
+-- the bytes that were read and not consumed, those of them that are ready, how many were consumed, whether the end was
+-- reached, and whether a fault was returned
 pub record View : Type 0 where
   pub held : List ℕ
   pub ready : List ℕ
@@ -21,51 +21,51 @@ pub record View : Type 0 where
 abbrev pub new_view : View
 new_view = record { held = []; ready = []; given = 0; is_ended = false; is_spent = false }
 
--- P holds of every text of `given` bytes, as that which was used up before
+-- P holds of every text of `given` bytes, as the consumed one
 abbrev pub AfterEach : ℕ → (List ℕ → Type 0) → Type 0
 AfterEach given P = (used : List ℕ) → IsUtf8 used → length used ≡ given → P used
 
--- the bytes used up and those ready are the well-formed prefix of the bytes read, of as many as a text may have
+-- the consumed bytes and the ready ones are the well-formed prefix of the bytes read, within the size limit of a text
 abbrev pub IsFront : View → Type 0
 IsFront f = AfterEach f.given (λ used. used ++ f.ready ≡ well_formed_prefix (counted (used ++ f.held)))
 
--- the bytes ready are a text, and the first of those held
+-- the ready bytes are a text, and a prefix of the held ones
 pub record LendsFront (f : View) : Type 0 where
   pub text : IsUtf8 f.ready
   pub rest : List ℕ
   pub first : f.held ≡ f.ready ++ rest
   pub few : f.given + length f.ready ≤ longest_text
 
--- what is held after `given` bytes that were used up, none of it ready, may still go on to a piece: a text may have it,
--- and it is nothing, or the first bytes of a scalar
+-- the bytes held after `given` consumed ones, none of them ready, may still become a piece: they are within the size
+-- limit, and they are none, or the first bytes of a scalar
 pub record CanGoOn (given : ℕ) (held : List ℕ) : Type 0 where
   pub within : given + length held ≤ longest_text
   pub cut : (held ≡ []) ⊎ IsCutScalar held
 
--- where a fault lies in the bytes read; where it is a failed read, no fault of the text was certain before that
+-- where a fault is in the bytes read; if it is a failed read, no fault of the text was certain before that
 abbrev pub LiesIn : FeedFault → View → Type 0
 LiesIn Read f = CanGoOn f.given f.held
 LiesIn (NotUtf8 at) f = AfterEach f.given (λ used. IsNotUtf8At (used ++ f.held) f.is_ended at)
 LiesIn TextTooLong f = AfterEach f.given (λ used. IsTooLong (used ++ f.held))
 LiesIn Spent f = ⊤
 
--- a fault of the text, and not of the reader or of the call
+-- a fault of the text, not of the reader or of the call
 abbrev pub IsOfText : FeedFault → Type 0
 IsOfText Read = ⊥
 IsOfText (NotUtf8 at) = ⊤
 IsOfText TextTooLong = ⊤
 IsOfText Spent = ⊥
 
--- the fault of an answer
+-- the fault of a result
 abbrev pub fault_of : {X : Type 0} → Result X FeedFault → Option FeedFault
 fault_of (Ok x) = None
 fault_of (Err fault) = Some fault
 
--- the bytes held and then those unread, where the reader tells them
+-- the held bytes and then the unread ones, if the reader tells them
 abbrev pub ahead : View → Option (List ℕ) → Option (List ℕ)
 ahead f unread = prepend_known f.held unread
 
--- the bytes ahead stay as they were; a failed read may keep the reader from telling them
+-- the bytes ahead stay as they were; after a failed read the reader may not tell them
 abbrev pub KeepsAhead : Option FeedFault → Option (List ℕ) → Option (List ℕ) → Type 0
 KeepsAhead (Some Read) old new = KeepsIfTold old new
 KeepsAhead _ old new = Keeps old new
@@ -74,20 +74,20 @@ KeepsAhead _ old new = Keeps old new
 abbrev pub BeginsWith : List ℕ → Option (List ℕ) → Type 0
 BeginsWith bs known = IfSome known (λ xs. (rest : List ℕ) × (xs ≡ bs ++ rest))
 
--- the feed has met the end only where its reader has: one reader serves all its calls
+-- the feed has reached the end only if its reader has: all its calls use one reader
 abbrev pub Agrees : View → Bool → Option (List ℕ) → Type 0
 Agrees f ended unread = f.is_ended ≡ true → (ended ≡ true) × IsAtEnd unread
 
--- a piece is ready, the end was met, a fault was answered or is certain of the bytes held: no read is made
+-- a piece is ready, the end was reached, or a fault was returned or is certain from the held bytes: no read is made
 abbrev pub IsIdle : View → Type 0
 IsIdle f = (0 < length f.ready) ⊎ ((f.is_ended ≡ true) ⊎ ((f.is_spent ≡ true) ⊎ (¬ (CanGoOn f.given f.held))))
 
--- the count of a reader's failures after a call: one more exactly where the call answered so
+-- the count of a reader's failures after a call: one more exactly if the call returned that
 abbrev pub failures_with : ℕ → Option FeedFault → ℕ
 failures_with n (Some Read) = count_up n
 failures_with n _ = n
 
--- what a call that may read leaves of the bytes, and what its fault says; `before` and `after` are the bytes unread
+-- the bytes after a call that may read, and the meaning of its fault; `before` and `after` are the unread bytes
 pub record Steps (old new : View) (before after : Option (List ℕ)) (fault : Option FeedFault) : Type 0 where
   pub given : new.given ≡ old.given
   pub ahead_kept : KeepsAhead fault (ahead old before) (ahead new after)
@@ -101,12 +101,12 @@ pub record Steps (old new : View) (before after : Option (List ℕ)) (fault : Op
   pub spent : new.is_spent ≡ (old.is_spent || is_some fault)
   pub same : IsIdle old → (new.held ≡ old.held) × (new.ready ≡ old.ready) × (new.is_ended ≡ old.is_ended)
 
--- no read was made, and no byte came
+-- no read was made
 abbrev pub IsStill : List ℕ → List ℕ → Reads → Reads → Type 0
 IsStill held held' from to = (held' ≡ held) × (to ≡ from)
 
--- reads are made only while the bytes held may go on to a piece: before the last of them, those that the others gave,
--- at least one each, still could
+-- reads are made only while the held bytes may become a piece: before the last read, with the bytes of the others, at
+-- least one each, they still could
 pub record AreDue (given : ℕ) (held held' : List ℕ) (from to : Reads) : Type 0 where
   pub seen : List ℕ
   pub last : List ℕ
@@ -115,9 +115,9 @@ pub record AreDue (given : ℕ) (held held' : List ℕ) (from to : Reads) : Type
   pub is_last : length last ≡ to.gave
   pub each_gave : to.count ≤ from.count + (length seen + 1)
 
--- what the reads of a call cost, from those made before it to those made after it: each but the last gives a byte,
--- and so does the last where a piece comes; none is made where a fault is certain, so at most three bytes are held
--- before each, and none is made once more bytes were read than a text may have
+-- the cost of a call in reads: each except the last returns a byte, and so does the last if the call returns a piece.
+-- None is made if a fault is certain, so at most three bytes are held before each, and none is made once more bytes
+-- were read than a text may have
 pub record Pays (old new : View) (from to : Reads) : Type 0 where
   pub all : 0 < length new.ready → to.count + length old.held ≤ from.count + length new.held
   pub but_one : to.count + length old.held ≤ from.count + length new.held + 1
@@ -125,8 +125,8 @@ pub record Pays (old new : View) (from to : Reads) : Type 0 where
   pub few : from.count < to.count → to.count + length old.held ≤ from.count + 4
   pub within : from.count < to.count → to.count + (old.given + length old.held) ≤ from.count + (longest_text + 1)
 
--- what the feed is once the piece that a call lent is given back; `unread`, `ended` and `reads` are the reader's
--- before the call, and those with a prime after it
+-- the feed after the loan of a call's piece has ended; `unread`, `ended` and `reads` are the reader's before the call,
+-- and those with a prime after it
 pub record AfterPiece (old new : View) (unread unread' : Option (List ℕ)) (ended ended' : Bool) (reads reads' : Reads)
     (r : Result (Option (Bor (List ℕ))) FeedFault) : Type 0 where
   pub steps : Steps old new unread unread' (fault_of r)

@@ -3,7 +3,7 @@ use Rattle.std.specs.Prelude.{◌≡◌, ℕ, ◌<◌, List, length, Option, Res
 use Rattle.lbk_feed.specs.declared.traits.Failed.{Failed}
 use Rattle.lbk_feed.specs.Devices.{Puts, failures_after}
 
--- a writer after some writes, each of at least one byte, or after none; `written` and `failures` are what it tells
+-- a writer after writes of at least one byte each, or after none; `written` and `failures` are what it tells
 pub data HasWritten {W : Type 0} (written : W → Option (List ℕ)) (failures : W → ℕ) (before : W) : W → Type 0 where
   none : HasWritten written failures before before
   more : (now after : W) (bytes : List ℕ) (answer : Result ℕ Failed) → HasWritten written failures before now

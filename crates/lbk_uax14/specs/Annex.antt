@@ -1,4 +1,4 @@
--- The annex's own words for what the definitions compute (UAX #14, section 6), over whole lists from first to last.
+-- The annex's own wording of what the definitions compute (UAX #14, section 6), over whole lists from first to last.
 use Rattle.std.specs.Prelude.{ℕ, zero, suc, ◌≡◌, ◌⊎◌, Bool, true, false, ◌||◌, not, List, [], ◌∷◌, ◌++◌, reverse}
 use Rattle.std.specs.List.{AllByRecursion}
 use Rattle.lbk_uax14.specs.declared.classes.Class.{Class}
@@ -7,11 +7,11 @@ use Rattle.lbk_uax14.specs.declared.cells.Cell.{Cell}
 use Rattle.lbk_uax14.specs.Classes.{Set, SP, RI, QU, hard, mark, none_of, opens_after, closes_before}
 use Rattle.lbk_uax14.specs.Sides.{is_nothing, at}
 
--- a set that has no space
+-- a set without SP
 abbrev pub HasNoSpace : Set → Type 0
 HasNoSpace x = (class : Class) → SP class ≡ true → x class ≡ false
 
--- 'X SP*' ends a list: some place holds a class of X, and all later places hold SP
+-- a list ends with 'X SP*': some cell has a class of X, and all later cells have SP
 pub record EndsInSpacesAfter (x : Set) (cells : List Cell) : Type 0 where
   pub before : List Cell
   pub cell : Cell
@@ -20,8 +20,8 @@ pub record EndsInSpacesAfter (x : Set) (cells : List Cell) : Type 0 where
   pub of_set : x cell.class ≡ true
   pub all_spaces : AllByRecursion (λ (c : Cell). SP c.class ≡ true) spaces
 
--- the longest run of indicators that ends a list: all of it are indicators, and what comes before it does not end in
--- one
+-- the longest run of indicators at the end of a list: all its cells are indicators, and what comes before it does not
+-- end with one
 pub record EndsInRun (cells run : List Cell) : Type 0 where
   pub before : List Cell
   pub joined : cells ≡ before ++ run
@@ -42,8 +42,8 @@ pub record BeginsIn (x : Set) (cells : List Cell) : Type 0 where
   pub joined : cells ≡ cell ∷ after
   pub of_set : x cell.class ≡ true
 
--- an opening quotation mark and spaces end a list, and before the mark stands nothing, or what leaves it open (rule
--- LB15a)
+-- a list ends with an opening quotation mark and spaces; before the mark is nothing, or a class that leaves it open
+-- (rule LB15a)
 pub record EndsInOpenQuotation (cells : List Cell) : Type 0 where
   pub before : List Cell
   pub quotation : Cell
@@ -54,7 +54,7 @@ pub record EndsInOpenQuotation (cells : List Cell) : Type 0 where
   pub left_open : (before ≡ []) ⊎ EndsIn opens_after before
   pub all_spaces : AllByRecursion (λ (c : Cell). SP c.class ≡ true) spaces
 
--- a closing quotation mark begins a list, and after the mark stands nothing, or what leaves it closed (rule LB15b)
+-- a list begins with a closing quotation mark; after the mark is nothing, or a class that leaves it closed (rule LB15b)
 pub record BeginsInClosedQuotation (cells : List Cell) : Type 0 where
   pub quotation : Cell
   pub after : List Cell
@@ -63,11 +63,11 @@ pub record BeginsInClosedQuotation (cells : List Cell) : Type 0 where
   pub closes : quotation.quote ≡ Final
   pub left_closed : (after ≡ []) ⊎ BeginsIn closes_before after
 
--- how many are left over by pairs
+-- how many are left over after pairing
 abbrev pub is_odd : ℕ → Bool
 is_odd zero = false
 is_odd (suc n) = not (is_odd n)
 
--- a cell heads a unit if none stands before it, if it is no mark, or if the one before it is of a hard class
+-- a cell heads a unit if it is the first, if it is no mark, or if the cell before it has a hard class
 abbrev pub is_head : List Cell → Cell → Bool
 is_head before cell = is_nothing (reverse before) || none_of mark cell.class || at hard (reverse before)

@@ -1,4 +1,4 @@
--- What the rules ask of what stands on the left: what no rule tells apart there is one.
+-- What the rules ask about the left side. What no rule distinguishes there is one value.
 use Rattle.std.specs.Prelude.{Bool, false, ◌||◌, ◌&&◌, if◌then◌else◌}
 use Rattle.lbk_uax14.specs.declared.cells.Cell.{Cell}
 use Rattle.lbk_uax14.specs.declared.classes.Class.{Class}
@@ -9,8 +9,8 @@ use Rattle.lbk_uax14.specs.Classes.{Set, ◌or◌, none_of, B2, BB, BK, CB, CL, 
 use Rattle.lbk_uax14.specs.Classes.{LF, NL, NS, OP, PR, QU, SP, WJ, ZW, isZWJ}
 use Rattle.lbk_uax14.specs.Sides.{opening}
 
--- Of the last cell, rules LB4 to LB10 ask whether it is BK, CR, or LF or NL, whether it is SP or ZW,
--- and whether it is ZWJ
+-- About the last cell, rules LB4 to LB10 ask whether it is BK, CR, or LF or NL, whether it is SP or ZW, and whether it
+-- is ZWJ
 unfoldable pub asked_of_cell : Class → Class
 asked_of_cell class =
     if (LF or NL) class then LineFeed
@@ -18,16 +18,15 @@ asked_of_cell class =
     else (if (BK or CR or isZWJ) class then class
     else Alphabetic))
 
--- Of what stands before the spaces, rules LB14 to LB17 ask whether it is OP, QU, CL or CP, or B2
+-- About the class before the spaces, rules LB14 to LB17 ask whether it is OP, QU, CL or CP, or B2
 unfoldable pub asked_before_spaces : Class → Class
 asked_before_spaces class =
     if (CL or CP) class then ClosePunctuation
     else (if (OP or QU or B2) class then class
     else Space)
 
--- Of the last unit, the rules ask for its class; but for none of EX, IN and NS, nor which line end
--- it is. EB and EM are asked for as ID is (LB23a), H2 as JV and H3 as JT (LB26, LB27), and a CP that
--- is wide as CL (LB16, LB25)
+-- About the last unit, the rules ask for its class, but not for EX, IN and NS, nor which line end it is. They treat EB
+-- and EM like ID (LB23a), H2 like JV and H3 like JT (LB26, LB27), and a wide CP like CL (LB16, LB25)
 unfoldable pub asked_class : Class → Bool → Class
 asked_class class wide =
     if (BK or CR or LF or NL) class then LineFeed
@@ -42,8 +41,8 @@ asked_class class wide =
 abbrev pub decides_before_30b : Set
 decides_before_30b = WJ or GL or OP or SP or QU or CB or BB or PR
 
--- Besides, they ask whether an emoji modifier stays with it: with EB, and with an unassigned pictograph
--- where no earlier rule decides (LB30b); and whether it is a quotation mark that opens (LB15a)
+-- They also ask whether an emoji modifier stays with it: with EB, and with an unassigned pictograph if no earlier rule
+-- decides (LB30b); and whether it is a quotation mark that opens (LB15a)
 unfoldable pub asked_of_unit : Cell → Cell
 asked_of_unit cell = record {
   class = asked_class cell.class cell.wide;

@@ -1,4 +1,4 @@
--- The breaks of a text: its positions after the first, where a line may or must end (UAX #14, section 3).
+-- The breaks of a text: its positions after the first where a line may or must end (UAX #14, section 3).
 use Rattle.std.specs.Prelude.{ℕ, ◌+◌, Bool, true, false, List, [], ◌∷◌, length, encode_utf8, if◌then◌else◌}
 use Rattle.lbk_uax14.specs.declared.breaks.Break.{Break}
 use Rattle.lbk_uax14.specs.declared.cells.Cell.{Cell}
@@ -13,11 +13,11 @@ is_no No = true
 is_no May = false
 is_no Must = false
 
--- the break before the byte `at` of the text, by what the rules say there
+-- the break before byte `at` of the text, by the verdict there
 abbrev pub break_by : ℕ → Verdict → Break
 break_by at verdict = record { at = at; kind = verdict.kind; rule = verdict.rule }
 
--- the breaks after the scalars of some marks, of which the first begins at byte `at`
+-- the breaks after the scalars of some marks; the first scalar begins at byte `at`
 abbrev pub breaks_from : ℕ → List Marked → List Break
 breaks_from at [] = []
 breaks_from at (m ∷ ms) =

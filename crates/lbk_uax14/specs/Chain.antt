@@ -1,4 +1,4 @@
--- The rule list read group by group, as the code reads it: each group hands on what it leaves open.
+-- The rule list read group by group, as the code reads it: each group passes on what it does not decide.
 use Rattle.std.specs.Prelude.{if◌then◌else◌, List, [], ◌∷◌}
 use Rattle.lbk_uax14.specs.declared.verdicts.Verdict.{Verdict}
 use Rattle.lbk_values.specs.declared.profile.Profile.{Profile}
@@ -11,7 +11,7 @@ use Rattle.lbk_uax14.specs.Rules.{hyphen_rules, affix_rules, number_rules, sylla
 use Rattle.lbk_uax14.specs.Units.{units}
 use Rattle.lbk_uax14.specs.Facts.{units_before}
 
--- the answer of the first line that holds, or else the answer given
+-- the verdict of the first line that matches, or else the given verdict
 abbrev pub choose : List Line → Side → Side → Verdict → Verdict
 choose [] left right otherwise = otherwise
 choose (line ∷ lines) left right otherwise =

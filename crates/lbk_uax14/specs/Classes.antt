@@ -11,11 +11,11 @@ use Rattle.lbk_uax14.specs.declared.classes.Class.TheVariants.{OpenPunctuation, 
 use Rattle.lbk_uax14.specs.declared.classes.Class.TheVariants.{Quotation, RegionalIndicator, Space, BreakSymbols}
 use Rattle.lbk_uax14.specs.declared.classes.Class.TheVariants.{WordJoiner, ZWSpace, ZWJ}
 
--- a set of classes, as a test
+-- a set of classes, as a predicate
 abbrev pub Set : Type 0
 Set = Class → Bool
 
--- the place of a class among the 38
+-- the index of a class among the 38
 abbrev pub place : Class → ℕ
 place Alphabetic = 0
 place BreakBoth = 1
@@ -65,7 +65,7 @@ infixl 20 ◌or◌
 abbrev pub ◌or◌ : Set → Set → Set
 (a or b) class = a class || b class
 
--- every class but those of a set
+-- every class except those of a set
 abbrev pub none_of : Set → Set
 none_of set class = not (set class)
 
@@ -183,16 +183,15 @@ ZW = is ZWSpace
 abbrev pub isZWJ : Set
 isZWJ = is ZWJ
 
--- after these classes a mark stands by itself: a line ends, a space or a break without a space
+-- a mark after these classes has no base: a line end, a space or a break without a space
 abbrev pub hard : Set
 hard = BK or CR or LF or NL or SP or ZW
 
--- what joins the character before it
+-- the classes that join the character before them
 abbrev pub mark : Set
 mark = CM or isZWJ
 
--- a closing quotation mark holds its place before these classes, an opening one after these
--- (rules LB15b and LB15a)
+-- a closing quotation mark closes before these classes, an opening one opens after these (rules LB15b and LB15a)
 abbrev pub closes_before : Set
 closes_before = SP or GL or WJ or CL or QU or CP or EX or IS or SY or BK or CR or LF or NL or ZW
 

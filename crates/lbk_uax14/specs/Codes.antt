@@ -15,8 +15,8 @@ kind_number No = 0
 kind_number May = 1
 kind_number Must = 2
 
--- the number of a rule: 8 times its own, and the place of its letter, so that no rule of a later version of Unicode
--- changes that of another
+-- the number of a rule: 8 times its own number, plus the place of its letter, so that rules of later versions of
+-- Unicode do not renumber others
 abbrev pub rule_number : Rule → ℕ
 rule_number Lb2 = 8 * 2
 rule_number Lb3 = 8 * 3

@@ -1,5 +1,5 @@
--- What two neighbouring classes tell: where a line must end (UAX #14, section 6.1, rules LB3 to LB5), and where a mark
--- joins the cell before it (rules LB8a and LB9).
+-- What two neighbouring classes decide: where a line must end (UAX #14, section 6.1, rules LB3 to LB5), and where a
+-- mark joins the cell before it (rules LB8a and LB9).
 use Rattle.std.specs.Prelude.{Bool, ◌&&◌, not, if◌then◌else◌}
 use Rattle.lbk_uax14.specs.declared.classes.Class.{Class}
 use Rattle.lbk_uax14.specs.declared.verdicts.Kind.TheVariants.{No, Must}
@@ -11,7 +11,7 @@ use Rattle.lbk_uax14.specs.Classes.{Set, ◌or◌, none_of, BK, CR, LF, NL, isZW
 abbrev pub ends_line : Set
 ends_line = BK or CR or LF or NL
 
--- a line must end between a cell of the class `last` and one of the class `next`
+-- a line must end between a cell of class `last` and one of class `next`
 abbrev pub ends_between : Class → Class → Bool
 ends_between last next = ends_line last && not (CR last && LF next)
 
@@ -23,7 +23,7 @@ end_after last = record { kind = Must; rule = if BK last then Lb4 else Lb5 }
 abbrev pub end_of_text : Verdict
 end_of_text = record { kind = Must; rule = Lb3 }
 
--- a mark of the class `next` joins the cell of the class `last` before it, and heads no unit
+-- a mark of class `next` joins the cell of class `last` before it, and heads no unit
 abbrev pub joins : Class → Class → Bool
 joins last next = none_of hard last && mark next
 

@@ -1,4 +1,4 @@
--- The few facts of the left side that the rules ask for.
+-- The few facts about the left side that the rules need.
 use Rattle.std.specs.Prelude.{◌≡◌, Bool, false, ◌&&◌, if◌then◌else◌, [], ◌∷◌}
 use Rattle.lbk_values.specs.declared.profile.Profile.{Profile}
 use Rattle.lbk_values.specs.declared.profile.Profile.TheVariants.{First, Second}
@@ -21,7 +21,7 @@ units_before (cell ∷ side) =
     then unit cell ∷ units_before side
     else units_before side
 
--- what is known of units read outwards
+-- the facts about units read outwards
 abbrev pub facts_of_units : Side → Before
 facts_of_units side = record {
   last = asked_of_unit (nearest side);
@@ -31,7 +31,7 @@ facts_of_units side = record {
   opens_quotation = opens_quotation side;
 }
 
--- what is known of the cells on the left, read outwards
+-- the facts about the cells on the left, read outwards
 unfoldable pub facts : Side → Left
 facts side = record {
   empty = is_nothing side;
@@ -40,11 +40,11 @@ facts side = record {
   units = facts_of_units (units_before side);
 }
 
--- a cell of this class, of which nothing else is known
+-- a cell of this class without flags
 abbrev pub class_cell : Class → Cell
 class_cell class = record space { class = class }
 
--- the facts of some units of which the nearest is known
+-- the facts about units whose nearest one is known
 pub record Sees (before : Before) (side : Side) : Type 0 where
   pub opening : past_spaces OP (before.last ∷ side) ≡ OP before.before_spaces
   pub quoting : past_spaces QU (before.last ∷ side) ≡ QU before.before_spaces
@@ -54,7 +54,7 @@ pub record Sees (before : Before) (side : Side) : Type 0 where
   pub indicators : at_odd_run (before.last ∷ side) ≡ before.odd_indicators
   pub quotation : opens_quotation (before.last ∷ side) ≡ before.opens_quotation
 
--- what stands after a closing quotation mark, where the profile asks
+-- what follows a closing quotation mark, if the profile asks for it
 abbrev pub closes_in : Profile → Side → Bool
 closes_in First side = false
 closes_in Second side = leaves_closed side

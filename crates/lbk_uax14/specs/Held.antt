@@ -17,7 +17,7 @@ abbrev pub is_15b : Rule → Bool
 is_15b Lb15b = true
 is_15b _ = false
 
--- the entries before the first for rule 15b
+-- the entries before the first one of rule 15b
 abbrev pub before_15b : List Entry → List Entry
 before_15b [] = []
 before_15b (entry ∷ entries) = if is_15b entry.answer.rule then [] else entry ∷ before_15b entries
@@ -43,16 +43,16 @@ unanswered_before profile (cell ∷ side) =
     then Some (length side)
     else (if heads side cell then None else unanswered_before profile side)
 
--- the held position of some cells whose answer has not come, if there is one
+-- the held position of some cells without a verdict yet, if there is one
 abbrev pub unanswered : Profile → List Cell → Option ℕ
 unanswered profile cells = unanswered_before profile (reverse cells)
 
--- its answer, once `more` follows
+-- its verdict, once `more` follows
 abbrev pub answer_at : Profile → List Cell → List Cell → Option (ℕ × Verdict)
 answer_at profile cells more =
     option_map (λ p. (p, verdict_in profile (cells ++ more) p)) (unanswered profile cells)
 
--- the answer that a cell brings with it: none, if it heads no unit
+-- the verdict that a cell settles: none, if it heads no unit
 abbrev pub late_at : Profile → List Cell → Cell → List Cell → Option (ℕ × Verdict)
 late_at profile cells cell more =
     if heads (reverse cells) cell then answer_at profile cells (cell ∷ more) else None

@@ -1,4 +1,4 @@
--- What a late machine knows of the cells that it has taken.
+-- What a late machine knows about the cells that it has taken.
 use Rattle.std.specs.Prelude.{◌≡◌, ℕ, if◌then◌else◌, List, [], ◌∷◌, length, reverse, Option, Some, None, option_map}
 use Rattle.lbk_uax14.specs.declared.cells.Cell.{Cell}
 use Rattle.lbk_uax14.specs.declared.late_machine.Held.{Held}
@@ -9,7 +9,7 @@ use Rattle.lbk_uax14.specs.Chain.{from_cells}
 use Rattle.lbk_uax14.specs.Facts.{facts, heads}
 use Rattle.lbk_uax14.specs.Held.{is_15b}
 
--- the held position that waits, with what stands on its left and the quotation mark after it
+-- the held position, with its left side and the quotation mark after it
 unfoldable pub waiting : Profile → Side → Option Held
 waiting profile [] = None
 waiting profile (cell ∷ side) =
@@ -25,7 +25,7 @@ held_position machine = option_map (λ held. held.position) machine.held
 unfoldable pub steps_of : LateMachine → ℕ
 steps_of machine = machine.steps
 
--- each fact of the machine is that of the whole list, and it holds the position that waits
+-- each fact of the machine is that of the whole list, and it holds the open position
 pub record LateFits (machine : LateMachine) (profile : Profile) (cells : List Cell) : Type 0 where
   pub profile_same : machine.profile ≡ profile
   pub left_same : facts (reverse cells) ≡ machine.left

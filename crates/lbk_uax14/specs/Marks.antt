@@ -11,8 +11,8 @@ pub record Marked : Type 0 where
   pub scalar : ℕ
   pub after : Verdict
 
--- the marks of the scalars that stand behind those of `before`: each position lies between all cells of the text
--- up to it and all cells from it on
+-- the marks of the scalars after those of `before`: each position is between all cells of the text up to it and all
+-- cells from it on
 abbrev pub marks_behind : Profile → (ℕ → Cell) → List ℕ → List ℕ → List Marked
 marks_behind profile cell before [] = []
 marks_behind profile cell before (c ∷ cs) =
@@ -30,7 +30,7 @@ scalars_of ms = map (λ m. m.scalar) ms
 abbrev pub text_of : List Marked → List ℕ
 text_of ms = encode_utf8_all (scalars_of ms)
 
--- the same marks, but for the verdict after the last
+-- the same marks, except the verdict after the last one
 abbrev pub ended : Verdict → List Marked → List Marked
 ended end [] = []
 ended end (m ∷ []) = record { scalar = m.scalar; after = end } ∷ []

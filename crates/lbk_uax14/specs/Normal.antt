@@ -1,12 +1,12 @@
--- A cell without what no rule asks of it.
+-- A cell without the properties that no rule uses.
 use Rattle.std.specs.Prelude.{ℕ, false, ◌&&◌, if◌then◌else◌, List, map}
 use Rattle.lbk_uax14.specs.declared.classes.Quote.TheVariants.{Neither}
 use Rattle.lbk_uax14.specs.declared.cells.Cell.{Cell}
 use Rattle.lbk_uax14.specs.Classes.{◌or◌, none_of, CP, OP, QU, mark}
 
--- No rule asks for the category of a cell, but as its class tells it; for its width but at OP and CP (rule
--- LB30); which quotation mark it is but at QU (rules LB15a and LB15b); nor whether a mark is an unassigned
--- pictograph, as a mark that heads a unit is read as a letter (rules LB10 and LB30b)
+-- No rule uses the category of a cell, except by its class; nor its width, except of OP and CP (rule LB30); nor which
+-- quotation mark it is, except of QU (rules LB15a and LB15b); nor whether a mark is an unassigned pictograph, because a
+-- mark that heads a unit is read as a letter (rules LB10 and LB30b)
 unfoldable pub normal : Cell → Cell
 normal cell = record {
   class = cell.class;
@@ -16,6 +16,6 @@ normal cell = record {
   letter = false;
 }
 
--- the cells of some scalars, without what no rule asks of them
+-- the normal cells of some scalars
 abbrev pub normals : (ℕ → Cell) → List ℕ → List Cell
 normals cell taken = map normal (map cell taken)

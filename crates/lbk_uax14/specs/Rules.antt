@@ -1,5 +1,5 @@
--- The rules, in the annex's order (UAX #14, section 6): the first that matches decides.
--- No × breaks, May ÷ breaks, Must ! breaks.
+-- The rules, in the annex's order (UAX #14, section 6): the first one that matches decides. × is No, ÷ is May, ! is
+-- Must.
 use Rattle.std.specs.Prelude.{Bool, ◌&&◌, if◌then◌else◌, List, [], ◌∷◌, ◌++◌, map, reverse}
 use Rattle.lbk_uax14.specs.declared.verdicts.Kind.TheVariants.{No, May, Must}
 use Rattle.lbk_uax14.specs.declared.verdicts.Rule.{Rule}
@@ -20,7 +20,7 @@ use Rattle.lbk_uax14.specs.Sides.{past_spaces, opens_quotation, closes_quotation
 use Rattle.lbk_uax14.specs.Sides.{over_spaces, everywhere}
 use Rattle.lbk_uax14.specs.Units.{units}
 
--- a line of the table: what it answers where its condition holds
+-- a line of the table: its verdict if its condition holds
 pub record Line : Type 0 where
   pub answer : Verdict
   pub holds : Condition
@@ -178,8 +178,8 @@ unit_rules profile =
     ++ letter_rules
     ++ last_rule
 
--- An entry of the rule list: what it answers, and whether it matches between the whole list of the
--- cells on the left and the whole list of the cells on the right
+-- An entry of the rule list: its verdict, and whether it matches between the whole list of cells on the left and the
+-- whole list of cells on the right
 pub record Entry : Type 0 where
   pub answer : Verdict
   pub matches : List Cell → List Cell → Bool
@@ -204,8 +204,7 @@ rule_list profile =
     map over_cells cell_rules
     ++ map over_units (unit_rules profile)
 
--- the answer of the first entry that matches. A list that ends with an entry for everywhere
--- never comes to its end
+-- the verdict of the first entry that matches. The last entry matches everywhere, so some entry always does
 abbrev pub first_match : List Entry → List Cell → List Cell → Verdict
 first_match [] left right = record { kind = May; rule = Lb31 }
 first_match (entry ∷ entries) left right =

@@ -10,12 +10,12 @@ use Rattle.lbk_uax14.specs.Sides.{Side}
 abbrev pub letter : Cell
 letter = record { class = Alphabetic; wide = false; pict_cn = false; quote = Neither; letter = false }
 
--- the unit that a head heads: a mark that heads is read as a letter
+-- the unit that a head heads: a mark that is a head is read as a letter
 abbrev pub unit : Cell → Cell
 unit cell = if mark cell.class then letter else cell
 
--- the units of some cells; fresh: no cell stands before them, or one of a hard class.
--- A head is what is no mark, and a mark that stands fresh
+-- the units of some cells; fresh: no cell is before them, or one of a hard class. Heads are cells that are no marks,
+-- and fresh marks
 abbrev pub units_after : Bool → List Cell → List Cell
 units_after fresh [] = []
 units_after fresh (cell ∷ cells) =
@@ -37,7 +37,7 @@ abbrev pub next_unit : List Cell → Option Cell
 next_unit [] = None
 next_unit (cell ∷ cells) = first (units_after (hard cell.class) cells)
 
--- a space, which stands for what is nearest where nothing is left
+-- a space, for the nearest of an empty side
 abbrev pub space : Cell
 space = record { class = Space; wide = false; pict_cn = false; quote = Neither; letter = false }
 

@@ -1,4 +1,4 @@
--- What the rules say of each position of a list of cells (UAX #14, section 6).
+-- The verdict of the rules at each position of a list of cells (UAX #14, section 6).
 use Rattle.std.specs.Prelude.{ℕ, List, take, drop}
 use Rattle.lbk_uax14.specs.declared.verdicts.Verdict.{Verdict}
 use Rattle.lbk_values.specs.declared.profile.Profile.{Profile}
@@ -13,7 +13,7 @@ verdict_between_in profile left right = first_match (rule_list profile) left rig
 abbrev pub verdict_between : List Cell → List Cell → Verdict
 verdict_between left right = verdict_between_in First left right
 
--- the verdict at position k, which has the first k cells on its left and the rest on its right
+-- the verdict at position k, with the first k cells on its left and the rest on its right
 abbrev pub verdict_in : Profile → List Cell → ℕ → Verdict
 verdict_in profile cells k = verdict_between_in profile (take k cells) (drop k cells)
 

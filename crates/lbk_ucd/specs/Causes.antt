@@ -1,4 +1,4 @@
--- What is wrong with a property file, in words.
+-- The texts of the causes of faults.
 use Rattle.std.specs.Prelude.{ℕ, List, codes}
 use Rattle.lbk_ucd.specs.declared.faults.UcdCause.{UcdCause}
 use Rattle.lbk_ucd.specs.declared.faults.UcdCause.TheVariants.{FileTooLong, LineTooLong, RowSyntax, Range}

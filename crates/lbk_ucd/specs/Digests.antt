@@ -1,11 +1,11 @@
--- The property files as Unicode 15.0.0 published them, by their digests.
+-- The digests of the property files that Unicode 15.0.0 published.
 use Rattle.std.specs.Prelude.{◌≡◌, ℕ, ◌≤◌, ◌==◌, ◌&&◌, Bool, List, [], ◌∷◌, length, slice_index, if◌then◌else◌}
 use Rattle.sha2.specs.Sha256.{sha256}
 use Rattle.lbk_ucd.specs.declared.tables.Files.{Files}
 use Rattle.lbk_ucd.specs.declared.which.Which.{Which}
 use Rattle.lbk_ucd.specs.declared.which.Which.TheVariants.{LineBreak, EastAsianWidth, Category, Emoji}
 
--- the SHA-256 digest of each file, whose line ends are LF
+-- the SHA-256 digest of each file, with line ends LF
 abbrev pub digest_of : Which → List ℕ
 digest_of LineBreak =
     0x01 ∷ 0x2b ∷ 0xca ∷ 0x86 ∷ 0x8e ∷ 0x2c ∷ 0x4e ∷ 0x59 ∷ 0xa5 ∷ 0xa1 ∷ 0x0a ∷ 0x75 ∷ 0x46 ∷ 0xba ∷ 0xf0 ∷ 0xc6
@@ -20,16 +20,16 @@ digest_of Emoji =
     0x29 ∷ 0x07 ∷ 0x1d ∷ 0xba ∷ 0x22 ∷ 0xc7 ∷ 0x2c ∷ 0x27 ∷ 0x78 ∷ 0x3a ∷ 0x73 ∷ 0x01 ∷ 0x6a ∷ 0xfb ∷ 0x8f ∷ 0xfa
     ∷ 0xeb ∷ 0x02 ∷ 0x58 ∷ 0x66 ∷ 0x74 ∷ 0x07 ∷ 0x91 ∷ 0xf9 ∷ 0xc2 ∷ 0xd0 ∷ 0xb5 ∷ 0x5c ∷ 0xc4 ∷ 0x5a ∷ 0x34 ∷ 0x70 ∷ []
 
--- a byte is a CR (13), and an LF (10) stands behind it
+-- a byte is a CR (13), and an LF (10) follows
 abbrev pub is_before_feed : ℕ → List ℕ → Bool
 is_before_feed byte rest = (byte == 13) && (slice_index rest 0 == 10)
 
--- a text with LF in the place of each CR LF
+-- a text with each CR LF replaced by LF
 abbrev pub with_line_feeds : List ℕ → List ℕ
 with_line_feeds [] = []
 with_line_feeds (byte ∷ rest) = if is_before_feed byte rest then with_line_feeds rest else byte ∷ with_line_feeds rest
 
--- a file is the published one, but for its line ends; none of 15.0.0 has more than 8,388,608 bytes
+-- a file is the published one, except for its line ends; none of 15.0.0 has more than 8,388,608 bytes
 pub record IsPublished (which : Which) (bytes : List ℕ) : Type 0 where
   pub size : length bytes ≤ 8388608
   pub digest : sha256 (with_line_feeds bytes) ≡ digest_of which

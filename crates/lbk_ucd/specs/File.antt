@@ -1,5 +1,5 @@
--- What a property file assigns to codes, and the first fault of one that is not lawful. The lines of a file are
--- looked at in its order, and each is judged against those before it.
+-- The values of code points in a property file, and the first fault of one that is not well-formed. Each line of a file
+-- is judged by the lines before it.
 use Rattle.std.specs.Prelude.{ℕ, ◌≡◌, ◌+◌, ◌<◌, ◌≤◌, Bool, ◌||◌, ◌==◌, nat_eq, nat_lt, if◌then◌else◌, List, [], ◌∷◌}
 use Rattle.std.specs.Prelude.{length, take, drop, Option, Some, None, IsSome, ◌⊎◌, slice_index_or}
 use Rattle.std.specs.List.{find, filter_map, list_any, slice_split, starts_with}
@@ -12,18 +12,18 @@ use Rattle.lbk_ucd.specs.declared.faults.UcdCause.TheVariants.{UnknownValue, Ove
 use Rattle.lbk_ucd.specs.PropertyLine.{Entry, Meaning, nothing, row, default, meaning_of}
 use Rattle.lbk_ucd.specs.Rows.{shares, value_at}
 
--- What tells one property file from another.
+-- What differs from one property file to another.
 pub record Format (V : Type 0) : Type 0 where
-  -- the names that are taken, each with its value
+  -- the accepted names, each with its value
   pub names : List (List ℕ × V)
-  -- whether rows of other names are passed over, and not refused
+  -- whether rows with other names are skipped instead of refused
   pub others : Bool
   -- whether the file has default lines
   pub defaults : Bool
-  -- the value of codes that neither a row nor a default holds
+  -- the value of code points in neither a row nor a default
   pub unlisted : V
 
--- the value of a name, exact in case
+-- the value of a name; case matters
 abbrev pub named : {V : Type 0} → List (List ℕ × V) → List ℕ → Option V
 named names name = option_map (λ entry. entry.1) (find (λ entry. bytes_eq entry.0 name) names)
 
@@ -35,7 +35,7 @@ without_mark bytes = if starts_with nat_eq bytes (239 ∷ 187 ∷ 191 ∷ []) th
 abbrev pub lines_of : List ℕ → List (List ℕ)
 lines_of bytes = slice_split (λ byte. byte == 10) (without_mark bytes)
 
--- whether there is room beside so many rows and defaults
+-- whether there is room after so many rows and defaults
 abbrev pub cause_of_room : ℕ → Option UcdCause
 cause_of_room count = if nat_lt count 65536 then None else Some TooManyRows
 
@@ -45,12 +45,12 @@ module _ {V : Type 0} where
   valued format entry =
       option_map (λ value. record { first = entry.first; last = entry.last; value = value }) (named format.names entry.name)
 
-  -- the row that a line's meaning is, if it is one that is kept
+  -- the kept row of a line's meaning, if it is one
   abbrev pub row_meant : Format V → Option Meaning → Option (Row V)
   row_meant format (Some (row entry)) = valued format entry
   row_meant format _ = None
 
-  -- the default that a line's meaning is, if it is one
+  -- the default of a line's meaning, if it is one
   abbrev pub default_meant : Format V → Option Meaning → Option (Row V)
   default_meant format (Some (default entry)) = valued format entry
   default_meant format _ = None
@@ -62,31 +62,31 @@ module _ {V : Type 0} where
   abbrev pub default_in : Format V → List ℕ → Option (Row V)
   default_in format line = default_meant format (meaning_of format.defaults line)
 
-  -- those of lines, in their order
+  -- those of lines, in order
   abbrev pub rows_in : Format V → List (List ℕ) → List (Row V)
   rows_in format lines = filter_map (row_in format) lines
 
   abbrev pub defaults_in : Format V → List (List ℕ) → List (Row V)
   defaults_in format lines = filter_map (default_in format) lines
 
-  -- the cause of a row or a default that would be kept: it may share no code with these rows, and there is room
-  -- beside so many
+  -- the cause of a row or a default to keep: it must not share a code point with these rows, and there must be room
+  -- after so many
   abbrev pub cause_of_kept : List (Row V) → ℕ → ℕ → ℕ → Option UcdCause
   cause_of_kept rows count first last = if list_any (shares first last) rows then Some Overlap else cause_of_room count
 
-  -- that of an entry whose name has a value or none
+  -- that of an entry; its name has a value or not
   abbrev pub cause_of_value : Format V → List (Row V) → ℕ → Entry → Option V → Option UcdCause
   cause_of_value format rows count entry None = if format.others then None else Some UnknownValue
   cause_of_value format rows count entry (Some value) = cause_of_kept rows count entry.first entry.last
 
-  -- that of a row or a default line; the last code is above 10FFFF where the first is, unless the first is above the
-  -- last
+  -- that of a row or a default line; if the first code point is above 10FFFF, so is the last, unless the first is above
+  -- the last
   unfoldable pub cause_of_entry : Format V → List (Row V) → ℕ → Entry → Option UcdCause
   cause_of_entry format rows count entry =
       if nat_lt entry.last entry.first || nat_lt 0x10FFFF entry.last then Some Range
       else cause_of_value format rows count entry (named format.names entry.name)
 
-  -- the first cause of a line that means this, where these rows are kept and there are so many rows and defaults
+  -- the first cause of a line that means this, after these kept rows and so many rows and defaults
   abbrev pub cause_of_meaning : Format V → List (Row V) → ℕ → Option Meaning → Option UcdCause
   cause_of_meaning format rows count None = Some RowSyntax
   cause_of_meaning format rows count (Some nothing) = None
@@ -129,7 +129,7 @@ module _ {V : Type 0} where
   IsFault format bytes number cause =
       ((8388608 < length bytes) × (number ≡ 0) × (cause ≡ FileTooLong)) ⊎ IsLineFault format bytes number cause
 
-  -- a line that gives a row or a default, where none up to it has a cause: the tables grow there
+  -- a line with a row or a default, and no line up to it has a cause: the tables grow there
   pub record IsGrowth (format : Format V) (bytes : List ℕ) (number : ℕ) : Type 0 where
     pub short : length bytes ≤ 8388608
     pub index : ℕ
@@ -138,13 +138,13 @@ module _ {V : Type 0} where
     pub gives : IsSome (row_in format (slice_index_or (lines_of bytes) index [])) ⊎ IsSome (default_in format (slice_index_or (lines_of bytes) index []))
     pub before : IsLawfulBefore format (lines_of bytes) (index + 1)
 
-  -- The value of a code: that of the row that holds it, else that of the last default that holds it, else that of
-  -- unlisted codes.
+  -- The value of a code point: that of the row that has it, else that of the last default that has it, else that of
+  -- unlisted code points.
   unfoldable pub property_of : Format V → List ℕ → ℕ → V
   property_of format bytes code =
       value_at (rows_in format (lines_of bytes)) (defaults_in format (lines_of bytes)) format.unlisted code
 
-  -- a file is refused at a line by its fault, or by want of memory where the tables grow
+  -- a file is refused at a line by its fault, or because memory runs out where the tables grow
   abbrev pub IsRefusal : Format V → List ℕ → ℕ → UcdCause → Type 0
   IsRefusal format bytes number cause =
       IsFault format bytes number cause ⊎ ((cause ≡ Memory) × IsGrowth format bytes number)

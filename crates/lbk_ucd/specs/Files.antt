@@ -15,7 +15,7 @@ pub record AreLawful (files : Files) : Type 0 where
   pub category : IsLawful category_format files.category.now
   pub emoji : IsLawful emoji_format files.emoji.now
 
--- a file is refused at this line for this cause, and those before it are lawful
+-- a file is refused at this line for this cause, and those before it have no fault
 abbrev pub IsRefusedIn : Files → Which → ℕ → UcdCause → Type 0
 IsRefusedIn files LineBreak line cause = IsRefusal line_break_format files.line_break.now line cause
 IsRefusedIn files EastAsianWidth line cause =

@@ -1,5 +1,5 @@
 -- The grammar of a line of a property file (UAX #44, section 4.2), as a relation between the bytes of a line without
--- its LF and what they say. `meaning_of` answers just what it relates.
+-- its LF and their meaning. `meaning_of` is the only meaning that it relates.
 use Rattle.std.specs.Prelude.{ℕ, ◌≡◌, ◌≢◌, ◌<◌, ◌≤◌, Bool, true, false, List, [], ◌∷◌, ◌++◌, length, codes, ◌⊎◌}
 use Rattle.std.specs.List.{list_all}
 use Rattle.std.specs.Str.Parse.{digits_value}
@@ -9,14 +9,14 @@ use Rattle.lbk_ucd.specs.PropertyLine.{Entry, Meaning, nothing, row, default, is
 abbrev pub IsBlank : List ℕ → Type 0
 IsBlank bytes = list_all is_space bytes ≡ true
 
--- a code: four to six hex digits of either case
+-- a code point: four to six hex digits of either case
 pub record IsCode (digits : List ℕ) (code : ℕ) : Type 0 where
   pub hex : list_all is_hex digits ≡ true
   pub four : 4 ≤ length digits
   pub six : length digits ≤ 6
   pub is : code ≡ digits_value 16 digits
 
--- code..code, or where one code may stand alone, that
+-- code..code, or one code point, if that is allowed
 pub data IsRange : Bool → List ℕ → ℕ → ℕ → Type 0 where
   one : (digits : List ℕ) (code : ℕ) → IsCode digits code → IsRange true digits code code
   two : (single : Bool) (digits digits' : List ℕ) (first last : ℕ) → IsCode digits first → IsCode digits' last
@@ -46,7 +46,7 @@ pub record IsEntry (single : Bool) (bytes : List ℕ) (entry : Entry) : Type 0 w
 abbrev pub IsComment : List ℕ → Type 0
 IsComment bytes = (bytes ≡ []) ⊎ ((any : List ℕ) × (bytes ≡ 35 ∷ any))
 
--- what stands behind the first # of a default line: ws* @missing: and an entry of code..code, then nothing or a comment
+-- the text after the first # of a default line: ws* @missing: and an entry of code..code, then nothing or a comment
 pub record IsDefault (bytes : List ℕ) (entry : Entry) : Type 0 where
   pub before : List ℕ
   pub spelled : List ℕ
@@ -56,7 +56,7 @@ pub record IsDefault (bytes : List ℕ) (entry : Entry) : Type 0 where
   pub spells : IsEntry false spelled entry
   pub ends : IsComment rest
 
--- a blank line, a comment that is no default line where the file has these, a row, or a default line
+-- a blank line, a comment (no default line, if the file has defaults), a row, or a default line
 pub data Says (defaults : Bool) (text : List ℕ) : Meaning → Type 0 where
   blank : IsBlank text → Says defaults text nothing
   comment : (before any : List ℕ) → text ≡ before ++ (35 ∷ any) → IsBlank before

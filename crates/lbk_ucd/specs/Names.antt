@@ -1,5 +1,6 @@
--- The names of the property values (PropertyValueAliases.txt of the Unicode Character Database), exact in case, and
--- what tells the four files apart. No name stands twice; those of most rows of the published files stand first.
+-- The names of the property values (PropertyValueAliases.txt of the Unicode Character Database), where case matters,
+-- and the differences between the four files. No name occurs twice; the most frequent ones in the published files come
+-- first.
 use Rattle.std.specs.Prelude.{ℕ, Bool, true, false, List, [], ◌∷◌, codes}
 use Rattle.lbk_values.specs.declared.values.LineBreak.{LineBreak}
 use Rattle.lbk_values.specs.declared.values.LineBreak.TheVariants as lb
@@ -68,7 +69,7 @@ east_asian_names =
     ∷ (codes "H", ea.Halfwidth) ∷ (codes "Halfwidth", ea.Halfwidth)
     ∷ []
 
--- General_Category: short names alone
+-- General_Category: only short names
 abbrev pub category_names : List (List ℕ × Category)
 category_names =
     (codes "Cn", gc.Cn)

@@ -1,5 +1,4 @@
--- What a line of a property file says, in the parts that it is made of (UAX #44, section 4.2). A line is given
--- without its LF.
+-- The meaning of a line of a property file, part by part (UAX #44, section 4.2). Lines are without LF.
 use Rattle.std.specs.Prelude.{ℕ, ◌-◌, Bool, true, false, ◌&&◌, ◌||◌, not, ◌==◌, nat_eq, nat_lt, nat_le, if◌then◌else◌}
 use Rattle.std.specs.Prelude.{List, length, take, drop, codes, slice_index, Option, Some, None, option_and_then}
 use Rattle.std.specs.List.{prefix_len, suffix_len, position_or_len, before_first, after_first, list_any, list_all}
@@ -8,13 +7,13 @@ use Rattle.std.specs.Char.{is_digit, is_ascii_alphanumeric}
 use Rattle.std.specs.Str.Parse.{digits_value}
 use Rattle.std.specs.Option.{option_map, option_map_or}
 
--- the codes from first to last, and a value's name
+-- the code points from first to last, and a value's name
 pub record Entry : Type 0 where
   pub first : ℕ
   pub last : ℕ
   pub name : List ℕ
 
--- nothing, that codes have a value, or which value they have where no row holds them
+-- nothing, a row that gives code points a value, or a default for code points without a row
 pub data Meaning : Type 0 where
   nothing : Meaning
   row : Entry → Meaning
@@ -45,7 +44,7 @@ is_hex byte = is_digit byte 16
 abbrev pub is_name_byte : ℕ → Bool
 is_name_byte byte = is_ascii_alphanumeric byte || (byte == 95)
 
--- without the white space at the front, or at both ends
+-- without leading white space, or without white space at both ends
 abbrev pub trimmed_start : List ℕ → List ℕ
 trimmed_start bytes = drop (prefix_len is_space bytes) bytes
 
@@ -67,7 +66,7 @@ pair_of field =
     then (code_of (before_first is_dot field) >>= λ first. code_of (drop 2 rest) >>= λ last. Some (first, last))
     else None
 
--- the same, where single also of one code, which is both ends
+-- the same; if single, also one code point, which is both ends
 unfoldable pub range_of : Bool → List ℕ → Option (ℕ × ℕ)
 range_of single field =
     if single && not (list_any is_dot field)
@@ -78,14 +77,14 @@ range_of single field =
 unfoldable pub name_of : List ℕ → Option (List ℕ)
 name_of field = if nat_lt 0 (length field) && list_all is_name_byte field then Some field else None
 
--- a range, a semicolon and a name, each with white space around it or none
+-- a range, a semicolon and a name, with optional white space around each
 unfoldable pub entry_of : Bool → List ℕ → Option Entry
 entry_of single bytes = do
   range ← range_of single (trimmed (before_first is_semicolon bytes))
   name ← name_of (trimmed (after_first is_semicolon bytes))
   Some (record { first = range.0; last = range.1; name = name })
 
--- the entry of a default line, of what stands after the first `#`
+-- the entry of a default line, from the text after the first `#`
 unfoldable pub default_of : List ℕ → Option Entry
 default_of comment =
     let body = trimmed_start comment in
@@ -93,17 +92,17 @@ default_of comment =
     then entry_of false (before_first is_hash (drop 9 body))
     else None
 
--- a comment is a default line, or says nothing
+-- a comment is a default line, or has no meaning
 abbrev pub comment_meaning : Bool → List ℕ → Meaning
 comment_meaning true comment = option_map_or default (default_of comment) nothing
 comment_meaning false comment = nothing
 
--- without a carriage return at the end
+-- without a trailing carriage return
 abbrev pub without_return : List ℕ → List ℕ
 without_return line =
     if slice_index line (length line - 1) == 13 then take (length line - 1) line else line
 
--- What a line says, in a file with default lines or without; None for a line that is none of the grammar.
+-- The meaning of a line, in a file with or without default lines; None for a line outside the grammar.
 unfoldable pub meaning_of : Bool → List ℕ → Option Meaning
 meaning_of defaults line =
     let text = without_return line in

@@ -1,4 +1,4 @@
--- Rows in the order of their codes, rows laid over others, and the marks of the codes that rows hold.
+-- Rows sorted by code point, rows laid over others, and the marks of the code points that rows have.
 use Rattle.std.specs.Prelude.{ℕ, ◌<◌, ◌≤◌, ◌≡◌, List}
 use Rattle.std.specs.Option.{option_or}
 use Rattle.std.specs.List.{All, AllPairs, list_any}
@@ -6,7 +6,7 @@ use Rattle.lbk_masks.specs.Bits.{is_marked}
 use Rattle.lbk_ucd.specs.declared.ranges.Row.{Row}
 use Rattle.lbk_ucd.specs.Rows.{holds, first_value}
 
--- a row does not end before it begins, and ends within the codes
+-- a row does not end before it begins, and its last code point is at most 10FFFF
 abbrev pub IsRange : {V : Type 0} → Row V → Type 0
 IsRange row = (row.first ≤ row.last) × (row.last ≤ 0x10FFFF)
 
@@ -15,10 +15,10 @@ pub record IsInOrder {V : Type 0} (rows : List (Row V)) : Type 0 where
   pub each : All IsRange rows
   pub apart : AllPairs (λ row later. row.last < later.first) rows
 
--- a code has in the result its value of over, or else that of under
+-- in the result a code point has its value in over, or else in under
 abbrev pub IsOverlay : {V : Type 0} → List (Row V) → List (Row V) → List (Row V) → Type 0
 IsOverlay under over result = (code : ℕ) → first_value code result ≡ option_or (first_value code over) (first_value code under)
 
--- a code is marked exactly if a row holds it
+-- a code point is marked exactly if a row has it
 abbrev pub AreMarked : {V : Type 0} → List (Row V) → List ℕ → Type 0
 AreMarked rows words = (code : ℕ) → is_marked words code ≡ list_any (holds code) rows

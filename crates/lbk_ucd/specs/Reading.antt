@@ -1,4 +1,4 @@
--- What reading adds to what is gathered, line by line.
+-- What each line adds to the gathered rows and defaults.
 use Rattle.std.specs.Prelude.{ℕ, ◌≡◌, ◌⊎◌, ◌+◌, length, ◌++◌, Option, Some, None, IsSome}
 use Rattle.std.specs.Option.{option_to_list}
 use Rattle.lbk_ucd.specs.declared.ranges.Row.{Row}
@@ -10,13 +10,13 @@ use Rattle.lbk_ucd.specs.declared.faults.UcdCause.TheVariants.{Memory}
 abbrev pub count_of : {V : Type 0} → Gathered V → ℕ
 count_of gathered = length gathered.rows.items + length gathered.defaults.items
 
--- new has what old does, and the row and the default where there are these
+-- new has what old has, plus the row and the default, if there are any
 pub record Adds {V : Type 0} (row default : Option (Row V)) (old new : Gathered V) : Type 0 where
   pub rows : new.rows.items ≡ old.rows.items ++ option_to_list row
   pub defaults : new.defaults.items ≡ old.defaults.items ++ option_to_list default
   pub unlisted : new.unlisted ≡ old.unlisted
 
--- the cause that was found, or Memory where none was found and there is something to keep
+-- the cause that was found, or Memory if none was found and there is something to keep
 abbrev pub IsAnswered : {V : Type 0} → Option UcdCause → Option (Row V) → Option (Row V) → UcdCause → Type 0
 IsAnswered found row default cause =
     (found ≡ Some cause) ⊎ ((cause ≡ Memory) × (found ≡ None) × (IsSome row ⊎ IsSome default))

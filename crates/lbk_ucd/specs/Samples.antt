@@ -1,4 +1,4 @@
--- The sample files, each by the constant that has its bytes.
+-- The sample files, each by the constant with its bytes.
 use Rattle.std.specs.Prelude.{◌≡◌}
 use Rattle.lbk_ucd.specs.declared.samples.TheConstants.{SAMPLE_LINE_BREAK, SAMPLE_EAST_ASIAN, SAMPLE_CATEGORY}
 use Rattle.lbk_ucd.specs.declared.samples.TheConstants.{SAMPLE_EMOJI}

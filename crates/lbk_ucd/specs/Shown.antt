@@ -1,4 +1,4 @@
--- What the code's values show, without where they lie in memory.
+-- What the code's values show, without their layout in memory.
 use Rattle.std.specs.Prelude.{ℕ, ◌==◌, List, [], map, Option, Some, None}
 use Rattle.std.specs.List.{slice_split}
 use Rattle.std.specs.Borrow.{Bor}

@@ -1,4 +1,4 @@
--- What the tables answer at each code.
+-- The properties of each code point in the tables.
 use Rattle.std.specs.Prelude.{ℕ, Bool, unwrap_or}
 use Rattle.lbk_ucd.specs.declared.tables.Tables.{Tables}
 use Rattle.lbk_ucd.specs.declared.ranges.Assigned.{Assigned}
@@ -7,7 +7,7 @@ use Rattle.lbk_values.specs.declared.values.EastAsian.{EastAsian}
 use Rattle.lbk_values.specs.declared.values.Category.{Category}
 use Rattle.lbk_ucd.specs.Rows.{first_value}
 
--- the value that the rows of one file give a code
+-- the value of a code point by the rows of one file
 abbrev pub value_of : {V : Type 0} → Assigned V → ℕ → V
 value_of assigned code = unwrap_or (first_value code assigned.rows.items) assigned.unlisted
 
