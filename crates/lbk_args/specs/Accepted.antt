@@ -1,4 +1,4 @@
--- Which words are a command line of the program, and what is wrong with others.
+-- Which arguments are a command line of the program, and what is wrong with others.
 use Rattle.std.specs.Prelude.{◌≡◌, ◌&&◌, ◌/◌, Bool, true, not, List, [], ◌∷◌, Option, None, Some, if◌then◌else◌, nat_le, nat_lt}
 use Rattle.clap.specs.Kinds.{or_else}
 use Rattle.clap.specs.Words.{Kinds, Text, fault_of}
@@ -20,16 +20,17 @@ abbrev pub are_sizes : Engine → Bool
 are_sizes (Chunk limit sizes texts) = nat_le sizes.least sizes.most && nat_le sizes.overlap (sizes.most / 2)
 are_sizes _ = true
 
--- words that `clap` takes ask for no task where a property file is not named, and for one that is refused where a
--- range ends before it begins, where a sign is none, or where chunks have no room for what they shall hold
+-- arguments that `clap` accepts ask for no task if a property file is not named; a task is refused if its range ends
+-- before it begins, its sign is invalid, or its sizes of chunks contradict each other
 abbrev pub task_fault : Option Task → Kinds
 task_fault None = MissingRequiredArgument ∷ []
 task_fault (Some task) = if is_range task.part && (is_sign task.sign && are_sizes task.engine) then [] else ValueValidation ∷ []
 
--- what is wrong with the words, or what they ask for in place of work, as `clap` sorts it; else what is with their task
+-- what is wrong with the arguments, or what they ask for instead of work, by the kinds of `clap`; else what is wrong
+-- with their task
 abbrev pub faults_of : List Text → Kinds
 faults_of words = or_else (fault_of lbk_app words) (task_fault (task_by words))
 
--- the words are a command line of the program
+-- the arguments are a command line of the program
 abbrev pub AreAccepted : List Text → Type 0
 AreAccepted words = faults_of words ≡ []

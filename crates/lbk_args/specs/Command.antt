@@ -1,41 +1,41 @@
--- The command line: the subcommands, and the options that each has.
+-- The command line: the subcommands and their options.
 use Rattle.std.specs.Prelude.{ℕ, true, [], ◌∷◌, Some, codes}
 use Rattle.lbk_feed.specs.Text.{greatest_limit}
 use Rattle.clap.specs.Words.{App, Rule, Text, new_app, new_rule, with_rule, with_subcommand}
 use Rattle.clap.specs.declared.builder.action.ArgAction.TheVariants.{Append, Set, SetTrue}
 use Rattle.clap.specs.declared.builder.value_parser.ValueParser.TheVariants.{Unsigned}
 
--- the limit of a paragraph where none is given, in bytes, and as the command line has it
+-- the default limit of a paragraph, in bytes, and as text
 abbrev pub default_limit : ℕ
 default_limit = 65536
 
 abbrev pub default_limit_text : Text
 default_limit_text = codes "65536"
 
--- an option of a long name
+-- an option with a long name
 abbrev pub long_rule : Text → Rule
 long_rule name = record (new_rule name) { long = Some name }
 
--- an option that takes a value
+-- an option with a value
 abbrev pub value_rule : Text → Rule
 value_rule name = record (long_rule name) { action = Some Set; value_names = 1 }
 
--- an option with a number of a range
+-- an option with a number in a range
 abbrev pub number_rule : Text → ℕ → Text → Rule
 number_rule name most default = record (value_rule name) {
   parser = Some (Unsigned 1 most);
   defaults = default ∷ [];
 }
 
--- the greatest byte of a text that an option takes: more than any text has
+-- the greatest byte offset that an option accepts: more than any text has
 abbrev pub greatest_byte : ℕ
 greatest_byte = 4294967295
 
--- an option with a byte of a text
+-- an option with a byte offset in a text
 abbrev pub byte_rule : Text → Rule
 byte_rule name = record (value_rule name) { parser = Some (Unsigned 0 greatest_byte) }
 
--- an option with a number of bytes or words, of which there are no more than bytes in a paragraph
+-- an option with a number of bytes or words, at most as many as bytes in a paragraph
 abbrev pub size_rule : Text → ℕ → Rule
 size_rule name least = record (value_rule name) { parser = Some (Unsigned least greatest_limit) }
 
@@ -43,7 +43,7 @@ size_rule name least = record (value_rule name) { parser = Some (Unsigned least 
 abbrev pub flag_rule : Text → Rule
 flag_rule name = record (long_rule name) { action = Some SetTrue }
 
--- the flag of texts, whose long name is that of the operands
+-- the flag `--text`; the operands have the same name
 abbrev pub texts_flag_rule : Rule
 texts_flag_rule = record (new_rule (codes "texts")) { long = Some (codes "text"); action = Some SetTrue }
 
@@ -67,11 +67,11 @@ files_app name = with_rule (with_rule (widths_app name)
 abbrev pub profile_rule : Rule
 profile_rule = number_rule (codes "profile") 2 (codes "1")
 
--- a subcommand with the profile, the flag of names and the texts behind its other options
+-- a subcommand with `--profile`, `--names` and the texts after its other options
 abbrev pub shared_app : App → App
 shared_app app = with_rule (with_rule (with_rule app profile_rule) (flag_rule (codes "names"))) texts_rule
 
--- a subcommand over texts, with the limit and the range behind its other options
+-- a subcommand over texts, with `--limit`, `--from` and `--to` after its other options
 abbrev pub ranged_app : App → App
 ranged_app app = shared_app (with_rule (with_rule (with_rule app
     (number_rule (codes "limit") greatest_limit default_limit_text)) (byte_rule (codes "from"))) (byte_rule (codes "to")))
@@ -84,7 +84,7 @@ limited_app name = ranged_app (files_app name)
 abbrev pub mark_app : App
 mark_app = with_rule (limited_app (codes "mark")) (value_rule (codes "sign"))
 
--- `chunk`, whose sizes and flag stand before the limit; the greatest size has to be given
+-- `chunk`, with its sizes and its flag before the limit; the greatest size is required
 abbrev pub most_app : App
 most_app = with_rule (files_app (codes "chunk")) (record (size_rule (codes "most") 1) { required = true })
 
@@ -99,14 +99,14 @@ chunk_app = ranged_app sized_app
 abbrev pub replay_app : App
 replay_app = shared_app (with_rule (files_app (codes "replay")) (flag_rule (codes "kinds")))
 
--- a program that takes only words behind its name, wants a subcommand and tells its version
+-- a program that requires a subcommand, and has a version
 abbrev pub bare_app : App
 bare_app = record {
   top = record (new_app (codes "lbk")).top { no_binary_name = true; has_version = true; subcommand_required = true };
   subs = [];
 }
 
--- the program with its subcommands, each added behind those before it
+-- the program with its subcommands, in the order in which they are added
 abbrev pub app_to_mark : App
 app_to_mark = with_subcommand bare_app mark_app.top
 

@@ -4,11 +4,11 @@ use Rattle.clap.specs.Words.{App, app_of}
 use Rattle.clap.specs.declared.builder.command.Command.{Command}
 use Rattle.clap.specs.declared.builder.command.Command.TheViews.{out-Command}
 
--- no argument of the command is one for its subcommands too
+-- no argument of the command is also one of its subcommands
 abbrev pub IsLocal : Command → Type 0
 IsLocal command = (out-Command command).has_globals ≡ false
 
--- where the command was made, it has these options and subcommands
+-- if the command was made, it has these options and subcommands
 pub record IsMade {E : Type 0} (app : App) (made : Result Command E) : Type 0 where
   pub is_app : IfOk made (λ c. app_of c ≡ app)
   pub local : IfOk made IsLocal

@@ -1,4 +1,4 @@
--- A word in one line, as a person reads it.
+-- An argument printed in one line.
 use Rattle.std.specs.Prelude.{ℕ, ◌==◌, ◌||◌, ◌&&◌, Bool, false, not, List, [], ◌∷◌, ◌++◌, encode_utf8, if◌then◌else◌}
 use Rattle.std.specs.Prelude.{nat_lt}
 use Rattle.std.specs.Char.{is_control}
@@ -9,8 +9,8 @@ use Rattle.std.specs.Str.{chars}
 abbrev pub is_within : ℕ → ℕ → ℕ → Bool
 is_within first last code = not (nat_lt code first) && not (nat_lt last code)
 
--- what turns the order of text on a terminal (PropList.txt, Bidi_Control: 61C, 200E to 200F, 202A to 202E, 2066 to
--- 2069), and the two characters that end a line and are no controls (2028 and 2029)
+-- the characters that change the text direction on a terminal (PropList.txt, Bidi_Control: 61C, 200E to 200F, 202A to
+-- 202E, 2066 to 2069), and the two that end a line and are no controls (2028 and 2029)
 abbrev pub is_turning : ℕ → Bool
 is_turning code = (code == 1564) || (is_within 8206 8207 code || (is_within 8232 8238 code || is_within 8294 8297 code))
 

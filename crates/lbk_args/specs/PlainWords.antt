@@ -1,4 +1,4 @@
--- Words that nobody can read in two ways: they are always accepted, and mean what they say.
+-- Unambiguous arguments: they are always accepted, and have exactly this meaning.
 use Rattle.std.specs.Prelude.{◌≡◌, ◌≢◌, ℕ, ◌/◌, ◌≤◌, ◌⊎◌, Bool, true, false, List, [], ◌∷◌, ◌++◌, None, codes}
 use Rattle.std.specs.Fmt.{decimal}
 use Rattle.clap.specs.Words.{Text}
@@ -17,20 +17,20 @@ abbrev pub IsPlainName : Text → Type 0
 IsPlainName [] = ⊥
 IsPlainName (first ∷ rest) = first ≢ 45
 
--- nothing, or `--limit` and a number of its range without leading zeros
+-- nothing, or `--limit` and a number in its range without leading zeros
 abbrev pub AreLimitWords : ℕ → List Text → Type 0
 AreLimitWords limit words = ((words ≡ []) × (limit ≡ default_limit))
     ⊎ ((words ≡ codes "--limit" ∷ decimal limit ∷ []) × (1 ≤ limit) × (limit ≤ greatest_limit))
 
--- the sizes of chunks where only the greatest is given
+-- the sizes of chunks if only the greatest is given
 abbrev pub sizes_of : ℕ → Sizes
 sizes_of most = record { most = most; words = 0; least = most / 2; overlap = 0 }
 
--- nothing, or the word of a flag
+-- nothing, or a flag
 abbrev pub AreFlagWords : Text → Bool → List Text → Type 0
 AreFlagWords flag is_given words = ((words ≡ []) × (is_given ≡ false)) ⊎ ((words ≡ flag ∷ []) × (is_given ≡ true))
 
--- `--most` and a number of its range without leading zeros, and `--text` where the texts are asked for
+-- `--most` and a number in its range without leading zeros, and `--text` for the texts
 pub record AreChunkWords (limit : ℕ) (sizes : Sizes) (texts : Bool) (words : List Text) : Type 0 where
   pub most : ℕ
   pub some : 1 ≤ most
@@ -45,7 +45,7 @@ pub record AreChunkWords (limit : ℕ) (sizes : Sizes) (texts : Bool) (words : L
 abbrev pub AreKindsWords : Bool → List Text → Type 0
 AreKindsWords kinds words = AreFlagWords (codes "--kinds") kinds words
 
--- the words of the option that an engine alone has
+-- the arguments of an engine's own option
 abbrev pub AreEngineWords : Engine → List Text → Type 0
 AreEngineWords (Mark limit) words = AreLimitWords limit words
 AreEngineWords (Show limit) words = AreLimitWords limit words
@@ -78,7 +78,7 @@ folder_files folder = record {
   emoji = in_folder folder;
 }
 
--- each file by a name of its own
+-- each file by its own name
 abbrev pub given_files : Text → Text → Text → Text → NamedFiles
 given_files line_break east_asian category emoji = record {
   line_break = given line_break;
@@ -98,7 +98,7 @@ pub record AreFolderWords (files : NamedFiles) (words : List Text) : Type 0 wher
   pub are : words ≡ codes "--ucd" ∷ folder ∷ []
   pub files_are : files ≡ folder_files folder
 
--- the four files in order, each behind its option
+-- the four files in order, each after its option
 pub record AreFourWords (files : NamedFiles) (words : List Text) : Type 0 where
   pub line_break : Text
   pub east_asian : Text

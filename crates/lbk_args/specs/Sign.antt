@@ -4,7 +4,7 @@ use Rattle.std.specs.Str.{chars}
 use Rattle.clap.specs.Words.{Text}
 use Rattle.lbk_args.specs.OneLine.{is_within}
 
--- ÷, where the words give none
+-- ÷, if the arguments give none
 abbrev pub default_sign : Text
 default_sign = 0xC3 ∷ 0xB7 ∷ []
 

@@ -1,4 +1,4 @@
--- What accepted words ask for, by the values that `clap` finds in them.
+-- What accepted arguments ask for, by the values that `clap` finds in them.
 use Rattle.std.specs.Prelude.{ℕ, ◌^◌, ◌==◌, ◌&&◌, ◌/◌, Bool, false, List, [], ◌∷◌, Option, Some, None, if◌then◌else◌}
 use Rattle.std.specs.Prelude.{nat_lt, codes, map, option_and_then, option_map, unwrap_or}
 use Rattle.std.specs.Str.{bytes_eq}
@@ -18,7 +18,7 @@ use Rattle.lbk_args.specs.declared.order.Order.{Order}
 use Rattle.lbk_args.specs.declared.order.Part.{Part}
 use Rattle.lbk_args.specs.declared.order.Sizes.{Sizes}
 
--- how a property file is named: by an option of its own, or by the folder that it is in
+-- how a property file is named: by its own option, or by its folder
 pub data Named : Type 0 where
   given : Text → Named
   in_folder : Text → Named
@@ -30,8 +30,8 @@ pub record NamedFiles : Type 0 where
   pub category : Named
   pub emoji : Named
 
--- an engine with its option, the names of the four files, the profile, which passages of each text, the sign of
--- `mark`, whether lines with their names are written, and the names of the texts
+-- an engine with its options, the names of the four files, the profile, the range of passages in each text, the sign of
+-- `mark`, whether to write names, and the names of the texts
 pub record Task : Type 0 where
   pub engine : Engine
   pub files : NamedFiles
@@ -53,7 +53,7 @@ files_of_names names = record {
   emoji = named_of names.emoji;
 }
 
--- the task that an order holds
+-- the task of an order
 abbrev pub task_of : Order → Task
 task_of o = record {
   engine = o.engine;
@@ -65,13 +65,13 @@ task_of o = record {
   texts = map (λ name. name.now) o.texts.items;
 }
 
--- a folder, where its name is not empty
+-- a folder, if its name is not empty
 abbrev pub named_folder : Option Text → Option Named
 named_folder None = None
 named_folder (Some []) = None
 named_folder (Some (first ∷ rest)) = Some (in_folder (first ∷ rest))
 
--- the name that a file's own option gives, or else the folder
+-- the name in a file's own option, or else the folder
 abbrev pub own_or_folder : Option Text → Option Text → Option Named
 own_or_folder (Some name) folder = Some (given name)
 own_or_folder None folder = named_folder folder
@@ -79,7 +79,7 @@ own_or_folder None folder = named_folder folder
 abbrev pub named_in : Text → List Row → Option Named
 named_in id rows = own_or_folder (first_of id rows) (first_of (codes "ucd") rows)
 
--- all four, where each is named
+-- all four, if each is named
 abbrev pub all_four : Option Named → Option Named → Option Named → Option Named → Option NamedFiles
 all_four (Some line_break) (Some east_asian) (Some category) (Some emoji) = Some (record {
   line_break = line_break;
@@ -93,11 +93,11 @@ abbrev pub files_in : List Row → Option NamedFiles
 files_in rows = all_four (named_in (codes "line-break") rows) (named_in (codes "east-asian") rows)
     (named_in (codes "category") rows) (named_in (codes "emoji") rows)
 
--- the text is a number of 32 bits in decimal, where a plus may stand first
+-- the text is a 32-bit number in decimal, perhaps after a plus
 abbrev pub is_number : Text → Bool
 is_number text = is_numeral (without_leading_plus text) && nat_lt (digits_value 10 (without_leading_plus text)) (2 ^ 32)
 
--- the number that a text writes, and `other` where it writes none
+-- the number in a text, or `other` if it has none
 abbrev pub number_or : ℕ → Option Text → ℕ
 number_or other None = other
 number_or other (Some text) = if is_number text then digits_value 10 (without_leading_plus text) else other
@@ -108,18 +108,18 @@ limit_in rows = number_or default_limit (one_of (codes "limit") rows)
 abbrev pub profile_in : List Row → Profile
 profile_in rows = if number_or 1 (one_of (codes "profile") rows) == 2 then Second else First
 
--- the passages that begin at byte `from` or behind it, before byte `to`; None, where these are all that a text may have
+-- the passages that begin at byte `from` or later, and before byte `to`; None if these are all that a text may have
 abbrev pub part_by : ℕ → ℕ → Option Part
 part_by from to = if (from == 0) && (to == greatest_byte) then None else Some (record { from = from; to = to })
 
 abbrev pub part_in : List Row → Option Part
 part_in rows = part_by (number_or 0 (one_of (codes "from") rows)) (number_or greatest_byte (one_of (codes "to") rows))
 
--- the sign of `mark`, which no other subcommand has an option for
+-- the sign of `mark`; no other subcommand has an option for it
 abbrev pub sign_in : List Row → Text
 sign_in rows = unwrap_or (first_of (codes "sign") rows) default_sign
 
--- the names of the texts, in the order of the words
+-- the names of the texts, in the order of the arguments
 abbrev pub texts_in : List Row → List Text
 texts_in rows = unwrap_or (all_of (codes "text") rows) []
 
@@ -128,7 +128,7 @@ abbrev pub is_true : Option Text → Bool
 is_true None = false
 is_true (Some text) = bytes_eq text (codes "true")
 
--- whether the words have the flag of a name
+-- whether the arguments have the flag with a name
 abbrev pub flag_in : Text → List Row → Bool
 flag_in id rows = is_true (one_of id rows)
 
@@ -138,7 +138,7 @@ kinds_in rows = flag_in (codes "kinds") rows
 abbrev pub names_in : List Row → Bool
 names_in rows = flag_in (codes "names") rows
 
--- the sizes of chunks, of which the least is half of the greatest where it is not given; 0 words stand for any number
+-- the sizes of chunks; the default of the least is half of the greatest; 0 words mean any number
 abbrev pub sizes_by : ℕ → List Row → Sizes
 sizes_by most rows = record {
   most = most;
@@ -161,7 +161,7 @@ engine_in name rows =
     else if bytes_eq name (codes "chunk") then Chunk (limit_in rows) (sizes_in rows) (with_texts_in rows)
     else Replay (kinds_in rows)
 
--- the task of a subcommand, by the rows of its options, where its files are named
+-- the task of a subcommand, from its options, if its files are named
 abbrev pub task_in : Text × List Row → Option Task
 task_in found = option_map (λ files. record {
   engine = engine_in found.0 found.1;
@@ -173,6 +173,6 @@ task_in found = option_map (λ files. record {
   texts = texts_in found.1;
 }) (files_in found.1)
 
--- the task that the words ask for
+-- the task that the arguments ask for
 abbrev pub task_by : List Text → Option Task
 task_by words = option_and_then task_in (subcommand_of lbk_app words)

@@ -1,4 +1,4 @@
--- What a run of the program does, by its words.
+-- What a run of the program does, by its arguments.
 use Rattle.std.specs.Prelude.{◌≡◌, ◌⊎◌, ◌+◌, ◌≤◌, ◌↔◌, ℕ, Bool, List, Option, None, Some, Result, IfOk, IfSome}
 use Rattle.std.specs.Prelude.{IsErrOf, IsTrue, IsUtf8, OnOk, if◌then◌else◌}
 use Rattle.std.specs.Str.{chars}
@@ -46,7 +46,7 @@ use Rattle.lbk_cmd.specs.Devices.{Devices}
 use Rattle.lbk_cmd.specs.Operands.{Reads, ReadsAlone, Standing}
 use Rattle.lbk_cmd.specs.Ending.{ending_of_files, ending_of_replay, ending_of_stop, ending_of_text}
 
--- what the engines over texts do where they differ only in what they write: to the devices, with the answer
+-- what the engines over texts do, which differ only in what they write: to the devices, with the result
 pub record TextRuns (Written : List ℕ → Option (List ℕ) → Option (List ℕ) → Type 0) (engine : Writing) (before after : Devices) (answer : Result (Unit {0}) CmdFault) : Type 0 where
   pub shown : OnOk answer (IfSome before.unread (λ input. IsUtf8 input × Written input before.written after.written))
   pub ended : OnOk answer (IsTrue after.has_ended × IsAtEnd after.unread)
@@ -56,7 +56,7 @@ pub record TextRuns (Written : List ℕ → Option (List ℕ) → Option (List �
   pub failed_reads : after.failed_reads ≡ failed_reads_with before.failed_reads answer
   pub failed_writes : after.failed_writes ≡ failed_writes_with before.failed_writes answer
 
--- the same, by the lines that are written of each passage
+-- the same, by the lines written for each passage
 abbrev pub Writes : Lines → (ℕ → Cell) → ℕ → Profile → Devices → Devices → Result (Unit {0}) CmdFault → Type 0
 Writes lines cell limit profile =
     TextRuns (λ input before after. Appends before after (lines_from (lines_of lines cell) 0 (passages profile cell (chars input))))
@@ -74,7 +74,7 @@ abbrev pub Segments : (ℕ → Cell) → ℕ → Profile → Devices → Devices
 Segments cell limit profile =
     TextRuns (λ input before after. Appends before after (segment_text cell (passages profile cell (chars input)))) (by_passage (segmenting cell profile limit))
 
--- `chunk`, as it is asked
+-- `chunk`, as the task asks for it
 abbrev pub Chunks : Asked → Limits → (ℕ → Cell) → ℕ → Profile → Devices → Devices → Result (Unit {0}) CmdFault → Type 0
 Chunks asked limits cell limit profile =
     TextRuns (λ input before after. (out : List ℕ) × AreLinesOf asked limits cell (passages profile cell (chars input)) out × Appends before after out)
@@ -99,19 +99,20 @@ form_of kinds = if kinds then Kinds else Plain
 abbrev pub StopsBefore : (Stop → Type 0) → Devices → Devices → Ending → Type 0
 StopsBefore IsStop before after ending = (stop : Stop) × IsStop stop × (ending ≡ ending_of_stop stop) × (after ≡ before)
 
--- without words: `show` by the cells of the sample files, or want of memory for these, with nothing read or written
+-- without arguments: `show` with the cells of the sample files, or out of memory for these, with nothing read or
+-- written
 abbrev pub ShowsSamples : Devices → Devices → Ending → Type 0
 ShowsSamples before after ending =
     ((fault : CellsFault) × IsSampleFault fault × (ending ≡ ending_of_files fault) × (after ≡ before))
     ⊎ ((cell : ℕ → Cell) × AreSampleCells cell
     × ((answer : Result (Unit {0}) CmdFault) × Shows cell default_limit First before after answer × (ending ≡ ending_of_text answer)))
 
--- `chunk` runs, and the run ends as its answer says
+-- `chunk` runs, and the run ends as its result says
 abbrev pub ChunksEnd : Asked → Limits → (ℕ → Cell) → ℕ → Profile → Devices → Devices → Ending → Type 0
 ChunksEnd asked limits cell limit profile before after ending =
     (answer : Result (Unit {0}) CmdFault) × Chunks asked limits cell limit profile before after answer × (ending ≡ ending_of_text answer)
 
--- the engine runs with its option, `mark` with this sign, and the run ends as its answer says
+-- the engine runs with its option, `mark` with this sign, and the run ends as its result says
 abbrev pub EngineRuns : Engine → List ℕ → Profile → (ℕ → Cell) → Devices → Devices → Ending → Type 0
 EngineRuns (Mark limit) mark profile cell before after ending =
     (answer : Result (Unit {0}) CmdFault) × Marks mark cell limit profile before after answer × (ending ≡ ending_of_text answer)
@@ -124,12 +125,12 @@ EngineRuns (Chunk limit sizes texts) mark profile cell before after ending =
 EngineRuns (Replay kinds) mark profile cell before after ending =
     (answer : Result Report ReplayFault) × Replays cell (form_of kinds) profile before after answer × (ending ≡ ending_of_replay answer)
 
--- an engine writes of the passages of a range, and the run ends as its answer says
+-- an engine writes the passages of a range, and the run ends as its result says
 abbrev pub RangeEnds : Part → TextEngine → Devices → Devices → Ending → Type 0
 RangeEnds part engine before after ending =
     (answer : Result (Unit {0}) CmdFault) × RangeRuns part engine before after answer × (ending ≡ ending_of_text answer)
 
--- the engine runs over a text, or over a range of it, which `replay` has none of
+-- the engine runs over a text, or over a range of it; `replay` has no ranges
 abbrev pub RunsOver : Option Part → Engine → List ℕ → Profile → (ℕ → Cell) → Devices → Devices → Ending → Type 0
 RunsOver None engine mark profile cell = EngineRuns engine mark profile cell
 RunsOver (Some part) (Mark limit) mark profile cell = RangeEnds part (marking mark cell profile limit)
@@ -139,16 +140,16 @@ RunsOver (Some part) (Chunk limit sizes texts) mark profile cell =
     ChunksEnd (record { range = Some part; texts = texts }) (limits_of sizes) cell limit profile
 RunsOver (Some part) (Replay kinds) mark profile cell = EngineRuns (Replay kinds) mark profile cell
 
--- what a task runs over the text of a name, by cells
+-- what a task runs over the text with a name, with cells
 abbrev pub RunsTask : Task → (ℕ → Cell) → List ℕ → Devices → Devices → Ending → Type 0
 RunsTask task cell = RunsNamed task.names (RunsOver task.part task.engine task.sign task.profile cell)
 
--- what is ready, in the same way
+-- the same for an engine that is ready
 abbrev pub RunsReady : Ready → List ℕ → Devices → Devices → Ending → Type 0
 RunsReady ready =
     RunsNamed ready.names (RunsOver ready.part ready.engine ready.sign.now ready.profile (page_cell ready.cells))
 
--- a task: its files stop the run and no text is opened, or its engine runs with its option and profile on the cells
+-- a task: its files stop the run and no text is opened, or its engine runs with its options and profile and the cells
 -- of the files, over its texts, or over its range of each
 abbrev pub Performs : {F : Type 0} → SourceMembers F → (List ℕ → Option (Option (List ℕ))) → (List ℕ → Option (Option (List ℕ))) → Task
     → LoadCounts → LoadCounts → Standing → Standing → Type 0
@@ -157,7 +158,7 @@ Performs source file text task counts counts' before after =
     ⊎ ((cell : ℕ → Cell) × AreCellsFrom (files_of file task.files) cell
     × Reads source text (RunsTask task cell) task.texts before after)
 
--- a task, where there are no files of text
+-- a task, if no texts can be opened
 abbrev pub PerformsAlone : (List ℕ → Option (Option (List ℕ))) → Task → LoadCounts → LoadCounts → Devices → Devices → Ending → Type 0
 PerformsAlone file task counts counts' before after ending =
     StopsBefore (IsStoppedAt file task counts counts') before after ending

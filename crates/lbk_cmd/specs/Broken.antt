@@ -1,4 +1,4 @@
--- What `break_text` answers, by the files and by what it read.
+-- The result of `break_text`, by the files and by what it read.
 use Rattle.std.specs.Prelude.{◌≡◌, ◌⊎◌, ℕ, List, map, Option, Result, Ok, Err, IfSome, IsUtf8}
 use Rattle.std.specs.Str.{chars}
 use Rattle.lbk_ucd.specs.declared.tables.Files.{Files}
@@ -23,20 +23,20 @@ use Rattle.lbk_feed.specs.Devices.{count_up}
 abbrev pub said : List Marked → Line
 said ms = passage_marks (scalars_of ms) (verdicts_of ms)
 
--- each line says one passage of the text, in their order
+-- each line is that of one passage of the text, in order
 pub record SayPassages (files : Files) (profile : Profile) (text : List ℕ) (lines : List Line) : Type 0 where
   pub passages : List (List Marked)
   pub are : ArePassagesOf files profile text passages
   pub say : lines ≡ map said passages
 
--- the bytes read, all that the reader had where it tells them, are a text, and the lines say its passages
+-- the bytes read (all of the reader's, if it tells them) are a text, and the lines are those of its passages
 pub record IsBroken (files : Files) (profile : Profile) (unread : Option (List ℕ)) (lines : List Line) : Type 0 where
   pub bytes : List ℕ
   pub read : IfSome unread (λ input. bytes ≡ input)
   pub utf8 : IsUtf8 bytes
   pub say : SayPassages files profile (chars bytes) lines
 
--- `show` answers so by cells of the files
+-- `show` with cells of the files has this result
 abbrev pub ShowsBy : Files → ℕ → Profile → Devices → Devices → Result (Unit {0}) CmdFault → Type 0
 ShowsBy files limit profile before after answer = (cell : ℕ → Cell) × AreCellsOf files cell × Shows cell limit profile before after answer
 
@@ -45,16 +45,16 @@ abbrev pub IsBreakFault : Files → ℕ → Profile → Devices → Devices → 
 IsBreakFault files limit profile before after (files_fault fault) = IsCellsRefusal files fault × (after ≡ before)
 IsBreakFault files limit profile before after (text_fault fault) = ShowsBy files limit profile before after (Err fault)
 
--- a write failed beside
+-- a write failed, too
 abbrev pub with_failed_write : Devices → Devices
 with_failed_write d = record d { failed_writes = count_up d.failed_writes }
 
--- `show` stops so; or memory could not grow for its lines in memory, which is a failed write there
+-- `show` stops so; or memory could not grow for its lines, which is a failed write to memory
 abbrev pub ShowStops : (ℕ → Cell) → ℕ → Profile → Devices → Devices → CmdFault → Type 0
 ShowStops cell limit profile before after fault = Shows cell limit profile before after (Err fault)
     ⊎ ((fault ≡ Memory) × Shows cell limit profile before (with_failed_write after) (Err Write))
 
--- the same of lines that are read back; or all of them were written, and memory could not grow for what they say
+-- the same for lines that are read back; or all of them were written, and memory could not grow for their meaning
 abbrev pub IsLinesFault : Files → ℕ → Profile → Devices → Devices → BreakFault → Type 0
 IsLinesFault files limit profile before after (files_fault fault) = IsCellsRefusal files fault × (after ≡ before)
 IsLinesFault files limit profile before after (text_fault fault) = (cell : ℕ → Cell) × AreCellsOf files cell

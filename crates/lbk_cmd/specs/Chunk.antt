@@ -1,4 +1,4 @@
--- What `chunk` writes: a line for each chunk, or an object of JSON (RFC 8259) with its text. Numbers are decimal, and
+-- What `chunk` writes: a line for each chunk, or a JSON object (RFC 8259) with its text. Numbers are decimal, and
 -- offsets count bytes of the whole text.
 use Rattle.std.specs.Prelude.{◌≡◌, ℕ, Bool, true, List, [], ◌∷◌, ◌++◌, codes, decimal, Option, None, Some, if◌then◌else◌}
 use Rattle.std.specs.List.{flat_map}
@@ -22,12 +22,12 @@ use Rattle.lbk_cmd.specs.Run.{Writing}
 use Rattle.lbk_cmd.specs.Segment.{kind_name, part}
 use Rattle.lbk_cmd.specs.declared.chunked.Asked.{Asked}
 
--- C, where a chunk begins and ends, how many words it has, and the kind and the rule at its end
+-- C, a chunk's start and end, its number of words, and the kind and the rule at its end
 abbrev pub chunk_line : Chunk → List ℕ
 chunk_line c = part (codes "C") c.start c.end
     ++ (32 ∷ (decimal c.words ++ (32 ∷ (kind_name (kind_numbered c.kind) ++ (32 ∷ (label_of (rule_numbered c.rule) ++ 10 ∷ []))))))
 
--- an object with where it begins and ends, how many words it has, and this text
+-- an object with a chunk's start and end, its number of words, and this text
 abbrev pub object_of : List ℕ → Chunk → List Token
 object_of text c =
     begin_object ∷ key (codes "start") ∷ number (decimal c.start) ∷ key (codes "end") ∷ number (decimal c.end)
@@ -36,12 +36,12 @@ object_of text c =
 abbrev pub object_line : List ℕ → Chunk → List ℕ
 object_line text c = print (object_of text c) ++ 10 ∷ []
 
--- what is written of a chunk, with its text if there is one
+-- the line or the object of a chunk, with its text if there is one
 abbrev pub line_with : Option (List ℕ) → Chunk → List ℕ
 line_with None c = chunk_line c
 line_with (Some text) c = object_line text c
 
--- a chunk that begins at this byte is asked for: in a range, if there is one
+-- a chunk that begins at this byte is in the range, if there is one
 abbrev pub is_asked : Option Part → ℕ → Bool
 is_asked None start = true
 is_asked (Some range) start = begins_in range start
@@ -56,14 +56,14 @@ asked_line asked text c = line_in asked.range (if asked.texts then Some (chunk_t
 abbrev pub chunk_lines : Asked → List ℕ → List Chunk → List ℕ
 chunk_lines asked text chunks = flat_map (asked_line asked text) chunks
 
--- those of the chunks that begin in ranges one after another: the first from byte `from` on, each up to one of these
--- bytes, where the next begins
+-- those of the chunks that begin in adjacent ranges: the first from byte `from` on, each up to one of these bytes,
+-- where the next begins
 abbrev pub lines_by_ranges : Bool → List ℕ → ℕ → List ℕ → List Chunk → List ℕ
 lines_by_ranges texts text from [] chunks = []
 lines_by_ranges texts text from (to ∷ tos) chunks =
     chunk_lines (record { range = Some (record { from = from; to = to }); texts = texts }) text chunks ++ lines_by_ranges texts text to tos chunks
 
--- the lines of the chunks of a text that has these passages, and of those that its first passages settle
+-- the lines of the chunks of a text with these passages, and of the chunks that its first passages settle
 abbrev pub AreLinesOf : Asked → Limits → (ℕ → Cell) → List (List Marked) → List ℕ → Type 0
 AreLinesOf asked limits cell passages out =
     (chunks : List Chunk) × AreChunks limits (cuts_of_passages cell 0 0 passages) text_start chunks

@@ -1,4 +1,4 @@
--- The lines of chunks that a window gives.
+-- The lines of the chunks of a window.
 use Rattle.std.specs.Prelude.{◌≡◌, ℕ, ◌≤◌, Bool, true, false, List, [], ◌++◌, length, take, Option, Result, Ok, Err}
 use Rattle.std.specs.Io.KnownBytes.{Appends}
 use Rattle.std.specs.List.{AllByRecursion}
@@ -13,17 +13,17 @@ use Rattle.lbk_passage.specs.State.{State}
 use Rattle.lbk_cmd.specs.Chunk.{chunk_lines}
 use Rattle.lbk_cmd.specs.declared.chunked.Asked.{Asked}
 
--- lines were written of those that waited and of more, and the others wait
+-- a prefix of the buffered lines and of further ones was written, and the others are buffered
 pub record Passes (written written' : Option (List ℕ)) (waiting waiting' line : List ℕ) : Type 0 where
   pub put : List ℕ
   pub wrote : Appends written written' put
   pub is : put ++ waiting' ≡ waiting ++ line
 
--- a write failed, and the front was written of the lines that waited and of this one
+-- a write failed, and a prefix of the buffered lines and of this one was written
 abbrev pub Breaks : Option (List ℕ) → Option (List ℕ) → List ℕ → List ℕ → Type 0
 Breaks written written' waiting line = (n : ℕ) × Appends written written' (take n (waiting ++ line))
 
--- a line stands behind those that waited, some of which may be written; or a write failed
+-- a line was appended to the buffer, of which some may be written; or a write failed
 abbrev pub Pushes : {X Y : Type 0} → Result X Y → Option (List ℕ) → Option (List ℕ) → List ℕ → List ℕ → List ℕ → Type 0
 Pushes (Ok x) written written' waiting waiting' line = Passes written written' waiting waiting' line
 Pushes (Err y) written written' waiting waiting' line = Breaks written written' waiting line
@@ -32,13 +32,13 @@ Pushes (Err y) written written' waiting waiting' line = Breaks written written' 
 abbrev pub IsIn : List ℕ → Chunk → Type 0
 IsIn text c = (c.start ≤ c.end) × (c.end ≤ length text)
 
--- the cuts of a window stand in a text, which it keeps from its next start on if texts are asked for
+-- the cuts of a window are in a text; the window keeps the text from its next start on if texts are asked for
 pub record StandsIn (asked : Asked) (text : List ℕ) (w : Window) : Type 0 where
   pub keeps : keeps_text w ≡ asked.texts
   pub holds : Holds text w
   pub between : AreCutsBetween (here_in w).start (cuts_in w) (length text)
 
--- a window gave chunks of a text, whose lines wait or were written
+-- a window returned chunks of a text; their lines are buffered or were written
 pub record Gave (asked : Asked) (text : List ℕ) (is_whole : Bool) (old new : Window) (written written' : Option (List ℕ)) (waiting waiting' : List ℕ) : Type 0 where
   pub limits : limits_in new ≡ limits_in old
   pub words : words_in new ≡ words_in old
@@ -54,14 +54,14 @@ abbrev pub Rests : Bool → Window → Type 0
 Rests true w = cuts_past (here_in w).told (cuts_in w) ≡ []
 Rests false w = IsOpen (limits_in w) (here_in w) (cuts_in w)
 
--- a write failed: the front was written of the lines that waited and of those of all chunks that are settled
+-- a write failed: a prefix of the buffered lines and of those of all settled chunks was written
 pub record BreaksOff (asked : Asked) (text : List ℕ) (is_whole : Bool) (old : Window) (written written' : Option (List ℕ)) (waiting : List ℕ) : Type 0 where
   pub chunks : List Chunk
   pub all : SettleAll (limits_in old) is_whole (here_in old) (cuts_in old) chunks
   pub count : ℕ
   pub wrote : Appends written written' (take count (waiting ++ chunk_lines asked text chunks))
 
--- the lines that waited were written, and those of all chunks that are left
+-- the buffered lines were written, and those of all chunks that are left
 pub record WritesAll (asked : Asked) (text : List ℕ) (old : Window) (written written' : Option (List ℕ)) (waiting : List ℕ) : Type 0 where
   pub chunks : List Chunk
   pub all : SettleAll (limits_in old) true (here_in old) (cuts_in old) chunks

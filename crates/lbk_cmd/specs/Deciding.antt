@@ -4,7 +4,7 @@ use Rattle.lbk_rules.specs.declared.Kind.TheVariants.{No}
 use Rattle.lbk_rules.specs.declared.Rule.TheVariants.{Lb15b}
 use Rattle.lbk_rules.specs.declared.Verdict.{Verdict}
 
--- a position that is held has a verdict in its place until its answer comes
+-- a held position has a placeholder until its verdict is known
 abbrev pub placed : Option Verdict → Verdict
 placed None = record { kind = No; rule = Lb15b }
 placed (Some verdict) = verdict

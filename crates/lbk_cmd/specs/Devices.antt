@@ -4,7 +4,7 @@ use Rattle.lbk_feed.specs.Devices.{Reads}
 use Rattle.lbk_feed.specs.declared.traits.Source.{Ghosts as SourceMembers}
 use Rattle.lbk_feed.specs.declared.traits.Sink.{Ghosts as SinkMembers}
 
--- what a reader has still to give and what a writer has taken, where they tell it, with what they counted
+-- the unread bytes of a reader and the written ones of a writer, if they tell them, with their counts
 pub record Devices : Type 0 where
   pub unread : Option (List ℕ)
   pub reads : Reads

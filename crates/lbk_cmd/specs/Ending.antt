@@ -23,7 +23,7 @@ status_of (Differs report) = 3
 status_of (Refused fault) = 1
 status_of Reported = 1
 
--- no other text is read after one that ended so: the output cannot be written, or a growth of memory was refused
+-- the run stops after a text that ended so: the output cannot be written, or an allocation failed
 abbrev pub is_last : Ending → Bool
 is_last (Refused Memory) = true
 is_last (Refused (Cmd cmd.Write)) = true
@@ -33,7 +33,7 @@ is_last (Refused (Replay replay.Write)) = true
 is_last (Refused (Replay replay.Memory)) = true
 is_last _ = false
 
--- how a run over texts ends that ended so with those before, and so with one more, whose refusal is reported
+-- the ending of a run over texts, from that of the earlier texts and of one more, whose refusal is reported
 abbrev pub ending_after : Ending → Ending → Ending
 ending_after before (Refused fault) = Reported
 ending_after Done next = next

@@ -1,4 +1,4 @@
--- The engines, by the lines that they write of a passage.
+-- The engines, by the lines that they write for a passage.
 use Rattle.std.specs.Prelude.{ℕ, List}
 use Rattle.lbk_rules.specs.declared.Cell.{Cell}
 use Rattle.lbk_values.specs.declared.profile.Profile.{Profile}

@@ -1,4 +1,4 @@
--- Lines that are gathered until a read is due.
+-- Lines that are buffered until the next read.
 use Rattle.std.specs.Prelude.{◌≡◌, ◌⊎◌, ℕ, ◌+◌, Bool, true, false, List, [], ◌++◌, length, Option, None, Some, Result}
 use Rattle.std.specs.Prelude.{Ok, Err}
 use Rattle.std.specs.Io.KnownBytes.{Appends}
@@ -12,13 +12,12 @@ use Rattle.lbk_cmd.specs.Run.{Engine}
 use Rattle.lbk_cmd.specs.declared.faults.CmdFault.{CmdFault}
 use Rattle.lbk_cmd.specs.declared.faults.CmdFault.TheVariants.{Memory, Passage}
 
--- the lines that waited were written, and none waits
+-- the buffered lines were written, and none is left
 abbrev pub HasWritten : Option (List ℕ) → Option (List ℕ) → List ℕ → List ℕ → Type 0
 HasWritten written written' before after = (after ≡ []) × Appends written written' before
 
--- the lines of the passage that a segmenter lent stand behind those that waited, if one was lent and memory could
--- grow for them;
--- `at` is then the byte of the text behind it
+-- the lines of the passage that a segmenter lent were appended to the buffer, if one was lent and memory could grow for
+-- them; `at` is then the offset after it
 abbrev pub Puts : Engine → State → Result (Option LentPassage) PassageFault → List ℕ → List ℕ → ℕ → Result Bool CmdFault → Type 0
 Puts e s (Ok None) before after at answer = (answer ≡ Ok false) × (after ≡ before)
 Puts e s (Ok (Some p)) before after at answer =
@@ -27,7 +26,7 @@ Puts e s (Ok (Some p)) before after at answer =
     ⊎ ((answer ≡ Err Memory) × (after ≡ before))
 Puts e s (Err why) before after at answer = (answer ≡ Err (Passage why)) × (after ≡ before)
 
--- what a call leaves that puts the lines of the next passage behind those that wait, by what a segmenter would lend
+-- the state after a call that appends the lines of the next passage to the buffer, by what a segmenter would lend
 pub record PutsNext (e : Engine) (old new : State) (unread unread' : Option (List ℕ)) (ended ended' : Bool) (reads reads' : Reads) (failures failures' : ℕ)
     (before after : List ℕ) (at : ℕ) (answer : Result Bool CmdFault) : Type 0 where
   pub lent : Result (Option LentPassage) PassageFault
@@ -35,7 +34,7 @@ pub record PutsNext (e : Engine) (old new : State) (unread unread' : Option (Lis
   pub failed : failures' ≡ failures_with failures (fault_in lent)
   pub puts : Puts e old lent before after at answer
 
--- how a run ends that has met such an answer, if it does
+-- how a run ends after such a result, if it does
 abbrev pub end_of : Result Bool CmdFault → Option (Result (Unit {0}) CmdFault)
 end_of (Ok true) = None
 end_of (Ok false) = Some (Ok (tt {0}))

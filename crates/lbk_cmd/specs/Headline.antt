@@ -1,4 +1,4 @@
--- What is promised of the passages of a text.
+-- The main theorem: the properties of the passages of a text.
 use Rattle.std.specs.Prelude.{◌≡◌, ℕ, List, Some}
 use Rattle.std.specs.List.{AllByRecursion, flat_map}
 use Rattle.lbk_ucd.specs.declared.tables.Files.{Files}
@@ -12,13 +12,13 @@ use Rattle.lbk_notation.specs.Shown.{passage_line, passage_marks}
 use Rattle.lbk_files.specs.Cells.{cell_of_files}
 use Rattle.lbk_cmd.specs.Show.{verdicts_of}
 
--- the line written of a passage says its scalars and marks
+-- the line written for a passage means its scalars and marks
 abbrev pub IsReadBack : List Marked → Type 0
 IsReadBack ms = IsLine Kinds (passage_line (scalars_of ms) (verdicts_of ms)) (Some (passage_marks (scalars_of ms) (verdicts_of ms)))
 
--- some passages, joined, are the text; their marks, joined, are those that the rule list gives on the whole text, by
--- the cells of four property files; a line must end after the last mark of each, and after no other; their segments
--- end at the breaks of the whole text; and the line written of each says its scalars and marks
+-- the passages, joined, are the text; their marks, joined, are those that the rule list gives on the whole text, by the
+-- cells of four property files; a line must end after the last mark of each, and after no other; their segments end at
+-- the breaks of the whole text; and the line written for each means its scalars and marks
 pub record ArePassagesOf (files : Files) (profile : Profile) (text : List ℕ) (passages : List (List Marked)) : Type 0 where
   pub joined : flat_map scalars_of passages ≡ text
   pub marked : flat_map (λ ms. ms) passages ≡ marks profile (cell_of_files files) text

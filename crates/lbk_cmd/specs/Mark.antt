@@ -1,4 +1,4 @@
--- What `mark` writes of a passage: its text, with a sign, as ÷, at each position where a line may end.
+-- What `mark` writes for a passage: its text, with a sign, such as ÷, at each position where a line may end.
 use Rattle.std.specs.Prelude.{ℕ, Bool, false, List, [], ◌∷◌, ◌++◌, None, encode_utf8, if◌then◌else◌}
 use Rattle.std.specs.List.{flat_map, last_or}
 use Rattle.std.specs.Option.{option_map_or}
@@ -22,10 +22,10 @@ signed mark m = encode_utf8 m.scalar ++ sign mark m.after.kind
 abbrev pub is_line_end : Cell → Bool
 is_line_end cell = (BK or CR or LF or NL) cell.class
 
--- LF where the last scalar is no line end
+-- LF, if the last scalar is no line end
 abbrev pub missing_line_end : (ℕ → Cell) → List ℕ → List ℕ
 missing_line_end cell scalars = if option_map_or (λ c. is_line_end (cell c)) (last_or None scalars) false then [] else 10 ∷ []
 
--- the text of a passage with its signs; a passage without a line end of its own, as the last of a text may be, gets one
+-- the text of a passage with its signs; a passage without a line end, perhaps the last of a text, gets one
 abbrev pub signed_passage : List ℕ → (ℕ → Cell) → List Marked → List ℕ
 signed_passage mark cell ms = flat_map (signed mark) ms ++ missing_line_end cell (scalars_of ms)

@@ -1,19 +1,19 @@
--- What texts in memory tell, and what they note of those that are refused.
+-- What texts in memory tell, and their record of refused ones.
 use Rattle.std.specs.Prelude.{◌≡◌, ◌⊎◌, ◌≤◌, ◌++◌, ◌∷◌, ℕ, List, [], None, Option, Some, vec_capacity, vec_len}
 use Rattle.lbk_files.specs.MemoryStore.{contents_of, named_files}
 use Rattle.lbk_cmd.specs.Operands.{Refusals}
 use Rattle.lbk_cmd.specs.declared.ending.RunFault.{RunFault}
 use Rattle.lbk_cmd.specs.declared.operands.MemoryTexts.{MemoryTexts}
 
--- what the file of a name holds
+-- the content of the file with a name
 abbrev pub told_by : MemoryTexts → List ℕ → Option (Option (List ℕ))
 told_by texts name = Some (contents_of (named_files texts.files) name)
 
--- what was refused is not told, since a list may not grow
+-- what was refused is not told, because the list may not grow
 abbrev pub refusals_told_by : MemoryTexts → Refusals
 refusals_told_by texts = None
 
--- a fault is noted behind those before it, unless the list is full, and then it stays
+-- a fault is appended to the list, unless the list is full; then it stays as it is
 abbrev pub Notes : RunFault → MemoryTexts → MemoryTexts → Type 0
 Notes fault old new = (new.refused.items ≡ old.refused.items ++ fault ∷ [])
     ⊎ ((new.refused.items ≡ old.refused.items) × (vec_capacity old.refused ≤ vec_len old.refused))

@@ -1,4 +1,4 @@
--- Why a run is refused, as a person reads it in one line.
+-- The message for a refused run, in one line.
 use Rattle.std.specs.Prelude.{ℕ, Bool, false, List, [], ◌∷◌, ◌++◌, Option, Some, None, codes, decimal, if◌then◌else◌}
 use Rattle.std.specs.Prelude.{nat_eq, nat_lt}
 use Rattle.std.specs.Borrow.{Bor}
@@ -38,7 +38,7 @@ use Rattle.lbk_cmd.specs.declared.parts_of_messages.Name.TheVariants as of_file
 use Rattle.lbk_cmd.specs.declared.parts_of_messages.Reason.{Reason}
 use Rattle.lbk_cmd.specs.declared.parts_of_messages.Reason.TheVariants.{System, IsOutput}
 
--- the reason behind a colon, where the program words it; the kit says nothing of the system's other words
+-- the reason after a colon, if the program words it; nothing is known about the system's other texts
 abbrev pub why_text : Option Reason → Option (List ℕ)
 why_text None = Some []
 why_text (Some IsOutput) = Some (codes ": input file is output file")
@@ -47,7 +47,7 @@ why_text (Some (System Uncategorized)) = Some []
 why_text (Some (System NotFound)) = Some (codes ": no such file")
 why_text (Some (System kind)) = None
 
--- the file of a kind, as the words name it
+-- the name of a file in the arguments
 abbrev pub name_in : FileNames → Which → FileName
 name_in files LineBreak = files.line_break
 name_in files EastAsianWidth = files.east_asian
@@ -63,7 +63,7 @@ file_text Call which = file_name which
 file_text NoWords which = codes "sample " ++ file_name which
 file_text (Words engine files) which = word_text (name_in files which) which
 
--- the option that names a file of one's own
+-- the option that names any other file
 abbrev pub option_of : Which → List ℕ
 option_of LineBreak = codes "--line-break"
 option_of EastAsianWidth = codes "--east-asian"
@@ -74,7 +74,7 @@ abbrev pub advice : Caller → Which → ClaimCause → List ℕ
 advice (Words engine files) which Changed = codes "; get it anew, or name a file of your own by " ++ option_of which
 advice _ which cause = []
 
--- the text of a name
+-- the text with a name
 abbrev pub operand_text : List ℕ → List ℕ
 operand_text name = if bytes_eq name (codes "-") then codes "standard input" else one_line name
 
@@ -91,7 +91,7 @@ output_text _ = codes "standard output"
 abbrev pub input_of : Message → List ℕ
 input_of m = input_text m.caller m.text
 
--- the most bytes of a paragraph, where the caller is the program
+-- the most bytes of a paragraph, if the caller is the program
 abbrev pub limit_of_engine : Engine → Option ℕ
 limit_of_engine (Mark limit) = Some limit
 limit_of_engine (Show limit) = Some limit
@@ -117,7 +117,7 @@ abbrev pub invalid_text : Bool → List ℕ
 invalid_text is_utf16 =
     if is_utf16 then codes "invalid UTF-8; it begins as UTF-16 does: iconv -f UTF-16 -t UTF-8 makes UTF-8 of it" else codes "invalid UTF-8"
 
--- what failed, behind it that it did, and why
+-- what failed, that it failed, and why
 abbrev pub failed_text : List ℕ → List ℕ → Option Reason → Option (List ℕ)
 failed_text what did reason = Some what ++? (Some did ++? why_text reason)
 
@@ -148,7 +148,7 @@ passage_text m passage.Spent = Some (codes "an earlier call was refused")
 abbrev pub unwritten_text : Message → Option (List ℕ)
 unwritten_text m = failed_text (output_text m.caller) (codes ": cannot be written") m.reason
 
--- the folder that a property file is of, where the words name one
+-- the folder of a property file, if the arguments name one
 abbrev pub folder_of_name : FileName → Option (List ℕ)
 folder_of_name (Given name) = None
 folder_of_name (InFolder folder) = Some folder.now
@@ -157,7 +157,7 @@ abbrev pub folder_of : Caller → Which → Option (List ℕ)
 folder_of (Words engine files) which = folder_of_name (name_in files which)
 folder_of _ which = None
 
--- how to go on where a file of a folder cannot be read; an archive is no folder
+-- what to do if a file in a folder cannot be read; an archive is no folder
 abbrev pub advice_of_folder : List ℕ → List ℕ
 advice_of_folder folder = if ends_with nat_eq folder (codes ".zip") then codes "; unpack it, and name the folder"
     else codes "; Debian's package unicode-data has the files: --ucd /usr/share/unicode"
@@ -194,11 +194,11 @@ text_of_fault m run.Memory = Some (codes "out of memory")
 abbrev pub message_text : Message → Option (List ℕ)
 message_text m = text_of_fault m m.fault
 
--- the message of a call of a library
+-- the message for a library call
 abbrev pub of_call : RunFault → Message
 of_call fault = record { fault = fault; caller = Call; text = None; reason = None; is_utf16 = false }
 
--- what the parts of a message say
+-- the texts of the parts of a message
 abbrev pub text_of_name : Name → List ℕ
 text_of_name (of_file.Plain which) = file_name which
 text_of_name (of_file.Sample which) = codes "sample " ++ file_name which

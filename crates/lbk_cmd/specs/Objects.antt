@@ -2,7 +2,7 @@
 use Rattle.std.specs.Prelude.{ℕ, List, ◌++◌, codes, decimal}
 use Rattle.lbk_chunks.specs.declared.chunk.Chunk.{Chunk}
 
--- up to the text in it
+-- the object up to its text
 abbrev pub front_of_object : Chunk → List ℕ
 front_of_object c =
     codes "{\"start\":" ++ (decimal c.start ++ (codes ",\"end\":" ++ (decimal c.end ++ (codes ",\"words\":" ++ (decimal c.words ++ codes ",\"text\":\"")))))

@@ -1,4 +1,4 @@
--- What a run does over the texts that operands name.
+-- A run over the texts that operands name.
 use Rattle.std.specs.Prelude.{◌≡◌, ◌≢◌, ◌⊎◌, ◌++◌, ℕ, true, false, List, [], ◌∷◌, None, Option, Some, codes, option_map}
 use Rattle.lbk_feed.specs.declared.traits.Source.{Ghosts as SourceMembers}
 use Rattle.lbk_files.specs.FileStore.{AreLeft}
@@ -10,11 +10,11 @@ use Rattle.lbk_cmd.specs.declared.ending.Ending.TheVariants.{Done, Refused}
 use Rattle.lbk_cmd.specs.declared.ending.RunFault.{RunFault}
 use Rattle.lbk_cmd.specs.declared.ending.RunFault.TheVariants.{Memory, Open}
 
--- names that were refused, in order, each with its fault, where this is told
+-- the refused names, in order, each with its fault, if this is told
 abbrev pub Refusals : Type 0
 Refusals = Option (List (List ℕ × RunFault))
 
--- where a run stands: its devices, what was refused, and how it ends if no other text is read
+-- the state of a run: its devices, what was refused, and how it ends if no other text is read
 pub record Standing : Type 0 where
   pub devices : Devices
   pub refused : Refusals
@@ -23,7 +23,7 @@ pub record Standing : Type 0 where
 abbrev pub standing : Devices → Refusals → Ending → Standing
 standing devices refused ending = record { devices = devices; refused = refused; ending = ending }
 
--- the devices of a run with a file in the place of its reader
+-- the devices of a run with a file as its reader
 abbrev pub over_file : {F : Type 0} → SourceMembers F → F → Devices → Devices
 over_file source file devices = record {
   unread = source.unread file;
@@ -34,9 +34,9 @@ over_file source file devices = record {
   failed_writes = devices.failed_writes;
 }
 
--- the run goes over a file in the place of its reader, which stays as it was: from the file as it was opened, all of
--- whose bytes are still to be read, where these are told, to the file as the run left it. Both are values of the type
--- of files, which code that knows no more of that type has only from opening a file and from reading it
+-- the run reads a file instead of its reader, which stays as it was: from the file as it was opened, with all bytes
+-- unread, if these are told, to the file as the run left it. Both are values of the type of files; generic code gets
+-- these only by opening a file and by reading it
 pub record ReadsFile {F : Type 0} (source : SourceMembers F) (told : Option (Option (List ℕ))) (Runs : Devices → Devices → Ending → Type 0)
     (before after : Devices) (ending : Ending) : Type 0 where
   pub opened : F
@@ -50,7 +50,7 @@ pub record IsUnopened (told : Option (Option (List ℕ))) (before after : Device
   pub is : after ≡ before
   pub fault : ((ending ≡ Refused Open) × IsUnreadable told) ⊎ (ending ≡ Refused Memory)
 
--- the text of a name, over which `Runs` says what runs: `-` is the run's reader, any other name that of a file
+-- the text with a name, and `Runs` says what runs over it: `-` is the run's reader, any other name is that of a file
 abbrev pub ReadsText : {F : Type 0} → SourceMembers F → (List ℕ → Option (Option (List ℕ)))
     → (List ℕ → Devices → Devices → Ending → Type 0) → List ℕ → Devices → Devices → Ending → Type 0
 ReadsText source told Runs name before after ending = ((name ≡ codes "-") × Runs name before after ending)
@@ -61,7 +61,8 @@ abbrev pub refused_after : Refusals → List ℕ → Ending → Refusals
 refused_after refused name (Refused fault) = option_map (λ before. before ++ (name, fault) ∷ []) refused
 refused_after refused name _ = refused
 
--- the texts in order, each once, up to the first that is the last; what was refused is reported, and the others go on
+-- the texts in order, each once, up to the one after which the run stops; what was refused is reported, and the run
+-- goes on
 abbrev pub ReadsEach : (List ℕ → Devices → Devices → Ending → Type 0) → List (List ℕ) → Standing → Standing → Type 0
 ReadsEach ReadsOne [] before after = after ≡ before
 ReadsEach ReadsOne (name ∷ names) before after =
@@ -74,19 +75,19 @@ abbrev pub ReadsTexts : {F : Type 0} → SourceMembers F → (List ℕ → Optio
     → (List ℕ → Devices → Devices → Ending → Type 0) → List (List ℕ) → Standing → Standing → Type 0
 ReadsTexts source told Runs = ReadsEach (ReadsText source told Runs)
 
--- the run's reader where no text is named, and else the texts
+-- the run's reader if no text is named, else the texts
 abbrev pub Reads : {F : Type 0} → SourceMembers F → (List ℕ → Option (Option (List ℕ)))
     → (List ℕ → Devices → Devices → Ending → Type 0) → List (List ℕ) → Standing → Standing → Type 0
 Reads source told Runs [] before after =
     Runs (codes "-") before.devices after.devices after.ending × (after.refused ≡ before.refused)
 Reads source told Runs (name ∷ names) before after = ReadsTexts source told Runs (name ∷ names) before after
 
--- where there are no files of text, none of these can be opened; `-` is the run's reader
+-- without files none of these can be opened; `-` is the run's reader
 abbrev pub ReadsNoFile : (List ℕ → Devices → Devices → Ending → Type 0) → List ℕ → Devices → Devices → Ending → Type 0
 ReadsNoFile Runs name before after ending = ((name ≡ codes "-") × Runs name before after ending)
     ⊎ ((name ≢ codes "-") × IsUnopened (Some None) before after ending)
 
--- the run's reader where no text is named, and else the texts, none of which is a file
+-- the run's reader if no text is named, else the texts, none of which can be opened
 abbrev pub ReadsAlone : (List ℕ → Devices → Devices → Ending → Type 0) → List (List ℕ) → Devices → Devices → Ending → Type 0
 ReadsAlone Runs [] before after ending = Runs (codes "-") before after ending
 ReadsAlone Runs (name ∷ names) before after ending =

@@ -1,4 +1,4 @@
--- The passages of a text, each with its text, its breaks and its words, by their places in the whole text.
+-- The passages of a text, each with its text, its breaks and its words, with offsets in the whole text.
 use Rattle.std.specs.Prelude.{◌≡◌, ℕ, ◌+◌, List, [], ◌∷◌, map, filter, Option, IfSome, IsUtf8}
 use Rattle.std.specs.Str.{chars}
 use Rattle.lbk_ucd.specs.declared.tables.Files.{Files}
@@ -18,18 +18,18 @@ use Rattle.lbk_files.specs.Cells.{cell_of_files}
 use Rattle.lbk_cmd.specs.Headline.{ArePassagesOf}
 use Rattle.lbk_cmd.specs.declared.owned.Word.{Word}
 
--- where a passage begins, its bytes, and its breaks and words in their order
+-- a passage's start, its bytes, and its breaks and words in order
 pub record Owned : Type 0 where
   pub start : ℕ
   pub text : List ℕ
   pub breaks : List Break
   pub words : List Word
 
--- the word that a piece is, whose passage begins at byte `start` of the text
+-- the word of a piece, if it is one, in a passage that begins at byte `start` of the text
 abbrev pub word_at : ℕ → Piece → Word
 word_at start p = record { start = start + p.start; end = start + p.end }
 
--- a passage of these bytes, segments and pieces, which begins at byte `start` of the text
+-- a passage with these bytes, segments and pieces, which begins at byte `start` of the text
 abbrev pub owned_of : ℕ → List ℕ → List Segment → List Piece → Owned
 owned_of start text segments pieces = record {
   start = start;
@@ -46,7 +46,7 @@ lent_as p = owned_of p.start p.text.now p.segments.now p.pieces.now
 abbrev pub owned_passage : (ℕ → Cell) → ℕ → List Marked → Owned
 owned_passage cell start ms = owned_of start (text_of ms) (segments_of ms) (pieces_of cell (text_of ms))
 
--- passages one after another, the first of which begins at byte `start` of the text
+-- successive passages; the first one begins at byte `start` of the text
 abbrev pub owned_from : (ℕ → Cell) → ℕ → List (List Marked) → List Owned
 owned_from cell start ps = of_passages (λ at ms. owned_passage cell at ms ∷ []) start ps
 
@@ -54,14 +54,14 @@ owned_from cell start ps = of_passages (λ at ms. owned_passage cell at ms ∷ [
 abbrev pub owned_passages : Profile → (ℕ → Cell) → List ℕ → List Owned
 owned_passages profile cell bytes = owned_from cell 0 (passages profile cell (chars bytes))
 
--- the bytes read, all that the reader had where it tells them, are a text, and these are its passages
+-- the bytes read (all of the reader's, if it tells them) are a text, and these are its passages
 pub record AreOwned (profile : Profile) (cell : ℕ → Cell) (unread : Option (List ℕ)) (list : List Owned) : Type 0 where
   pub bytes : List ℕ
   pub read : IfSome unread (λ input. bytes ≡ input)
   pub utf8 : IsUtf8 bytes
   pub is : list ≡ owned_passages profile cell bytes
 
--- the same by the cells of four property files; what is promised of the passages of a text holds of these
+-- the same with the cells of four property files; the main theorem holds for these passages
 pub record AreRead (files : Files) (profile : Profile) (unread : Option (List ℕ)) (list : List Owned) : Type 0 where
   pub owned : AreOwned profile (cell_of_files files) unread list
   pub promised : ArePassagesOf files profile (chars owned.bytes) (passages profile (cell_of_files files) (chars owned.bytes))

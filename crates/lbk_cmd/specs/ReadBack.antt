@@ -1,4 +1,4 @@
--- Lines that were written of passages, read one after another.
+-- The lines of passages, read one after another.
 use Rattle.std.specs.Prelude.{◌≡◌, ℕ, ◌≤◌, List, length, map, Option, IfSome}
 use Rattle.std.specs.Char.{IsScalar}
 use Rattle.std.specs.List.{AllByRecursion, flat_map}
@@ -10,7 +10,7 @@ use Rattle.lbk_cmd.specs.Broken.{said}
 use Rattle.lbk_cmd.specs.Run.{Engine, IsWhole, by_passage}
 use Rattle.lbk_cmd.specs.Show.{shown_passage, verdicts_of}
 
--- the text was written of all that was read
+-- the text is the output for all that was read
 pub record IsShown (e : Engine) (unread : Option (List ℕ)) (text : List ℕ) : Type 0 where
   pub bytes : List ℕ
   pub read : IfSome unread (λ input. bytes ≡ input)
@@ -33,10 +33,10 @@ pub record AreShown (text : List ℕ) (passages : List (List Marked)) : Type 0 w
 abbrev pub AreReadable : List ℕ → Type 0
 AreReadable text = (passages : List (List Marked)) × AreShown text passages
 
--- what the lines of the text say
+-- the meaning of the lines of the text
 abbrev pub Say : List ℕ → List Line → Type 0
 Say text lines = (passages : List (List Marked)) → AreShown text passages → lines ≡ map said passages
 
--- what the one line says
+-- the meaning of one line
 abbrev pub SayOf : List ℕ → Line → Type 0
 SayOf line read = (ms : List Marked) → line ≡ line_of ms → IsReadable ms → read ≡ said ms

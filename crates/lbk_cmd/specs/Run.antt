@@ -19,14 +19,14 @@ use Rattle.lbk_cmd.specs.Texts.{lines_from}
 use Rattle.lbk_cmd.specs.declared.faults.CmdFault.{CmdFault}
 use Rattle.lbk_cmd.specs.declared.faults.CmdFault.TheVariants.{Passage, Write, Memory}
 
--- the lines of a passage that begins at a byte of the text, what passages are cut by, and the limit of a paragraph
+-- the lines of a passage that begins at a byte of the text, how passages are cut, and the limit of a paragraph
 pub record Engine : Type 0 where
   pub lines : ℕ → List Marked → List ℕ
   pub cell : ℕ → Cell
   pub profile : Profile
   pub limit : ℕ
 
--- what is written of a text by its passages: of those that its first bytes settle, and of all of them
+-- the output for a text by its passages: for those that its first bytes settle, and for all of them
 pub record Writing : Type 1 where
   pub Settled : List (List Marked) → List ℕ → Type 0
   pub Whole : List (List Marked) → List ℕ → Type 0
@@ -37,7 +37,7 @@ pub record Writing : Type 1 where
 abbrev pub passages_by : Writing → List ℕ → List (List Marked)
 passages_by e scalars = passages e.profile e.cell scalars
 
--- what is written of some passages
+-- the output for some passages
 abbrev pub written_by : Engine → List (List Marked) → List ℕ
 written_by e given = lines_from e.lines 0 given
 
@@ -54,15 +54,15 @@ by_passage e = record {
 abbrev pub AreWithin : Writing → List (List Marked) → Type 0
 AreWithin e given = AllByRecursion (λ ms. length (text_of ms) ≤ e.limit) given
 
--- `out` is written of a text that is all of the bytes
+-- `out` is the output for a text of exactly these bytes
 pub record IsWhole (e : Writing) (bytes out : List ℕ) : Type 0 where
   pub utf8 : IsUtf8 bytes
   pub few : length bytes ≤ longest_text
   pub within : AreWithin e (passages_by e (chars bytes))
   pub is : e.Whole (passages_by e (chars bytes)) out
 
--- of a text that begins with these scalars, these are the passages after each of which one of them follows, whatever
--- comes behind: the scalars that stand behind them are in one passage
+-- in a text that begins with these scalars, these are the passages that are followed by one of the scalars, whatever
+-- comes after: the scalars after them are in one passage
 pub record AreGiven (e : Writing) (scalars : List ℕ) (given : List (List Marked)) : Type 0 where
   pub behind : List ℕ
   pub joined : scalars ≡ flat_map scalars_of given ++ behind
@@ -71,7 +71,7 @@ pub record AreGiven (e : Writing) (scalars : List ℕ) (given : List (List Marke
   pub in_one : 0 < length behind → (more : List ℕ) → BeginsWithAll behind (passages_by e (behind ++ more))
   pub within : AreWithin e given
 
--- `out` is written of the passages that some first scalars of the bytes settle, of as many as a text may have
+-- `out` is the output for the passages that some first scalars of the bytes settle, within the size limit of a text
 pub record IsSettled (e : Writing) (bytes out : List ℕ) : Type 0 where
   pub scalars : List ℕ
   pub rest : List ℕ
@@ -82,13 +82,14 @@ pub record IsSettled (e : Writing) (bytes out : List ℕ) : Type 0 where
   pub are : AreGiven e scalars given
   pub is : e.Settled given out
 
--- the scalars are all well-formed bytes read, of as many as a text may have, and the last of them are within the limit
+-- the scalars are all well-formed bytes read, within the size limit of a text, and the last of them are within the
+-- limit
 abbrev pub AreAll : Writing → List ℕ → List ℕ → List ℕ → Type 0
 AreAll e bytes scalars behind =
     (encode_utf8_all scalars ≡ well_formed_prefix (counted bytes)) × (length (encode_utf8_all behind) ≤ e.limit)
 
--- why a run stops behind these scalars, the last of which are those of the paragraph in progress; `rest` are the
--- bytes read behind them. A failed read is the answer only where these may still go on to a scalar
+-- why a run stops after these scalars, the last of which are those of the paragraph in progress; `rest` are the bytes
+-- read after them. A failed read is the result only if these may still become a scalar
 abbrev pub Lies : Writing → PassageFault → Bool → List ℕ → List ℕ → List ℕ → List ℕ → Type 0
 Lies e fault.Limit ended bytes scalars behind rest = ⊥
 Lies e fault.Memory ended bytes scalars behind rest = ⊥
@@ -102,16 +103,17 @@ Lies e (fault.ParagraphTooLong start) ended bytes scalars behind rest =
     × ((front : List ℕ) × (last : ℕ) × (behind ≡ front ++ last ∷ []) × (length (encode_utf8_all front) ≤ e.limit))
 Lies e fault.Spent ended bytes scalars behind rest = ⊥
 
--- a fault of the reader or of the text stopped the run: `out` is written of the passages given before it
+-- a fault of the reader or of the text stopped the run: `out` is the output for the passages before it
 pub record IsRefused (e : Writing) (why : PassageFault) (ended : Bool) (bytes out : List ℕ) : Type 0 where
   pub settled : IsSettled e bytes out
   pub lies : Lies e why ended bytes settled.scalars settled.are.behind settled.rest
 
--- a segmenter that decides as the engine does
+-- a segmenter that decides like the engine
 abbrev pub segmenter_of : Writing → Bool → State
 segmenter_of e ended = record (new_state e.cell e.profile e.limit) { is_ended = ended }
 
--- memory could not grow for a passage that was read whole, or for its lines: `out` is written of all passages before it
+-- memory could not grow for a passage that was read completely, or for its lines: `out` is the output for all passages
+-- before it
 pub record IsHeldUp (e : Writing) (ended : Bool) (bytes out : List ℕ) : Type 0 where
   pub settled : IsSettled e bytes out
   pub passage : List Marked
@@ -120,7 +122,7 @@ pub record IsHeldUp (e : Writing) (ended : Bool) (bytes out : List ℕ) : Type 0
   pub next : bytes ≡ encode_utf8_all (flat_map scalars_of settled.given) ++ (text_of passage ++ behind)
   pub comes : ComesFirst (segmenter_of e ended) passage behind
 
--- what was read and what was written, by the answer; `ended`: a read has given no byte
+-- what was read and what was written, by the result; `ended`: a read has returned no byte
 abbrev pub ComesTo : {X : Type 0} → Writing → Bool → Result X CmdFault → List ℕ → List ℕ → Type 0
 ComesTo e ended (Ok x) bytes out = IsWhole e bytes out
 ComesTo e ended (Err Write) bytes out = IsStopped (IsSettled e) (IsWhole e) (ended ≡ true) bytes out
@@ -129,9 +131,9 @@ ComesTo e ended (Err (Passage fault.Limit)) bytes out = (bytes ≡ []) × (out �
 ComesTo e ended (Err (Passage fault.Memory)) bytes out = ((bytes ≡ []) × (out ≡ [])) ⊎ IsHeldUp e ended bytes out
 ComesTo e ended (Err (Passage why)) bytes out = IsRefused e why ended bytes out
 
--- nothing is kept back: of the bytes that all reads but the last gave, at least one each, the lines of all passages
--- that they settle were written. Behind the scalars that settle them stood nothing, or the first bytes of a scalar.
--- `from` and `to` are the reads before the run and after it
+-- nothing is held back: the lines of all passages that the bytes of all reads except the last, at least one each,
+-- settle were written. After the scalars that settle them came nothing, or the first bytes of a scalar. `from` and `to`
+-- are the reads before the run and after it
 pub record KeepsUp (e : Writing) (from to : Reads) (bytes out : List ℕ) : Type 0 where
   pub before : List ℕ
   pub last : List ℕ
@@ -144,7 +146,7 @@ pub record KeepsUp (e : Writing) (from to : Reads) (bytes out : List ℕ) : Type
   pub settled : IsSettled e before written
   pub goes_on : CanGoOn (length (encode_utf8_all settled.scalars)) settled.rest
 
--- what a run reads and writes, whatever the answer
+-- what a run reads and writes, whatever the result
 pub record IsRun {X : Type 0} (e : Writing) (from to : Reads) (ended : Bool) (answer : Result X CmdFault) (bytes out : List ℕ) : Type 0 where
   pub comes : ComesTo e ended answer bytes out
   pub keeps_up : KeepsUp e from to bytes out
@@ -154,7 +156,7 @@ abbrev pub is_failed_read : {X : Type 0} → Result X CmdFault → Bool
 is_failed_read (Err (Passage fault.Read)) = true
 is_failed_read _ = false
 
--- the counts of a reader's and of a writer's failures after a run: one more exactly where the run answered so
+-- the counts of a reader's and of a writer's failures after a run: one more exactly if the run returned that
 abbrev pub failed_reads_with : {X : Type 0} → ℕ → Result X CmdFault → ℕ
 failed_reads_with n (Err (Passage fault.Read)) = count_up n
 failed_reads_with n _ = n

@@ -1,4 +1,4 @@
--- What `segment` writes of a passage: a line of its own, one for each segment, and one for each word. Numbers are
+-- What `segment` writes for a passage: a line for the passage, one for each segment, and one for each word. Numbers are
 -- decimal, and offsets count bytes of the whole text.
 use Rattle.std.specs.Prelude.{ℕ, ◌+◌, List, [], ◌∷◌, ◌++◌, length, codes, decimal, if◌then◌else◌}
 use Rattle.std.specs.List.{flat_map}
@@ -12,7 +12,7 @@ use Rattle.lbk_passage.specs.Segments.{segments_of}
 use Rattle.lbk_passage.specs.declared.passage.Piece.{Piece}
 use Rattle.lbk_passage.specs.declared.passage.Segment.{Segment}
 
--- a letter, a space, the offset at which a part begins, a space, and that at which it ends
+-- a letter, a space, the offset of a part's start, a space, and that of its end
 abbrev pub part : List ℕ → ℕ → ℕ → List ℕ
 part letter start end = letter ++ (32 ∷ (decimal start ++ (32 ∷ decimal end)))
 
@@ -26,7 +26,7 @@ abbrev pub segment_line : ℕ → Segment → List ℕ
 segment_line start s =
     part (codes "S") (start + s.start) (start + s.end) ++ (32 ∷ (kind_name s.kind ++ (32 ∷ (label_of s.rule ++ 10 ∷ []))))
 
--- W and a word; a piece that is none has no line
+-- W and a word; other pieces have no line
 abbrev pub word_line : ℕ → Piece → List ℕ
 word_line start piece =
     if piece.word then part (codes "W") (start + piece.start) (start + piece.end) ++ 10 ∷ [] else []

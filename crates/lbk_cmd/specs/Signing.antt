@@ -1,9 +1,9 @@
--- A text that is written up to each of its breaks, with the break's sign behind it.
+-- A text that is written up to each of its breaks, with the break's sign after it.
 use Rattle.std.specs.Prelude.{ℕ, ◌≤◌, List, [], ◌∷◌, ◌++◌, drop, slice_range}
 use Rattle.lbk_rules.specs.declared.Break.{Break}
 use Rattle.lbk_cmd.specs.Mark.{sign}
 
--- the breaks stand one behind another, from `at` to at most `len`
+-- the breaks rise, from `at` to at most `len`
 abbrev pub IsCut : ℕ → ℕ → List Break → Type 0
 IsCut at len [] = at ≤ len
 IsCut at len (b ∷ bs) = (at ≤ b.at) × (b.at ≤ len) × IsCut b.at len bs

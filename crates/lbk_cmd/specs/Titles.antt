@@ -1,4 +1,4 @@
--- The line with the name of a text that stands before what is written of it, where the words ask for such lines.
+-- The line with the name of a text before its output, if the arguments ask for such lines.
 use Rattle.std.specs.Prelude.{◌≡◌, ◌⊎◌, ℕ, Bool, true, false, List, [], ◌∷◌, ◌++◌, Option, Result, Ok, Err, codes, take}
 use Rattle.std.specs.Io.KnownBytes.{Appends}
 use Rattle.lbk_cmd.specs.Devices.{Devices}
@@ -13,7 +13,7 @@ use Rattle.lbk_cmd.specs.declared.faults.CmdFault.TheVariants.{Passage, Write, M
 abbrev pub title : List ℕ → List ℕ
 title name = codes "==> " ++ (operand_text name ++ (codes " <==" ++ 10 ∷ []))
 
--- the line was written; or a write failed, behind the front of it; or memory could not grow for it, and nothing was
+-- the line was written; or a write failed after a prefix of it; or memory could not grow for it, and nothing was
 -- written
 abbrev pub IsTitleWritten : List ℕ → Option (List ℕ) → Option (List ℕ) → Result (Unit {0}) CmdFault → Type 0
 IsTitleWritten name old new (Ok _) = Appends old new (title name)
@@ -21,19 +21,19 @@ IsTitleWritten name old new (Err Write) = (n : ℕ) × Appends old new (take n (
 IsTitleWritten name old new (Err Memory) = new ≡ old
 IsTitleWritten name old new (Err (Passage fault)) = ⊥
 
--- the line is written with this answer, and nothing is read
+-- the line is written with this result, and nothing is read
 pub record WritesTitle (name : List ℕ) (before after : Devices) (answer : Result (Unit {0}) CmdFault) : Type 0 where
   pub written : IsTitleWritten name before.written after.written answer
   pub failed_writes : after.failed_writes ≡ failed_writes_with before.failed_writes answer
   pub reader : after ≡ record before { written = after.written; failed_writes = after.failed_writes }
 
--- a run behind the line of the text's name; where this could not be written, the run ends with it
+-- a run after the line with the text's name; if this could not be written, the run ends there
 abbrev pub RunsTitled : (Devices → Devices → Ending → Type 0) → List ℕ → Devices → Devices → Ending → Type 0
 RunsTitled Runs name before after ending =
     ((titled : Devices) × WritesTitle name before titled (Ok tt) × Runs titled after ending)
     ⊎ ((fault : CmdFault) × WritesTitle name before after (Err fault) × (ending ≡ ending_of_text (Err fault)))
 
--- a run over the text of a name, with such a line or without
+-- a run over the text with a name, with such a line or without
 abbrev pub RunsNamed : Bool → (Devices → Devices → Ending → Type 0) → List ℕ → Devices → Devices → Ending → Type 0
 RunsNamed false Runs name = Runs
 RunsNamed true Runs name = RunsTitled Runs name

@@ -1,4 +1,4 @@
--- The lines that wait in a buffer.
+-- Lines in a buffer.
 use Rattle.std.specs.Prelude.{ℕ, List, take}
 use Rattle.lbk_cmd.specs.declared.waiting.Waiting.{Waiting}
 

@@ -1,4 +1,4 @@
--- The four files of a task, loaded in order, then read: what they come to.
+-- The four files of a task, loaded in order, then read: their cells, or the fault.
 use Rattle.std.specs.Prelude.{◌≡◌, ◌⊎◌, ℕ, Bool, List, Option, IsTrue, ⊤}
 use Rattle.lbk_feed.specs.Devices.{count_up}
 use Rattle.lbk_ucd.specs.declared.tables.Files.{Files}
@@ -18,23 +18,23 @@ use Rattle.lbk_files.specs.declared.faults.CellsFault.TheVariants.{Load, Claim, 
 unfoldable pub greatest_file : ℕ
 greatest_file = 8388608
 
--- what a store tells of a file, and whether it has to be the published one, since no option names it
+-- what a store tells about a file, and whether it has to be the published one, because no option names it
 pub record Told : Type 0 where
   pub contents : Option (Option (List ℕ))
   pub is_claimed : Bool
 
--- what a store tells of the four files
+-- what a store tells about the four files
 pub record FourFiles : Type 0 where
   pub line_break : Told
   pub east_asian : Told
   pub category : Told
   pub emoji : Told
 
--- the bytes are what a load of the file gives
+-- the bytes are the result of loading the file
 abbrev pub IsRead : Told → List ℕ → Type 0
 IsRead file bytes = IsFront file.contents greatest_file bytes
 
--- and they are the published ones, where they have to be
+-- and they are the published ones, if they have to be
 pub record IsLoaded (which : Which) (file : Told) (bytes : List ℕ) : Type 0 where
   pub read : IsRead file bytes
   pub claim : IsTrue file.is_claimed → IsPublished which bytes
@@ -50,7 +50,7 @@ pub record AreLoaded (four : FourFiles) (files : Files) : Type 0 where
 abbrev pub CanLoad : Which → Told → Type 0
 CanLoad which file = (bytes : List ℕ) × IsLoaded which file bytes
 
--- this file is so, and those before it can be loaded
+-- this file is so, and the files before it can be loaded
 abbrev pub IsFirst : FourFiles → Which → (Told → Type 0) → Type 0
 IsFirst four LineBreak Is = Is four.line_break
 IsFirst four EastAsianWidth Is = CanLoad LineBreak four.line_break × Is four.east_asian
@@ -58,19 +58,19 @@ IsFirst four Category Is = CanLoad LineBreak four.line_break × CanLoad EastAsia
 IsFirst four Emoji Is = CanLoad LineBreak four.line_break × CanLoad EastAsianWidth four.east_asian
     × CanLoad Category four.category × Is four.emoji
 
--- a file is read that has to be the published one, and is not
+-- a loaded file has to be the published one, and is not
 abbrev pub IsUnlikeItsClaim : Which → ClaimCause → Told → Type 0
 IsUnlikeItsClaim which cause file =
     IsTrue file.is_claimed × ((bytes : List ℕ) × IsRead file bytes × IsClaimCause which bytes cause)
 
--- the cells are those of the four files, which are lawful
+-- the cells are those of the four files, which have no fault
 pub record AreCellsFrom (four : FourFiles) (cell : ℕ → Cell) : Type 0 where
   pub files : Files
   pub loaded : AreLoaded four files
   pub lawful : AreLawful files
   pub cells : AreCellsOf files cell
 
--- how many loads a store has made, and how many of these were refused memory
+-- how many loads a store has made, and how many of these ran out of memory
 pub record LoadCounts : Type 0 where
   pub made : ℕ
   pub refused : ℕ
@@ -89,22 +89,22 @@ loads_to Emoji made = count_up (count_up (count_up (count_up made)))
 abbrev pub LoadsTo : Which → LoadCounts → LoadCounts → Type 0
 LoadsTo which before after = after.made ≡ loads_to which before.made
 
--- a file has to be the published one, since it is of a folder, for whose name memory is taken
+-- a file has to be the published one, because it is in a folder; its path needs memory
 abbrev pub IsAnyClaimed : FourFiles → Type 0
 IsAnyClaimed four = IsTrue four.line_break.is_claimed ⊎ (IsTrue four.east_asian.is_claimed
     ⊎ (IsTrue four.category.is_claimed ⊎ IsTrue four.emoji.is_claimed))
 
--- the load of a file was refused memory: those before it can be loaded, and no more is
+-- the load of a file ran out of memory: the files before it can be loaded, and no more is
 abbrev pub IsLoadRefused : FourFiles → LoadCounts → LoadCounts → Type 0
 IsLoadRefused four before after = (which : Which) × IsFirst four which (λ file. ⊤) × LoadsTo which before after
     × (after.refused ≡ count_up before.refused)
 
--- all four are loaded, and this is what they come to
+-- all four are loaded, and this is the result
 abbrev pub AllLoaded : FourFiles → LoadCounts → LoadCounts → (Files → Type 0) → Type 0
 AllLoaded four before after Are = ((files : Files) × AreLoaded four files × Are files) × LoadsTo Emoji before after
 
--- out of memory comes before any load, where a name has to be made; in a load; or once all four files are loaded and
--- lawful
+-- out of memory: before any load, if a path has to be made; in a load; or once all four files are loaded without a
+-- fault
 abbrev pub IsOutOfMemory : FourFiles → LoadCounts → LoadCounts → Type 0
 IsOutOfMemory four before after =
     (IsAnyClaimed four × (after ≡ before)) ⊎ (IsLoadRefused four before after ⊎ AllLoaded four before after AreLawful)

@@ -1,4 +1,4 @@
--- The files that are named, and what a store tells of them.
+-- The named files, and what a store tells about them.
 use Rattle.std.specs.Prelude.{◌≡◌, ℕ, List, ◌∷◌, ◌++◌, Option, true, false, ⊤, codes}
 use Rattle.lbk_ucd.specs.declared.which.Which.{Which}
 use Rattle.lbk_ucd.specs.declared.which.Which.TheVariants.{LineBreak, EastAsianWidth, Category, Emoji}
@@ -15,16 +15,17 @@ name_in_database EastAsianWidth = codes "EastAsianWidth.txt"
 name_in_database Category = codes "extracted/DerivedGeneralCategory.txt"
 name_in_database Emoji = codes "emoji/emoji-data.txt"
 
--- the name of a file of a folder, behind the folder's name and a slash (47)
+-- the path of a file in a folder: the folder's name, a slash (47) and the file's name
 abbrev pub joined : List ℕ → Which → List ℕ
 joined folder which = folder ++ (47 ∷ name_in_database which)
 
--- what is told of a file: of one that an option names, or of one of a folder, which has to be the published one
+-- what is told about a file: about one that an option names, or about one in a folder, which has to be the published
+-- one
 abbrev pub told_of : (List ℕ → Option (Option (List ℕ))) → Which → Named → Told
 told_of file which (given name) = record { contents = file name; is_claimed = false }
 told_of file which (in_folder folder) = record { contents = file (joined folder which); is_claimed = true }
 
--- what is told of the four files
+-- what is told about the four files
 abbrev pub files_of : (List ℕ → Option (Option (List ℕ))) → NamedFiles → FourFiles
 files_of file files = record {
   line_break = told_of file LineBreak files.line_break;

@@ -1,4 +1,4 @@
--- The names by which the four files are loaded, and what a store tells of them.
+-- The names under which the four files are loaded, and what a store tells about them.
 use Rattle.std.specs.Prelude.{ℕ, List, Option, Result, Ok, Err, true, false, string_bytes}
 use Rattle.lbk_feed.specs.Devices.{count_up}
 use Rattle.lbk_files.specs.FileFault.{FourFiles, Told}
@@ -8,12 +8,12 @@ use Rattle.lbk_files.specs.declared.places.Place.{Place}
 use Rattle.lbk_files.specs.declared.places.Place.TheVariants.{Given, InFolder}
 use Rattle.lbk_files.specs.declared.places.Places.{Places}
 
--- what is told of the file at a place
+-- what is told about the file with a name
 abbrev pub told_at : (List ℕ → Option (Option (List ℕ))) → Place → Told
 told_at file (Given name) = record { contents = file name.now; is_claimed = false }
 told_at file (InFolder name) = record { contents = file (string_bytes name); is_claimed = true }
 
--- what is told of the four
+-- what is told about the four
 abbrev pub files_at : (List ℕ → Option (Option (List ℕ))) → Places → FourFiles
 files_at file places = record {
   line_break = told_at file places.line_break;
@@ -22,12 +22,12 @@ files_at file places = record {
   emoji = told_at file places.emoji;
 }
 
--- how many loads were refused memory, after one for which this fault came
+-- how many loads ran out of memory, after one with this fault
 abbrev pub refused_by : ℕ → CellsFault → ℕ
 refused_by n Memory = count_up n
 refused_by n _ = n
 
--- how many were, after one whose file was then looked at
+-- how many did, after one whose file was then checked
 abbrev pub refusals_by : {T : Type 0} → ℕ → Result T CellsFault → ℕ
 refusals_by n (Ok _) = n
 refusals_by n (Err fault) = refused_by n fault

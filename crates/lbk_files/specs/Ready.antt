@@ -1,4 +1,4 @@
--- What the words of the program come to before an engine runs.
+-- What the arguments of the program result in before an engine runs.
 use Rattle.std.specs.Prelude.{◌≡◌, ◌⊎◌, ℕ, List, Option, map}
 use Rattle.lbk_rules.specs.CellPages.{page_cell}
 use Rattle.lbk_args.specs.Accepted.{faults_of}
@@ -11,7 +11,7 @@ use Rattle.lbk_files.specs.declared.faults.Stop.{Stop}
 use Rattle.lbk_files.specs.declared.faults.Stop.TheVariants.{Help, Usage, Refused}
 use Rattle.lbk_files.specs.declared.readiness.Ready.{Ready}
 
--- the task's engine, profile, part, sign and flag of names, the cells of its files, and the names of its texts
+-- the task's engine, profile, range, sign and `--names`, the cells of its files, and the names of its texts
 pub record IsReadyFor (file : List ℕ → Option (Option (List ℕ))) (task : Task) (ready : Ready) : Type 0 where
   pub engine : ready.engine ≡ task.engine
   pub profile : ready.profile ≡ task.profile
@@ -21,7 +21,7 @@ pub record IsReadyFor (file : List ℕ → Option (Option (List ℕ))) (task : T
   pub cells : AreCellsFrom (files_of file task.files) (page_cell ready.cells)
   pub texts : map (λ name. name.now) ready.texts.items ≡ task.texts
 
--- a task stops at its files, or before any load, where memory could not grow for what its words come to
+-- a task stops at its files, or before any load, if memory for its arguments ran out
 abbrev pub IsStoppedAt : (List ℕ → Option (Option (List ℕ))) → Task → LoadCounts → LoadCounts → Stop → Type 0
 IsStoppedAt file task before after (Help text) = ⊥
 IsStoppedAt file task before after (Usage text) = ⊥
@@ -32,7 +32,7 @@ IsStoppedAt file task before after (Refused fault) =
 abbrev pub IsWantOfMemory : Stop → Type 0
 IsWantOfMemory stop = stop ≡ Refused Memory
 
--- words that are not accepted: help for a call for it, usage for a mistake, or want of memory
+-- arguments that are not accepted: help for a request for it, usage for a mistake, or out of memory
 abbrev pub IsStoppedByWords : List (List ℕ) → Stop → Type 0
 IsStoppedByWords words (Help text) = HasFault IsCallForHelp (faults_of words)
 IsStoppedByWords words (Usage text) = HasFault IsMistake (faults_of words)

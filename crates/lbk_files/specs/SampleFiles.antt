@@ -1,4 +1,4 @@
--- What the sample files come to: their cells, or want of memory.
+-- The result of the sample files: their cells, or out of memory.
 use Rattle.std.specs.Prelude.{◌≡◌, ℕ, ⊤}
 use Rattle.lbk_ucd.specs.declared.tables.Files.{Files}
 use Rattle.lbk_ucd.specs.declared.faults.UcdCause.TheVariants as cause
@@ -9,7 +9,7 @@ use Rattle.lbk_files.specs.declared.faults.CellsFault.TheVariants.{Load, Claim, 
 use Rattle.lbk_files.specs.Cells.{AreCellsOf}
 use Rattle.lbk_files.specs.CellsRefusal.{IsCellsRefusal}
 
--- each scalar value has the cell that the sample files give it
+-- each scalar value has its cell by the sample files
 abbrev pub AreSampleCells : (ℕ → Cell) → Type 0
 AreSampleCells cell = (files : Files) × AreSamples files × AreCellsOf files cell
 
@@ -20,6 +20,6 @@ IsWantOfMemory Memory = ⊤
 IsWantOfMemory (Load which) = ⊥
 IsWantOfMemory (Claim which cause) = ⊥
 
--- the sample files give no cells, for want of memory alone
+-- the sample files give no cells only if memory runs out
 abbrev pub IsSampleFault : CellsFault → Type 0
 IsSampleFault fault = (files : Files) × AreSamples files × IsCellsRefusal files fault × IsWantOfMemory fault

@@ -1,10 +1,10 @@
--- What a load answers, by what the store tells of the file.
+-- The result of a load, by what the store tells about the file.
 use Rattle.std.specs.Prelude.{◌≡◌, ℕ, ◌+◌, List, take, Option, None, Some, Result, Ok, Err, ⊤}
 use Rattle.lbk_feed.specs.Devices.{count_up}
 use Rattle.lbk_files.specs.declared.store.LoadFault.{LoadFault}
 use Rattle.lbk_files.specs.declared.store.LoadFault.TheVariants.{Unreadable, Memory}
 
--- the bytes are the first most + 1 of the file, or all of a shorter one; of a file that is not told anything may come
+-- the bytes are the first most + 1 of the file, or all of a shorter one; for a file that is not told they may be any
 abbrev pub IsFront : Option (Option (List ℕ)) → ℕ → List ℕ → Type 0
 IsFront None most bytes = ⊤
 IsFront (Some None) most bytes = ⊥
@@ -20,7 +20,7 @@ abbrev pub IsLoadFault : Option (Option (List ℕ)) → LoadFault → Type 0
 IsLoadFault file Unreadable = IsUnreadable file
 IsLoadFault file Memory = ⊤
 
--- how many loads were refused memory, after one more that answered r
+-- how many loads ran out of memory, after one more with result r
 abbrev pub refusals_after : {T : Type 0} → ℕ → Result T LoadFault → ℕ
 refusals_after n (Ok _) = n
 refusals_after n (Err Unreadable) = n

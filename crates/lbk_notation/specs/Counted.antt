@@ -1,4 +1,4 @@
--- The counts after one finding more.
+-- The counts after one more result.
 use Rattle.std.specs.Prelude.{◌+◌}
 use Rattle.lbk_notation.specs.declared.findings.Finding.{Finding}
 use Rattle.lbk_notation.specs.declared.findings.Finding.TheVariants.{NoLine, Replayed, Bad, Long}

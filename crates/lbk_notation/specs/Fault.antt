@@ -15,8 +15,8 @@ longest = 268435456
 abbrev pub HasMarks : Form → List ℕ → Type 0
 HasMarks form bytes = (line : Line) × IsLine form bytes (Some line)
 
--- what a fault says of the bytes; Memory says that they are not too long, and are a line that has marks: every other
--- line is answered without memory
+-- what a fault says about the bytes; Memory says that they are not too long, and are a line with marks: every other
+-- line needs no memory
 abbrev pub IsFault : Form → List ℕ → LineFault → Type 0
 IsFault form bytes LineTooLong = longest < length bytes
 IsFault form bytes (Bad at) = (length bytes ≤ longest) × IsOutside form bytes × IsPlace form bytes at

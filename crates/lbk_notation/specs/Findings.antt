@@ -1,4 +1,4 @@
--- What the lines of a test file come to.
+-- The results of the lines of a test file.
 use Rattle.std.specs.Prelude.{ℕ, ◌≤◌, List, [], ◌∷◌, length, None, Some, ⊤}
 use Rattle.lbk_rules.specs.declared.Cell.{Cell}
 use Rattle.lbk_values.specs.declared.profile.Profile.{Profile}
@@ -11,7 +11,7 @@ use Rattle.lbk_notation.specs.Grammar.{IsLine}
 use Rattle.lbk_notation.specs.TestLine.{Line}
 use Rattle.lbk_notation.specs.Outcome.{IsOutcome}
 
--- a line comes to this: a blank or comment, or marks and scalars that compare so with the rules; or it is refused
+-- the result of a line: it is blank or a comment, or its marks and scalars compare so with the rules; or it is refused
 abbrev pub IsFinding : (ℕ → Cell) → Form → Profile → List ℕ → Finding → Type 0
 IsFinding cell form profile bytes NoLine = (length bytes ≤ longest) × IsLine form bytes None
 IsFinding cell form profile bytes (Replayed outcome) =

@@ -1,7 +1,7 @@
--- The grammar of a line, as a relation between its bytes and what they say, with no limit of length:
+-- The grammar of a line, as a relation between its bytes and their meaning, without a limit of length:
 --     ws* [ mark (ws+ hex ws+ mark)* ws* ] [ # any bytes but LF ]
--- where a carriage return as the very last byte may stand in place of the comment. A line without marks, blank or a
--- comment, says nothing.
+-- A carriage return as the very last byte may replace the comment. A line without marks, blank or a comment, has no
+-- meaning.
 use Rattle.std.specs.Prelude.{◌≡◌, ◌≢◌, ℕ, ◌+◌, ◌*◌, ◌<◌, Bool, ◌==◌, ltb, ◌||◌, if◌then◌else◌, IsTrue, List, [], ◌∷◌}
 use Rattle.std.specs.Prelude.{◌++◌, map, Option, Some, None, ◌⊎◌}
 use Rattle.std.specs.List.{AllByRecursion}
@@ -34,7 +34,7 @@ abbrev pub IsKinds : Form → Type 0
 IsKinds Kinds = Unit {0}
 IsKinds Plain = ⊥
 
--- the marks of a form: ! stands in form Kinds alone
+-- the marks of a form: ! only in form Kinds
 abbrev pub Has : Form → Mark → Type 0
 Has form Must = IsKinds form
 Has form mark = Unit {0}
@@ -46,7 +46,7 @@ digit_byte digit = if ltb digit 10 then 48 + digit else 55 + digit
 abbrev pub token_bytes : List ℕ → List ℕ
 token_bytes digits = map digit_byte digits
 
--- the number that digits spell, behind the digits of a number
+-- the number that digits spell, after the digits of a number
 abbrev pub number_behind : ℕ → List ℕ → ℕ
 number_behind number [] = number
 number_behind number (digit ∷ digits) = number_behind (16 * number + digit) digits
@@ -78,7 +78,7 @@ pub data IsAfter (form : Form) : List ℕ → List Mark → List ℕ → Type 0 
       → IsGap gap' → Has form mark → IsAfter form scalars marks rest
       → IsAfter form (number_of digits ∷ scalars) (mark ∷ marks) (gap ++ (token_bytes digits ++ (gap' ++ (mark_bytes mark ++ rest))))
 
--- a line, with what it says: ws* and its end, or ws*, a mark and what may follow it
+-- a line, with its meaning: ws* and its end, or ws*, a mark and what may follow it
 pub data IsLine (form : Form) : List ℕ → Option Line → Type 0 where
   no_line : (blank end : List ℕ) → IsBlank blank → IsEnd end → IsLine form (blank ++ end) None
   line : (blank : List ℕ) (mark : Mark) (rest scalars : List ℕ) (marks : List Mark) → IsBlank blank → Has form mark

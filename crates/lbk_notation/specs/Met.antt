@@ -1,4 +1,4 @@
--- The least difference so far, with the answers of a machine. Only proofs need this.
+-- The first difference so far, with the verdicts of a machine. Only proofs need this.
 use Rattle.std.specs.Prelude.{◌≡◌, ◌⊎◌, ℕ, ◌≤◌, Bool, true, false, nat_lt, ◌||◌, if◌then◌else◌, List, length}
 use Rattle.std.specs.Prelude.{slice_get, Some, ⊤}
 use Rattle.lbk_rules.specs.declared.Cell.{Cell}
@@ -27,12 +27,12 @@ agrees Kinds May K.May = true
 agrees Kinds Must K.Must = true
 agrees form mark kind = false
 
--- a difference was met before this position
+-- an earlier position differs
 abbrev pub is_before : Outcome → ℕ → Bool
 is_before Agree position = false
 is_before (Differ earlier _ _) position = nat_lt earlier position
 
--- with the verdict of one position more
+-- with the verdict of one more position
 abbrev pub met : Form → Outcome → ℕ → Mark → Verdict → Outcome
 met form outcome position file rules =
     if agrees form file rules.kind || is_before outcome position then outcome else Differ position file rules
@@ -54,7 +54,7 @@ abbrev pub IsTrueOf : (ℕ → Cell) → Form → Profile → Line → Outcome �
 IsTrueOf cell form profile line Agree = ⊤
 IsTrueOf cell form profile line (Differ position file rules) = Differs cell form profile line position file rules
 
--- no difference at k comes before the one that was met
+-- the position k does not differ, or the first difference is not after it
 abbrev pub Clears : (ℕ → Cell) → Form → Profile → Line → Outcome → ℕ → Type 0
 Clears cell form profile line Agree k = AgreesAt cell form profile line k
 Clears cell form profile line (Differ position _ _) k = AgreesAt cell form profile line k ⊎ (position ≤ k)

@@ -15,7 +15,7 @@ use Rattle.lbk_notation.specs.declared.marks.Mark.TheVariants.{No}
 use Rattle.lbk_notation.specs.Marked.{mark_of}
 use Rattle.lbk_notation.specs.TestLine.{Line}
 
--- in form Kinds a mark agrees where it is the kind, in form Plain where both are No or neither is
+-- in form Kinds a mark agrees if it is the kind, in form Plain if both are No or neither is
 abbrev pub Agrees : Form → Mark → Kind → Type 0
 Agrees Kinds mark kind = mark ≡ mark_of kind
 Agrees Plain mark kind = (mark ≡ No) ↔ (kind ≡ K.No)
@@ -29,7 +29,7 @@ abbrev pub AgreesAt : (ℕ → Cell) → Form → Profile → Line → ℕ → T
 AgreesAt cell form profile line k =
     (mark : Mark) × (slice_get line.marks k ≡ Some mark) × Agrees form mark (verdict_at cell profile line k).kind
 
--- the least position whose mark does not agree
+-- the first position whose mark does not agree
 pub record IsFirstDifference (cell : ℕ → Cell) (form : Form) (profile : Profile) (line : Line) (position : ℕ) (file : Mark) (rules : Verdict) : Type 0 where
   pub mark : slice_get line.marks position ≡ Some file
   pub verdict : rules ≡ verdict_at cell profile line position

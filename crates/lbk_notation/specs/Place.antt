@@ -1,4 +1,4 @@
--- Where a line that is none of the notation goes wrong.
+-- Where bytes stop being a line of the notation.
 use Rattle.std.specs.Prelude.{ℕ, ◌+◌, ◌<◌, ◌≤◌, List, ◌++◌, length, take, Option}
 use Rattle.std.specs.List.{AllByRecursion}
 use Rattle.lbk_notation.specs.declared.marks.Form.{Form}
@@ -8,15 +8,16 @@ use Rattle.lbk_notation.specs.Grammar.{IsLine}
 abbrev pub IsBytes : List ℕ → Type 0
 IsBytes bytes = AllByRecursion (λ byte. byte < 256) bytes
 
--- the front of some line
+-- a prefix of some line
 abbrev pub IsViable : Form → List ℕ → Type 0
 IsViable form bytes = (more : List ℕ) × IsBytes more × (value : Option Line) × IsLine form (bytes ++ more) value
 
--- no line of the grammar
+-- not a line of the grammar
 abbrev pub IsOutside : Form → List ℕ → Type 0
 IsOutside form bytes = (value : Option Line) → IsLine form bytes value → ⊥
 
--- the least place with which bytes are no front of a line any more, or their length where all of them are one
+-- the least offset up to which, inclusive, bytes are no longer a prefix of a line, or their length if all of them are
+-- one
 pub record IsPlace (form : Form) (bytes : List ℕ) (place : ℕ) : Type 0 where
   pub within : place ≤ length bytes
   pub before : (j : ℕ) → j < place → IsViable form (take (j + 1) bytes)

@@ -1,4 +1,4 @@
--- What a replay writes and answers, by what it read.
+-- What a replay writes and returns, by what it read.
 use Rattle.std.specs.Prelude.{◌≡◌, ℕ, ◌+◌, ◌<◌, ◌≤◌, Bool, true, false, List, ◌++◌, length, take, Option, None, Some}
 use Rattle.std.specs.Prelude.{Result, Ok, Err}
 use Rattle.std.specs.Io.KnownBytes.{Appends}
@@ -15,13 +15,13 @@ use Rattle.lbk_feed.specs.Devices.{Reads, count_up}
 use Rattle.lbk_feed.specs.Runs.{IsStopped}
 use Rattle.lbk_notation.specs.Stream.{ended_lines, lines_of, longest_stream}
 
--- what is written of the lines that an LF ends
+-- the output for the lines that an LF ends
 pub record IsEndedText (cell : ℕ → Cell) (form : Form) (profile : Profile) (bytes out : List ℕ) : Type 0 where
   pub findings : List Finding
   pub are : AreFindings cell form profile (ended_lines bytes) findings
   pub text : out ≡ text_from form 1 findings
 
--- what is written of a file that is all of the bytes, and the report of it
+-- the output for a file of exactly these bytes, and its report
 pub record IsReplayText (cell : ℕ → Cell) (form : Form) (profile : Profile) (bytes : List ℕ) (report : Report) (out : List ℕ) : Type 0 where
   pub findings : List Finding
   pub are : AreFindings cell form profile (lines_of bytes) findings
@@ -39,12 +39,12 @@ abbrev pub is_read_fault : Result Report ReplayFault → Bool
 is_read_fault (Err Read) = true
 is_read_fault _ = false
 
--- the fault of an answer
+-- the fault of a result
 abbrev pub fault_in : {X : Type 0} → Result X ReplayFault → Option ReplayFault
 fault_in (Ok x) = None
 fault_in (Err fault) = Some fault
 
--- the counts of a reader's and of a writer's failures after a call: one more exactly where the call answered so
+-- the counts of a reader's and of a writer's failures after a call: one more exactly if the call returned that
 abbrev pub failed_reads_with : ℕ → Option ReplayFault → ℕ
 failed_reads_with n (Some Read) = count_up n
 failed_reads_with n _ = n
@@ -53,22 +53,22 @@ abbrev pub failed_writes_with : ℕ → Option ReplayFault → ℕ
 failed_writes_with n (Some Write) = count_up n
 failed_writes_with n _ = n
 
--- stopped at some place: what went out is a front of what the lines ended before that place write, or, once the end
--- was met, of the replay text
+-- stopped: the output is a prefix of that of the lines that ended before some offset, or, once the end was reached, of
+-- the replay text
 abbrev pub IsStoppedReplay : (ℕ → Cell) → Form → Profile → Type 0 → List ℕ → List ℕ → Type 0
 IsStoppedReplay cell form profile ended read out =
     IsStopped (IsEndedText cell form profile) (λ bytes all. (report : Report) × IsReplayText cell form profile bytes report all)
     ended read out
 
--- out of memory at some place: what went out is what the lines ended before that place write, or, once the end was
--- met, what all lines write, without the counts
+-- out of memory: the output is that of the lines that ended before some offset, or, once the end was reached, that of
+-- all lines, without the counts
 pub data IsOutOfMemory (cell : ℕ → Cell) (form : Form) (profile : Profile) (ended : Type 0) (read out : List ℕ) : Type 0 where
   between_lines : (first later : List ℕ) → read ≡ first ++ later → IsEndedText cell form profile first out
       → IsOutOfMemory cell form profile ended read out
   uncounted : (report : Report) → ended → IsReplayText cell form profile read report (out ++ total_text report)
       → IsOutOfMemory cell form profile ended read out
 
--- what was written, by what was read and by the answer; `ended`: the end was met
+-- what was written, by what was read and by the result; `ended`: the end was reached
 abbrev pub IsReplay : (ℕ → Cell) → Form → Profile → Type 0 → Result Report ReplayFault → List ℕ → List ℕ → Type 0
 IsReplay cell form profile ended (Ok report) read out =
     (length read ≤ longest_stream) × IsReplayText cell form profile read report out
@@ -79,8 +79,8 @@ IsReplay cell form profile ended (Err StreamTooLong) read out =
 IsReplay cell form profile ended (Err Write) read out = IsStoppedReplay cell form profile ended (take longest_stream read) out
 IsReplay cell form profile ended (Err Memory) read out = IsOutOfMemory cell form profile ended (take longest_stream read) out
 
--- nothing is kept back: of the bytes that all reads but the last gave, at least one each, what the lines write that
--- they end was written; `from` and `to` are the reads before the run and after it
+-- nothing is held back: the output of the lines that end in the bytes of all reads except the last, at least one each,
+-- was written; `from` and `to` are the reads before the run and after it
 pub record KeepsUp (cell : ℕ → Cell) (form : Form) (profile : Profile) (from to : Reads) (read out : List ℕ) : Type 0 where
   pub before : List ℕ
   pub last : List ℕ
@@ -92,7 +92,7 @@ pub record KeepsUp (cell : ℕ → Cell) (form : Form) (profile : Profile) (from
   pub is : out ≡ written ++ later
   pub settled : IsEndedText cell form profile before written
 
--- what a replay reads and writes, whatever the answer
+-- what a replay reads and writes, whatever the result
 pub record IsReplayRun (cell : ℕ → Cell) (form : Form) (profile : Profile) (from to : Reads) (ended : Type 0)
     (answer : Result Report ReplayFault) (read out : List ℕ) : Type 0 where
   pub comes : IsReplay cell form profile ended answer read out

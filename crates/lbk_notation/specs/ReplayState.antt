@@ -1,4 +1,4 @@
--- How far a replay has come, and what its steps do.
+-- The state of a replay, and its steps.
 use Rattle.std.specs.Prelude.{◌≡◌, ℕ, ◌+◌, ◌<◌, ◌≤◌, Bool, true, false, List, [], ◌++◌, length, Option, Result, Ok}
 use Rattle.std.specs.Prelude.{Err, MatchResult}
 use Rattle.std.specs.Io.KnownBytes.{Appends}
@@ -18,12 +18,12 @@ use Rattle.lbk_notation.specs.Replay.{IsOutOfMemory, IsReplayRun, IsReplayText, 
 use Rattle.lbk_notation.specs.ReplayText.{finding_text, text_from, report_of}
 use Rattle.lbk_notation.specs.Stream.{cut_of, ended_lines, lines_of}
 
--- what is held of the bytes behind the last LF: all of them, or that they are more than a line may have
+-- what is held of the bytes after the last LF: all of them, or only that they are more than a line may have
 abbrev pub Holds : List ℕ → List ℕ → Bool → Type 0
 Holds rest line false = (line ≡ rest) × (length rest ≤ longest)
 Holds rest line true = longest < length rest
 
--- the bytes used so far, and what was written of the lines that they end
+-- the bytes taken so far, and the output of the lines that they end
 pub record Stands (cell : ℕ → Cell) (form : Form) (profile : Profile) (progress : ReplayState) (used out : List ℕ) : Type 0 where
   pub taken : progress.taken ≡ length used
   pub held : Holds (cut_of used).rest progress.line.items progress.is_long
@@ -33,14 +33,14 @@ pub record Stands (cell : ℕ → Cell) (form : Form) (profile : Profile) (progr
   pub counts : progress.report ≡ report_of findings
   pub text : out ≡ text_from form 1 findings
 
--- all lines of the file are told, but for the counts
+-- the output of all lines of the file was written, except the counts
 pub record StandsAtEnd (cell : ℕ → Cell) (form : Form) (profile : Profile) (progress : ReplayState) (used out : List ℕ) : Type 0 where
   pub findings : List Finding
   pub are : AreFindings cell form profile (lines_of used) findings
   pub counts : progress.report ≡ report_of findings
   pub text : out ≡ text_from form 1 findings
 
--- a line was ended, and came to a finding
+-- a line ended, with a result
 pub record Settles (cell : ℕ → Cell) (form : Form) (profile : Profile) (old new : ReplayState) : Type 0 where
   pub finding : Finding
   pub found : (rest : List ℕ) → Holds rest old.line.items old.is_long → IsFinding cell form profile rest finding
@@ -51,12 +51,12 @@ pub record Settles (cell : ℕ → Cell) (form : Form) (profile : Profile) (old 
   pub counts : new.report ≡ counted old.report finding
   pub text : new.text.items ≡ finding_text form (old.number + 1) finding
 
--- stopped by a fault of memory, or of the writer
+-- stopped because memory ran out, or by a fault of the writer
 abbrev pub IsStoppedBy : (ℕ → Cell) → Form → Profile → Type 0 → ReplayFault → List ℕ → List ℕ → Type 0
 IsStoppedBy cell form profile ended Memory read out = IsOutOfMemory cell form profile ended read out
 IsStoppedBy cell form profile ended fault read out = IsStoppedReplay cell form profile ended read out
 
--- what a call that uses some bytes writes
+-- what a call that takes some bytes writes
 pub record Uses (cell : ℕ → Cell) (form : Form) (profile : Profile) (old new : ReplayState) (bytes : List ℕ)
     (written written' : Option (List ℕ)) (result : Result Unit ReplayFault) : Type 0 where
   pub text : List ℕ
@@ -78,8 +78,8 @@ abbrev pub is_read_fault_of : Result ReplayState ReplayFault → Bool
 is_read_fault_of (Err Read) = true
 is_read_fault_of _ = false
 
--- what was read to the end of the stream, or to a fault, and written of it; at the end the last of the reads gave no
--- byte, and each of the others gave one at least
+-- what was read up to the end of the stream, or up to a fault, and the output for it; at the end the last read returned
+-- no byte, and each of the others at least one
 abbrev pub HasRead : (ℕ → Cell) → Form → Profile → Reads → Reads → Result ReplayState ReplayFault → List ℕ → List ℕ → Type 0
 HasRead cell form profile from to (Ok progress) read out =
     (to.gave ≡ 0) × (to.count ≤ from.count + (length read + 1)) × Stands cell form profile progress read out

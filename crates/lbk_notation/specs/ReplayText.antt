@@ -1,4 +1,4 @@
--- What a replay writes of the lines of a test file, and what it answers.
+-- What a replay writes for the lines of a test file, and its report.
 use Rattle.std.specs.Prelude.{ℕ, ◌+◌, Bool, true, false, List, [], ◌∷◌, ◌++◌, count_by, codes, decimal}
 use Rattle.std.specs.List.{join_with_byte}
 use Rattle.lbk_rules.specs.Labels.{label_of}
@@ -11,11 +11,11 @@ use Rattle.lbk_notation.specs.Marked.{mark_of}
 use Rattle.lbk_notation.specs.Grammar.{mark_bytes}
 use Rattle.lbk_notation.specs.Written.{shown}
 
--- words with one space between each two, and LF
+-- words, separated by one space, and LF
 abbrev pub row_text : List (List ℕ) → List ℕ
 row_text words = join_with_byte 32 words ++ 10 ∷ []
 
--- the line that is written of a line of the file, by its number; of one that agrees, and of a blank or comment, none
+-- the line written for a line of the file, with its number; none for one that agrees, and for a blank line or a comment
 abbrev pub finding_text : Form → ℕ → Finding → List ℕ
 finding_text form number NoLine = []
 finding_text form number (Replayed Agree) = []
@@ -25,7 +25,7 @@ finding_text form number (Replayed (Differ position file rules)) =
 finding_text form number (Bad at) = row_text (codes "R" ∷ decimal number ∷ decimal at ∷ [])
 finding_text form number Long = row_text (codes "R" ∷ decimal number ∷ codes "long" ∷ [])
 
--- the lines of all, the first of them numbered so
+-- the output lines of all lines; the first line has this number
 abbrev pub text_from : Form → ℕ → List Finding → List ℕ
 text_from form number [] = []
 text_from form number (finding ∷ findings) = finding_text form number finding ++ text_from form (number + 1) findings

@@ -1,5 +1,5 @@
--- What the reader does over the bytes of a line. Only the contracts of its parts cite this: what has to be believed
--- is the grammar.
+-- A run of the reader over the bytes of a line. Only the contracts of its parts cite this; readers have to check the
+-- grammar instead.
 use Rattle.std.specs.Prelude.{◌≡◌, ℕ, ◌+◌, ◌-◌, ◌*◌, ◌^◌, ◌<◌, ◌≤◌, Bool, true, false, ◌==◌, ltb, leb, ◌||◌, ◌&&◌}
 use Rattle.std.specs.Prelude.{if◌then◌else◌, List, [], ◌∷◌, ◌++◌, Option, Some, Result, Ok, Err}
 use Rattle.lbk_notation.specs.declared.faults.LineFault.{LineFault}
@@ -98,7 +98,7 @@ can_end (Digits count number) = false
 can_end Coded = false
 can_end state = true
 
--- digits with which a token may begin, by how many they are and what number they spell
+-- digits with which a token may begin: how many, and the number that they spell
 pub record IsOpen (count number : ℕ) : Type 0 where
   pub few : count ≤ 6
   pub below : number < 16 ^ count
@@ -115,7 +115,7 @@ match_taken (On next) dead on scalar mark = on next
 match_taken (OneScalar c) dead on scalar mark = scalar c
 match_taken (OneMark m) dead on scalar mark = mark m
 
--- what is answered of the bytes left: in a state, at a place, behind the scalars and marks read so far
+-- the result for the remaining bytes: in a state, at an offset, after the scalars and marks read so far
 abbrev pub run : Form → State → ℕ → List ℕ → List Mark → List ℕ → Result (Option Line) ℕ
 run form state place scalars marks [] = if can_end state then Ok (made scalars marks) else Err place
 run form state place scalars marks (byte ∷ bytes) =
@@ -127,7 +127,7 @@ run form state place scalars marks (byte ∷ bytes) =
 abbrev pub run_line : Form → List ℕ → Result (Option Line) ℕ
 run_line form bytes = run form Start 0 [] [] bytes
 
--- what a fault of the reader says of its run
+-- what a fault of the reader says about its run
 abbrev pub IsRunFault : Form → List ℕ → LineFault → Type 0
 IsRunFault form bytes LineTooLong = ⊥
 IsRunFault form bytes (Bad at) = run_line form bytes ≡ Err at

@@ -1,4 +1,4 @@
--- The line that is written of a passage: its marks and scalars, and in the comment the rules that decided.
+-- The line written for a passage: its marks and scalars, and in the comment the rules that decided.
 use Rattle.std.specs.Prelude.{ℕ, List, ◌∷◌, ◌++◌, map}
 use Rattle.std.specs.List.{flat_map}
 use Rattle.lbk_notation.specs.declared.marks.Form.TheVariants.{Kinds}
@@ -8,7 +8,7 @@ use Rattle.lbk_notation.specs.Written.{written_line}
 use Rattle.lbk_rules.specs.declared.Verdict.{Verdict}
 use Rattle.lbk_rules.specs.Labels.{label_of}
 
--- the labels of the rules that decided, each after one space
+-- the labels of the rules that decided, each after a space
 abbrev pub written_labels : List Verdict → List ℕ
 written_labels verdicts = flat_map (λ verdict. 32 ∷ label_of verdict.rule) verdicts
 

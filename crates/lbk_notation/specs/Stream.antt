@@ -3,19 +3,19 @@ use Rattle.std.specs.Prelude.{◌≢◌, ℕ, ◌==◌, ◌&&◌, if◌then◌el
 use Rattle.std.specs.List.{AllByRecursion}
 use Rattle.lbk_feed.specs.Text.{longest_text}
 
--- the most bytes of a file that is replayed: as many as of a text
+-- the most bytes of a replayed file: as many as of a text
 abbrev pub longest_stream : ℕ
 longest_stream = longest_text
 
 abbrev pub byte_order_mark : List ℕ
 byte_order_mark = 0xEF ∷ 0xBB ∷ 0xBF ∷ []
 
--- a file without the byte order mark at its front
+-- a file without a leading byte order mark
 abbrev pub without_mark : List ℕ → List ℕ
 without_mark (a ∷ b ∷ c ∷ bytes) = if (a == 0xEF) && (b == 0xBB) && (c == 0xBF) then bytes else a ∷ b ∷ c ∷ bytes
 without_mark bytes = bytes
 
--- the lines that an LF ends, each without it, and what stands behind the last LF
+-- the lines that an LF ends, each without it, and the text after the last LF
 pub record Cut : Type 0 where
   pub lines : List (List ℕ)
   pub rest : List ℕ
@@ -23,7 +23,7 @@ pub record Cut : Type 0 where
 abbrev pub nothing_cut : Cut
 nothing_cut = record { lines = []; rest = [] }
 
--- one byte more
+-- one more byte
 abbrev pub then_byte : Cut → ℕ → Cut
 then_byte cut byte =
     if byte == 10
@@ -41,12 +41,12 @@ cut_of bytes = cut_on nothing_cut (without_mark bytes)
 abbrev pub ended_lines : List ℕ → List (List ℕ)
 ended_lines bytes = (cut_of bytes).lines
 
--- what stands behind the last LF is a line, unless it is empty
+-- the text after the last LF is a line, unless it is empty
 abbrev pub last_line : List ℕ → List (List ℕ)
 last_line [] = []
 last_line (byte ∷ bytes) = (byte ∷ bytes) ∷ []
 
--- the lines of a file that is all of the bytes
+-- the lines of a file of exactly these bytes
 abbrev pub lines_of : List ℕ → List (List ℕ)
 lines_of bytes = (cut_of bytes).lines ++ last_line (cut_of bytes).rest
 

@@ -1,5 +1,5 @@
--- The line that is written: marks and scalars with one space between each two and no other white space, each scalar
--- as its one token.
+-- The written line: marks and scalars, separated by one space, without other white space, each scalar as its only
+-- token.
 use Rattle.std.specs.Prelude.{◌≡◌, ℕ, ◌/◌, ◌%◌, ltb, if◌then◌else◌, List, [], ◌∷◌, ◌++◌, map, take}
 use Rattle.lbk_notation.specs.declared.marks.Form.{Form}
 use Rattle.lbk_notation.specs.declared.marks.Form.TheVariants.{Plain}
@@ -13,7 +13,7 @@ abbrev pub shown : Form → Mark → Mark
 shown Plain Must = May
 shown form mark = mark
 
--- what a written line says: the line itself in Kinds, and in Plain the line with every Must as a May
+-- the meaning of a written line: the line itself in Kinds, and in Plain the line with every Must as a May
 abbrev pub shown_line : Form → Line → Line
 shown_line form line = record { scalars = line.scalars; marks = map (shown form) line.marks }
 
@@ -27,7 +27,7 @@ digits_of scalar =
 abbrev pub token : ℕ → List ℕ
 token scalar = token_bytes (digits_of scalar)
 
--- what is written behind a mark: for each scalar a space, its token, a space and the mark behind it
+-- the text after a mark: for each scalar a space, its token, a space and the mark after it
 abbrev pub written_after : Form → List ℕ → List Mark → List ℕ
 written_after form (scalar ∷ scalars) (mark ∷ marks) =
     32 ∷ (token scalar ++ (32 ∷ (mark_bytes (shown form mark) ++ written_after form scalars marks)))
@@ -40,7 +40,7 @@ written_marks form scalars (mark ∷ marks) = mark_bytes (shown form mark) ++ wr
 abbrev pub written_line : Form → Line → List ℕ
 written_line form line = written_marks form line.scalars line.marks
 
--- of these bytes the first ones were put after those that were there, and of these none is lost
+-- a prefix of these bytes was appended to the bytes before, of which none is lost
 pub record HasPut (old new bytes : List ℕ) : Type 0 where
   pub count : ℕ
   pub is : new ≡ old ++ take count bytes
