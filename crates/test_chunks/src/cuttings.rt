@@ -1,4 +1,4 @@
-//! The chunks of texts, however the reads are cut: in two reads and in three at every place, and in reads of one to
+//! The chunks of texts, for reads cut in any way: in two and three reads, cut at every offset, and in reads of one to
 //! seven bytes.
 
 use crate::rows::ROWS;
@@ -50,7 +50,7 @@ pub fn push_told(line: &mut String, chunk: &Chunk) -> Result<(), AllocError> {
     Ok(())
 }
 
-/// The chunks of a text that is read in these sizes, and the fault after them.
+/// The chunks of a text, read in these sizes, and the fault after them.
 fn told(
     alloc: Global,
     cells: &CellPages,
@@ -92,7 +92,7 @@ fn chunks_in_all_reads(rt: HostRuntime) -> Result<(), Fail> {
     Ok(())
 }
 
-/// Texts that are refused, the chunks that are settled before that, of at most four bytes, and the fault.
+/// Refused texts, the chunks of at most four bytes that are settled before, and the fault.
 static REFUSED: [(&[u8], &str, PassageFault); 3] = [
     (b"aa\nbb\xFF", "", PassageFault::NotUtf8 { at: 5 }),
     (b"aa bb\ncc\n\xC3", "0-3:1", PassageFault::NotUtf8 { at: 9 }),

@@ -1,4 +1,4 @@
-//! The lines that `chunk` writes, however the reads are cut, of the whole text and of a range, and a window by itself.
+//! The lines that `chunk` writes for a whole text and for a range, for reads cut in any way, and a window alone.
 
 use crate::cuttings::{LIMIT, cuttings, limits_of, push_told};
 use crate::rows::ROWS;
@@ -14,7 +14,7 @@ use std::alloc::Global;
 use std::test::Fail;
 use test_support::checks::same;
 
-/// A text that is read in these sizes has these lines, and the run ends so.
+/// A text, read in these sizes, has these lines, and the run ends so.
 fn check(
     alloc: Global,
     cells: &CellPages,
@@ -110,7 +110,7 @@ fn lines_before_a_fault(rt: HostRuntime) -> Result<(), Fail> {
     check(rt.alloc(), &cells, LINES, b"aa bb\ncc\xFF", &[9], want)
 }
 
-/// The chunks of a text by a window.
+/// The chunks of a text, by a window.
 fn by_window(
     alloc: Global,
     cells: &CellPages,
@@ -138,7 +138,7 @@ fn by_window(
     Ok(line)
 }
 
-/// The same of its first passage, whose cuts are taken by hand.
+/// The same for its first passage, with cuts passed by hand.
 fn of_one_passage(alloc: Global, cells: &CellPages, text: &[u8]) -> Result<String, Fail> {
     let mut line = String::new(alloc);
     let Ok(mut segmenter) = Segmenter::new(alloc, cells, LIMIT, Profile::First) else {

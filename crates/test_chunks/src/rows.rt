@@ -1,7 +1,7 @@
-//! Texts, the limits of their chunks, and the chunks: start, end and words, with `!` where one stands alone. They
-//! come of a slow form of the definition.
+//! Texts, the limits of their chunks, and the chunks: start, end and words, with `!` for one that is alone. A slow form
+//! of the definition computed them.
 
-/// The most bytes and words, the fewest new bytes, and the most bytes that are said twice.
+/// The most bytes and words, the fewest new bytes, and the most repeated bytes.
 pub type Row = (&'static str, [usize; 4], &'static str);
 
 pub static ROWS: [Row; 28] = [

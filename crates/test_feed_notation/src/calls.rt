@@ -1,5 +1,5 @@
-//! Calls that tests make, each without its contract. A test proves only that it is safe and returns, so it needs no
-//! fact of them; a check that does not carry their facts from call to call takes a fraction of the time.
+//! Calls for tests, without their contracts. A test only proves that it is safe and returns, so it needs no facts about
+//! them; without these facts a check takes a fraction of the time.
 
 use crate::tasks::Setting;
 use lbk_cmd::{CmdFault, SAMPLE_FILES, mark, read_cells, segment, show};
@@ -16,12 +16,12 @@ pub fn sample_cells(alloc: Global) -> Result<CellPages, Fail> {
     Ok(read_cells(alloc, SAMPLE_FILES)?)
 }
 
-/// Gives the bytes in reads of these sizes, the last of them for all that follow.
+/// Returns the bytes in reads of these sizes; the last size is that of all later reads.
 pub fn cut_source<'a>(bytes: &'a [u8], sizes: &'a [usize]) -> MemorySource<'a> {
     MemorySource::cut(bytes, sizes)
 }
 
-/// Gives the bytes in reads of these sizes, of which one may fail.
+/// Returns the bytes in reads of these sizes; one of them may fail.
 pub fn source_of<'a>(
     bytes: &'a [u8],
     sizes: &'a [usize],
@@ -34,7 +34,7 @@ pub fn source_of<'a>(
     }
 }
 
-/// Takes `room` bytes, and at most `most` in a write.
+/// Accepts `room` bytes, at most `most` in a write.
 pub fn memory_sink(alloc: Global, room: usize, most: usize) -> Result<MemorySink, AllocError> {
     Ok(MemorySink::new(alloc, room)?.at_most(most))
 }
@@ -49,7 +49,7 @@ pub fn write_line_to<W: Sink>(writer: &mut W, line: &str) -> Result<(), Failed> 
     write_all_to(writer, b"\n")
 }
 
-/// Takes the next piece whole, and says whether there is one.
+/// Consumes the next piece, and says whether there is one.
 pub fn take_piece<R: Source>(feed: &mut Feed, reader: &mut R) -> Result<bool, FeedFault> {
     let found = feed.piece(reader)?.is_some();
     let n = feed.ready().len();
@@ -64,7 +64,7 @@ pub fn next_passage<'a, R: Source, C: CellSource>(
     segmenter.next(reader)
 }
 
-/// Says whether there is a passage more.
+/// Says whether there is another passage.
 pub fn has_next<R: Source, C: CellSource>(
     segmenter: &mut Segmenter<'_, C>,
     reader: &mut R,

@@ -1,5 +1,5 @@
-//! What is written of worked texts and test files in both profiles, and how each run ends, however the reads are cut: in two reads
-//! and in three at every place, and in reads of one to seven bytes.
+//! The output for worked texts and test files in both profiles, and how each run ends, for reads cut in any way: in two
+//! and three reads, cut at every offset, and in reads of one to seven bytes.
 
 use crate::calls::sample_cells;
 use crate::runs::{Run, check_run, whole};
@@ -30,7 +30,7 @@ fn cuttings(alloc: Global, length: usize) -> Result<Vec<[usize; 3]>, AllocError>
     Ok(cuttings)
 }
 
-/// Compares how a run ends and what it writes, in all reads.
+/// Compares how a run ends and what it writes, for all reads.
 fn check(
     setting: Setting<'_>,
     task: Task,
@@ -57,7 +57,7 @@ const FIRST: [Profile; 1] = [Profile::First];
 
 const SECOND: [Profile; 1] = [Profile::Second];
 
-/// Texts, and what is written of each.
+/// Texts, and the output for each.
 fn check_texts(settings: Settings<'_>, task: Task, rows: &[(&str, &str)]) -> Result<(), Fail> {
     let (alloc, cells, profiles) = settings;
     for (text, written) in rows {
@@ -109,7 +109,7 @@ fn written_of_texts(rt: HostRuntime) -> Result<(), Fail> {
     )
 }
 
-/// Compares each run with one that reads all at once.
+/// Compares each run with one that reads everything at once.
 fn check_uncut(settings: Settings<'_>, tasks: &[Task], input: &[u8]) -> Result<(), Fail> {
     let (alloc, cells, profiles) = settings;
     for task in tasks {
@@ -122,7 +122,7 @@ fn check_uncut(settings: Settings<'_>, tasks: &[Task], input: &[u8]) -> Result<(
     Ok(())
 }
 
-/// Texts of which more is said elsewhere.
+/// Texts with more results elsewhere.
 fn check_uncut_texts(settings: Settings<'_>, rows: &[(&str, &str)]) -> Result<(), Fail> {
     for (text, _) in rows {
         check_uncut(settings, &OF_TEXTS, text.as_bytes())?;
@@ -130,8 +130,9 @@ fn check_uncut_texts(settings: Settings<'_>, rows: &[(&str, &str)]) -> Result<()
     Ok(())
 }
 
-/// Texts that are ill-formed at an end or within, after passages and not; and test files: the front of a byte order mark, which is
-/// a bad line; one after the first line; lines that end at CR LF; a line that is no line of a form, and bytes that are no text.
+/// Texts that are ill-formed at an end or inside, after passages or not; and test files: the start of a byte order
+/// mark, which is a bad line; one after the first line; lines that end with CR LF; a line that is not in one of the
+/// forms, and bytes that are no text.
 static BAD: [(&[Task], &[u8]); 11] = [
     (&OF_TEXTS, b"a\xE2\x82"),
     (&OF_TEXTS, b"a\nb\xFF"),
@@ -167,7 +168,7 @@ fn reads_of_texts(rt: HostRuntime) -> Result<(), Fail> {
     Ok(())
 }
 
-/// A text, the limit of a paragraph, the passages given, and the fault that follows them.
+/// A text, the limit of a paragraph, the passages, and the fault after them.
 type Refused = (&'static [u8], u32, &'static str, PassageFault);
 
 const TOO_LONG: PassageFault = PassageFault::ParagraphTooLong { start: 0 };
@@ -204,7 +205,7 @@ fn refused_texts(rt: HostRuntime) -> Result<(), Fail> {
     Ok(())
 }
 
-/// Test files, what is written of each, and what is counted. Each is read in the other form too.
+/// Test files, the output for each, and the counts. Each is also read in the other form.
 fn check_files(settings: Settings<'_>, form: Form, rows: &[replayed::Row]) -> Result<(), Fail> {
     let (alloc, cells, profiles) = settings;
     for (file, written, counts) in rows {

@@ -1,4 +1,4 @@
-//! What no clause says of the devices: when they fail, and that they give and take what they should.
+//! What no clause says about the devices: when they fail, and that they read and write what they should.
 
 use crate::calls::{memory_sink, source_of, write_all_to};
 use crate::feed_calls::same;
@@ -9,7 +9,7 @@ use std::io::{ErrorKind, Read, Write};
 use std::process::Abort;
 use std::test::Fail;
 
-/// Reads, and compares what came.
+/// Reads, and compares the result.
 fn check_read<S: Source>(rt: &impl Abort, source: &mut S, want: Result<&str, Failed>) {
     let mut buf = [0; 4];
     match source.read(&mut buf) {
@@ -40,19 +40,18 @@ fn check_reads<S: Source>(
     check_counts(rt, source, reads, failures, ended);
 }
 
-/// What a call of a reader or a writer of std comes to.
+/// The result of a call of a reader or a writer of std.
 #[derive(Clone, Copy)]
 enum Call {
-    /// It gives this byte.
+    /// It returns this byte.
     Gives(u8),
-    /// It takes this many bytes.
+    /// It accepts this many bytes.
     Takes(usize),
     /// It fails for this reason.
     Fails(ErrorKind),
 }
 
-/// A reader and writer of std whose calls come to what a test wants, each to the next; past the last they move
-/// nothing.
+/// A reader and writer of std with prescribed results, one for each call; after the last they move nothing.
 #[derive(Drop)]
 struct Told<'a> {
     calls: &'a [Call],
@@ -135,7 +134,7 @@ const READER: [Call; 6] = [
     Call::Gives(b'c'),
 ];
 
-/// What a device over it returns.
+/// The result of a device over it.
 const READ: [Result<&str, Failed>; 6] = [
     Ok("a"),
     Err(Failed),
@@ -145,7 +144,7 @@ const READ: [Result<&str, Failed>; 6] = [
     Ok("c"),
 ];
 
-// A device calls what it is over once a call, and goes on after a failure.
+// Each call of a device is one call of the inner one, and it continues after a failure.
 #[test]
 fn readers_of_std(rt: HostRuntime) {
     let mut device = Device::new(Told { calls: &READER });
@@ -153,7 +152,7 @@ fn readers_of_std(rt: HostRuntime) {
     check_reads(&rt, &mut device, &[Ok(""), Ok("")], 3, true);
 }
 
-// A device asks for as many bytes as there is room, and hands on as many as it is given.
+// A device asks for as many bytes as there is room, and passes on as many as it gets.
 #[test]
 fn blocks_of_readers(rt: HostRuntime) {
     let bytes = [b'a'; 5000];
@@ -163,7 +162,7 @@ fn blocks_of_readers(rt: HostRuntime) {
     same(&rt, device.read(&mut block), Ok(904), "the rest");
 }
 
-// It hands on all bytes at once, too.
+// It also passes on all bytes at once.
 #[test]
 fn blocks_of_writers(rt: HostRuntime) {
     let mut room = [0; 5000];
@@ -236,7 +235,7 @@ const WRITER: [Call; 6] = [
     Call::Takes(3),
 ];
 
-/// What a device over it returns.
+/// The result of a device over it.
 const WRITTEN: [Result<usize, Failed>; 7] = [
     Ok(1),
     Err(Failed),
@@ -265,7 +264,7 @@ fn check_write_all(
     same(rt, sink.failures(), failures, "failures");
 }
 
-// All is written over short writes, and a failure ends the writing where it comes.
+// Short writes write everything, and a failure ends the writing.
 #[test]
 fn all_of_the_bytes(rt: HostRuntime) -> Result<(), Fail> {
     let mut sink = memory_sink(rt.alloc(), 5, 2)?;

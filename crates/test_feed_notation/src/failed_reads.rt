@@ -1,5 +1,5 @@
-//! Readers that fail at each place: all that was due went out before, and no read follows. Texts that are refused, by their limits
-//! and otherwise.
+//! Readers that fail at each read: everything settled was written before, and no read follows. Texts that are refused,
+//! for their limits and otherwise.
 
 use crate::calls::sample_cells;
 use crate::runs::{check_run, whole};
@@ -11,7 +11,7 @@ use std::test::Fail;
 use test_support::checks::same;
 use test_support::replayed::FOUR_LINES;
 
-/// What is run on an input in reads of one byte, and all that went out once so many bytes were read.
+/// A task, its input in reads of one byte, and the output after so many bytes.
 type FailedRead = (Task, &'static str, &'static [(usize, &'static str)]);
 
 static FAILED_READS: [FailedRead; 7] = [
@@ -54,7 +54,7 @@ const TWO_LETTERS: &str = "P 0 2 5 S 0 2 Must 5 W 0 1 p 1 2\nP 2 2 5 S 0 2 Must 
 const THREE_LETTERS: &str =
     "P 0 2 5 S 0 2 Must 5 W 0 1 p 1 2\nP 2 2 5 S 0 2 Must 5 W 0 1 p 1 2\nP 4 2 5 S 0 2 Must 5 W 0 1 p 1 2\n";
 
-/// All that went out once so many bytes were read.
+/// The output after so many bytes.
 fn written_after<'a>(outputs: &[(usize, &'a str)], read: usize) -> &'a str {
     let mut written = "";
     for (from, output) in outputs {
@@ -65,7 +65,7 @@ fn written_after<'a>(outputs: &[(usize, &'a str)], read: usize) -> &'a str {
     written
 }
 
-/// Fails each read of one byte, the last of which would tell the end.
+/// Fails each read of one byte; the last one would return the end.
 fn check_failed_reads(setting: Setting<'_>, row: &FailedRead) -> Result<(), Fail> {
     let (task, input, outputs) = *row;
     for place in 0..=input.len() {
@@ -90,8 +90,8 @@ fn failed_reads(rt: HostRuntime) -> Result<(), Fail> {
     Ok(())
 }
 
-/// What is run, a text, the limit of a paragraph, the sizes of the reads, the one that fails, if any, the result, and what is
-/// written.
+/// A task, a text, the limit of a paragraph, the sizes of the reads, the one that fails, if any, the result, and the
+/// output.
 type Row = (
     Task,
     &'static [u8],
@@ -239,7 +239,7 @@ static ROWS: [Row; 31] = [
         Err(PassageFault::ParagraphTooLong { start: 2 }),
         LETTER,
     ),
-    // The second LF stands at byte 37.
+    // The second LF is at byte 37.
     (REPLAY, LINES, LIMIT, &[38], Some(1), READ, "D 2 1 ÷ × 28\n"),
     (REPLAY, LINES, LIMIT, &[37], Some(1), READ, ""),
     (REPLAY, LINES, LIMIT, &[], Some(0), READ, ""),

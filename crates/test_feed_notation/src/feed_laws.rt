@@ -1,4 +1,4 @@
-//! The laws over what feeds give can be called.
+//! The laws about feeds can be called.
 
 #[test]
 fn laws_of_feeds() {

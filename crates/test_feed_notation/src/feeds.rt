@@ -1,4 +1,4 @@
-//! The feed over reads that are cut, that fail and that end, with the pieces, counts and places that must come.
+//! The feed over reads that are cut, that fail and that end, with the expected pieces, counts and offsets.
 
 use crate::feed_calls::{same, settle, use_up};
 use lbk_feed::devices::{MemorySource, RepeatedSource};
@@ -8,11 +8,11 @@ use std::process::Abort;
 use std::test::Fail;
 use test_support::reads::SIZES;
 
-/// What a call of `piece` must return, and how many reads it makes.
+/// What a call of `piece` has to return, and how many reads it makes.
 #[derive(Clone, Copy)]
 struct Row<'a>(Result<Option<&'a [u8]>, FeedFault>, u64);
 
-/// No piece, since a fault was returned before, and no read.
+/// No piece and no read, because a fault was returned before.
 const SPENT: Row<'static> = Row(Err(FeedFault::Spent), 0);
 
 /// Asks for a piece, and compares it.
@@ -28,7 +28,7 @@ fn check_piece<R: Source>(
     same(rt, found, want, "a piece");
 }
 
-/// Uses up all that is ready, and compares what was given then.
+/// Consumes all that is ready, and compares the count then.
 fn check_use_up(rt: &impl Abort, feed: &mut Feed) {
     let given = feed.given();
     let n = feed.ready().len();
@@ -46,7 +46,7 @@ fn check_row<R: Source>(rt: &impl Abort, feed: &mut Feed, reader: &mut R, row: &
     check_use_up(rt, feed);
 }
 
-// Calls `piece` for each row, and uses all of the piece up.
+// Calls `piece` for each row, and consumes the whole piece.
 fn check_pieces<R: Source>(rt: &impl Abort, reader: &mut R, rows: &[Row<'_>]) {
     let mut feed = Feed::new();
     for row in rows {
@@ -86,7 +86,7 @@ fn check_cut(rt: &impl Abort, bytes: &[u8], sizes: &[usize], rows: &[Row<'_>]) {
     check_pieces(rt, &mut MemorySource::cut(bytes, sizes), rows);
 }
 
-/// The same where the read of this number fails.
+/// The same, with a failing read of this number.
 fn check_failing(rt: &impl Abort, bytes: &[u8], sizes: &[usize], read: u64, rows: &[Row<'_>]) {
     let mut reader = MemorySource::cut(bytes, sizes).failing_at(read);
     check_pieces(rt, &mut reader, rows);
@@ -106,7 +106,7 @@ fn ill_formed_bytes(rt: HostRuntime) {
     check_ill_formed(&rt, b"\xC0\x80", 1);
 }
 
-/// Bytes that are ill-formed from the first on.
+/// Bytes that are ill-formed from the first one on.
 fn check_ill_formed(rt: &impl Abort, bytes: &[u8], reads: u64) {
     let fault = Row(Err(FeedFault::NotUtf8 { at: 0 }), reads);
     check_cut(rt, bytes, &[], &[fault, SPENT, SPENT]);
@@ -131,7 +131,7 @@ const FAULT_IN_A_SCALAR: [Row<'static>; 3] = [
     SPENT,
 ];
 
-// Where bytes are ill-formed no read follows, so one that would fail changes no result.
+// After ill-formed bytes there is no read, so one that would fail changes no result.
 #[test]
 fn no_read_after_a_fault(rt: HostRuntime) {
     check_failing(&rt, b"ab\xFFc", &[1], 3, &FAULT_AT_THE_THIRD);
@@ -151,7 +151,7 @@ fn check_settle(
     same(rt, reader.reads(), reads, "reads");
 }
 
-/// Settles the feed twice, compares what is ready, and uses it up.
+/// Settles the feed twice, compares what is ready, and consumes it.
 fn check_settled(
     rt: &impl Abort,
     feed: &mut Feed,
@@ -165,7 +165,7 @@ fn check_settled(
     use_up(feed);
 }
 
-// `settle` returns whether a piece stands, and lends nothing.
+// `settle` returns whether a piece is ready, and lends nothing.
 #[test]
 fn settled(rt: HostRuntime) {
     let mut reader = MemorySource::cut(EURO, &[2, 1, 2]);
@@ -185,7 +185,7 @@ fn settled_by_a_fault(rt: HostRuntime) {
     check_settle(&rt, &mut feed, &mut ill, Err(FeedFault::Spent), 1);
 }
 
-/// Asks for a piece, which is this, and compares how many reads were made in all.
+/// Asks for a piece, which has to be this one, and compares how many reads were made in all.
 fn check_text_piece(
     rt: &impl Abort,
     feed: &mut Feed,
@@ -197,13 +197,13 @@ fn check_text_piece(
     same(rt, reader.reads(), reads, "reads");
 }
 
-/// Uses up the first of the bytes that are ready.
+/// Consumes the first of the ready bytes.
 fn use_up_front(rt: &impl Abort, feed: &mut Feed, n: usize) {
     assert!(rt; feed.ready().is_char_boundary(n));
     feed.advance(n);
 }
 
-// A scalar is used up by itself, and the rest of what is ready is lent again without a read.
+// A single scalar is consumed, and the rest of the ready bytes is lent again without a read.
 #[test]
 fn parts_of_a_piece(rt: HostRuntime) {
     let mut reader = MemorySource::cut(EURO, &[2, 1, 2]);
@@ -220,13 +220,13 @@ fn parts_of_a_piece(rt: HostRuntime) {
 /// How far the pieces of some bytes were compared.
 #[derive(Clone, Copy)]
 enum Compared<'a> {
-    /// To a piece, with these bytes after it.
+    /// Up to a piece, with these bytes after it.
     Piece(&'a [u8]),
-    /// To the end of the text, or to a fault.
+    /// Up to the end of the text, or up to a fault.
     End(Result<(), FeedFault>),
 }
 
-/// Asks for the next piece, with which the rest has to begin, and uses it up.
+/// Asks for the next piece, with which the rest has to begin, and consumes it.
 fn next_piece<'a>(
     rt: &impl Abort,
     feed: &mut Feed,
@@ -243,7 +243,7 @@ fn next_piece<'a>(
     Compared::Piece(left.unwrap_or(rest))
 }
 
-// All pieces of the bytes, used up whole, and how they end.
+// All pieces of the bytes, consumed completely, and how they end.
 fn check_text(rt: &impl Abort, bytes: &[u8], sizes: &[usize], end: Result<(), FeedFault>) {
     let mut reader = MemorySource::cut(bytes, sizes);
     let mut feed = Feed::new();
@@ -261,7 +261,7 @@ fn check_text(rt: &impl Abort, bytes: &[u8], sizes: &[usize], end: Result<(), Fe
     assert!(rt; false, "each piece has a byte");
 }
 
-/// A text whose last scalar of three bytes begins at this place: whole, and cut off.
+/// A text with its last scalar of three bytes at this offset: complete, and cut off.
 fn check_edge(rt: &impl Abort, text: &[u8], at: usize, size: usize) {
     check_text(rt, text, &[size], Ok(()));
     for len in at.saturating_add(1)..at.saturating_add(3) {
@@ -270,14 +270,14 @@ fn check_edge(rt: &impl Abort, text: &[u8], at: usize, size: usize) {
     }
 }
 
-/// So many letters, and a scalar of three bytes.
+/// This many letters, and a scalar of three bytes.
 fn text_to(alloc: Global, at: usize) -> Result<Vec<u8>, AllocError> {
     let mut text = vec![in alloc; b'a'; at]?;
     text.extend_from_slice("€".as_bytes())?;
     Ok(text)
 }
 
-// A scalar at each place round the end of a block, whole and cut off, in reads of several sizes.
+// A scalar at each offset around the end of a block, complete and cut off, in reads of several sizes.
 #[test]
 fn block_edges(rt: HostRuntime) -> Result<(), Fail> {
     for at in 4090..=4100 {
@@ -289,7 +289,7 @@ fn block_edges(rt: HostRuntime) -> Result<(), Fail> {
     Ok(())
 }
 
-/// Asks for pieces and uses them up, so often at most. The fault that comes.
+/// Asks for pieces and consumes them, so often at most. Returns the fault.
 fn fault_behind_pieces(
     rt: &impl Abort,
     feed: &mut Feed,
@@ -306,7 +306,7 @@ fn fault_behind_pieces(
     None
 }
 
-// The longest text, and one byte more: it comes in 262,144 full reads and a last one, after which none is made.
+// The longest text, and one byte more: 262,144 full reads and a last one, and none after it.
 #[test]
 fn longest_text(rt: HostRuntime) {
     let longest = 1_073_741_824u64;
@@ -320,14 +320,14 @@ fn longest_text(rt: HostRuntime) {
     check_row(&rt, &mut feed, &mut reader, &SPENT);
 }
 
-/// Asks for a piece, which has so many bytes, and uses it up.
+/// Asks for a piece, which has to have so many bytes, and consumes it.
 fn check_length(rt: &impl Abort, feed: &mut Feed, reader: &mut RepeatedSource, want: usize) {
     let found = feed.piece(reader).map(|piece| piece.map(|text| text.len()));
     same(rt, found, Ok(Some(want)), "a length");
     use_up(feed);
 }
 
-// A block is filled whole where the reader gives as much.
+// A block is filled completely if the reader returns as much.
 #[test]
 fn full_blocks(rt: HostRuntime) {
     let mut whole = RepeatedSource::new(b'a', 5000);

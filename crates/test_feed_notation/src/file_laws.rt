@@ -1,4 +1,4 @@
-//! The laws over test files can be called.
+//! The laws about test files can be called.
 
 #[test]
 fn laws_of_test_files() {

@@ -1,4 +1,4 @@
-//! The greatest sizes, after which nothing comes any more, and scalars and line ends over the edges of blocks.
+//! The greatest sizes, and no results after them; scalars and line ends across the edges of blocks.
 
 use crate::calls::{has_next, next_passage, sample_cells};
 use crate::runs::{Run, check_run, whole};
@@ -26,7 +26,7 @@ fn take_passages<R: Source>(
     Ok(true)
 }
 
-/// Takes all passages up to a fault, which is the one wanted, and calls three times more.
+/// Takes all passages up to the expected fault, and calls three times more.
 fn check_spent<R: Source>(
     setting: Setting<'_>,
     reader: &mut R,
@@ -43,7 +43,7 @@ fn check_spent<R: Source>(
     same(&reader.reads(), &reads, &want)
 }
 
-/// A reader without an end: lines of 65,535 letters.
+/// An endless reader: lines of 65,535 letters.
 #[derive(Drop)]
 struct Lines {
     column: u16,
@@ -74,7 +74,7 @@ fn next_sizes<R: Source>(
     }
 }
 
-/// The one passage of as many bytes as a paragraph may have, which is one segment and one piece.
+/// The only passage, with as many bytes as a paragraph may have: one segment and one piece.
 fn check_greatest(setting: Setting<'_>) -> Result<(), Fail> {
     let mut source = RepeatedSource::new(b'a', u64::from(setting.limit));
     let mut segmenter = setting.segmenter()?;
@@ -85,7 +85,7 @@ fn check_greatest(setting: Setting<'_>) -> Result<(), Fail> {
     Ok(())
 }
 
-/// At the greatest limit and one byte past it; and more than a thousand million bytes, which takes some seconds.
+/// At the greatest limit and one byte over it; and more than 1,000,000,000 bytes, which takes some seconds.
 #[test]
 fn greatest_sizes(rt: HostRuntime) -> Result<(), Fail> {
     let cells = sample_cells(rt.alloc())?;
@@ -99,14 +99,14 @@ fn greatest_sizes(rt: HostRuntime) -> Result<(), Fail> {
     check_spent(setting, &mut longer, fault)
 }
 
-/// As many letters, and these bytes after them.
+/// So many letters, and these bytes after them.
 fn text_behind(alloc: Global, n: usize, bytes: &[u8]) -> Result<Vec<u8>, AllocError> {
     let mut text = vec![in alloc; b'a'; n]?;
     text.extend_from_slice(bytes)?;
     Ok(text)
 }
 
-/// The passages of a text in reads of all sizes, or the fault in their place.
+/// The passages of a text in reads of all sizes, or the fault instead.
 fn check_sizes(
     setting: Setting<'_>,
     text: &[u8],
@@ -142,7 +142,7 @@ fn check_scalar_behind(setting: Setting<'_>, n: usize) -> Result<(), Fail> {
 const TWO: &str =
     "P 0 4097 5 S 0 4097 Must 5 W 0 4095 p 4095 4097\nP 4097 1 3 S 0 1 Must 3 W 0 1\n";
 
-// A scalar of three bytes at each place round the end of a block, and a line end over it.
+// A scalar of three bytes at each offset around the end of a block, and a line end across it.
 #[test]
 fn block_edges(rt: HostRuntime) -> Result<(), Fail> {
     let cells = sample_cells(rt.alloc())?;

@@ -1,4 +1,4 @@
-//! The laws over passages can be called.
+//! The laws about passages can be called.
 
 #[test]
 fn laws_of_passages() {

@@ -1,5 +1,5 @@
-//! Tests of devices and of the feed, of passages, of lines and replays of the notation, and of what engines write and refuse over
-//! devices that cut, stop and fail.
+//! Tests of devices and of the feed, of passages, of lines and replays of the notation, and of what engines write and
+//! refuse with devices that cut, stop and fail.
 #![tactic(auto)]
 
 #[cfg(test)]

@@ -1,5 +1,5 @@
-//! Calls that tests make, each without its contract. A test proves only that it is safe and returns, so it needs no
-//! fact of them; a check that does not carry their facts from call to call takes a fraction of the time.
+//! Calls for tests, without their contracts. A test only proves that it is safe and returns, so it needs no facts about
+//! them; without these facts a check takes a fraction of the time.
 
 use lbk_notation::{
     Form, LineFault, Outcome, TestLine, mark_text, read_line, replay_line, write_line,

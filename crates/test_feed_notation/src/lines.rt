@@ -12,8 +12,7 @@ use std::test::Fail;
 use test_support::cells::cells_of;
 use test_support::checks::same;
 
-/// What `read_line` returns: a line, told by its writing in the same form, none, or the place where it
-/// goes wrong.
+/// What `read_line` returns: a line, as it is written in the same form, none, or the offset where it is wrong.
 enum Want {
     Line(&'static str),
     Nothing,
@@ -129,7 +128,7 @@ fn check_comment(alloc: Global, bytes: &[u8]) -> Result<(), Fail> {
     )
 }
 
-/// A comment of one byte more than a line may have.
+/// A comment with one byte more than a line may have.
 fn check_longest(alloc: Global, longer: &[u8]) -> Result<(), Fail> {
     let too_long = line_of(alloc, longer, Form::Plain).err();
     same(&too_long, &Some(LineFault::LineTooLong), &"a line")?;
@@ -159,7 +158,7 @@ fn by_pieces(alloc: Global, form: Form) -> Result<Vec<u8>, AllocError> {
     Ok(text)
 }
 
-/// Writes a line after what was written before.
+/// Writes a line after earlier text.
 fn behind(alloc: Global, line: &TestLine, form: Form) -> Result<Vec<u8>, AllocError> {
     let mut text = Vec::new(alloc);
     text.push(b'>')?;
@@ -167,7 +166,7 @@ fn behind(alloc: Global, line: &TestLine, form: Form) -> Result<Vec<u8>, AllocEr
     Ok(text)
 }
 
-/// Checks what is written of a line.
+/// Checks how a line is written.
 fn check_written(alloc: Global, line: &TestLine, form: Form, text: &str) -> Result<(), Fail> {
     same_text(&written_line(alloc, line, form)?, text)?;
     same_text(&by_pieces(alloc, form)?, text)?;
@@ -200,7 +199,7 @@ fn writing(rt: HostRuntime) -> Result<(), Fail> {
     same(&none.is_none(), &true, &"a line of nothing")
 }
 
-/// Texts, and what is marked in the first profile and in the second.
+/// Texts, and their marks in the first profile and in the second.
 static MARKED: [(&str, &str, &str); 5] = [
     ("", "×", "×"),
     (
@@ -225,7 +224,7 @@ static MARKED: [(&str, &str, &str); 5] = [
     ),
 ];
 
-/// Checks what is marked in a text.
+/// Checks the marks of a text.
 fn check_marked(
     alloc: Global,
     (cells, profile, form): (&CellPages, Profile, Form),
@@ -260,7 +259,7 @@ const BLANK: Verdict = Verdict {
     rule: Rule::Lb2,
 };
 
-/// What the rules say of each position.
+/// The rules' verdict at each position.
 fn verdicts_of(alloc: Global, cells: &[Cell]) -> Result<Vec<Verdict>, AllocError> {
     let mut verdicts = vec![in alloc; BLANK; cells.len() + 1]?;
     decide_all_in(Profile::First, cells, &mut verdicts);

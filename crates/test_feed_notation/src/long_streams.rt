@@ -1,4 +1,4 @@
-//! Devices over readers and writers of std that move one byte a call, over more calls than a short test makes.
+//! Devices over readers and writers of std that move one byte per call, over more calls than a short test makes.
 
 use crate::feed_calls::{same, same_answer};
 use lbk_feed::{Device, Failed, Sink, Source};
@@ -10,8 +10,8 @@ use std::test::Fail;
 
 const CALLS: u64 = 2_000_000;
 
-/// A reader and writer of std whose call moves one byte, and whose calls of these numbers, from 0, are interrupted. A
-/// byte that is read tells the number of its call.
+/// A reader and writer of std that moves one byte per call; calls with these numbers, from 0, are interrupted. A byte
+/// that is read shows the number of its call.
 #[derive(Drop)]
 struct OneByOne<'a> {
     calls: u64,
@@ -58,7 +58,7 @@ fn byte_of(call: u64) -> u8 {
     (call % 251) as u8
 }
 
-/// What a call of this number comes to.
+/// The result of the call with this number.
 fn wanted(call: u64, interrupted: &[u64]) -> Result<usize, Failed> {
     if interrupted.contains(&call) {
         Err(Failed)
@@ -84,7 +84,7 @@ fn check_read(rt: &impl Abort, device: &mut Device<OneByOne<'_>>, call: u64, int
     }
 }
 
-// Each call of the device is one call of the reader: none is left out, and none is made again.
+// Each call of the device is one call of the reader: none is omitted or repeated.
 fn check_reads(rt: &impl Abort, calls: u64, interrupted: &[u64]) {
     let mut device = device(interrupted);
     for call in 0..calls {

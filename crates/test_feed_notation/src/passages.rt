@@ -1,4 +1,4 @@
-//! The passages that a segmenter gives by cells with and without a table of steps.
+//! The passages of a segmenter, with cells with and without a table of steps.
 
 use crate::calls::{cut_source, next_passage, sample_cells};
 use crate::told::push_told;
@@ -15,7 +15,7 @@ use test_support::checks::same;
 use test_support::property_files::SAMPLES;
 use test_support::texts::{FIRST, SECOND};
 
-/// Writes all that is known of the next passage, or that there is none.
+/// Writes all that is known about the next passage, or that there is none.
 fn push_next<C: CellSource>(
     seen: &mut String,
     segmenter: &mut Segmenter<'_, C>,
@@ -82,7 +82,7 @@ fn check_tables(alloc: Global, tables: &Tables) -> Result<(), Fail> {
     check_all_rows(alloc, tables, &pages)
 }
 
-/// Tables ask for each property of a scalar, and pages keep kinds: both give the same passages.
+/// Tables look up each property of a scalar, and pages keep kinds: both give the same passages.
 #[test]
 fn passages_by_tables_and_by_pages(rt: HostRuntime) -> Result<(), Fail> {
     let alloc = rt.alloc();

@@ -1,4 +1,4 @@
-//! The greatest test files that a replay takes, and a line that differs.
+//! The greatest test files that a replay accepts, and a line that differs.
 
 use crate::calls::sample_cells;
 use crate::line_calls::{line_of, outcome_of};
@@ -33,7 +33,7 @@ fn line_that_differs(rt: HostRuntime) -> Result<(), Fail> {
     Ok(())
 }
 
-/// What `replay` returns to a source, and the sink that it wrote to.
+/// What `replay` returns for a source, and the sink that it wrote to.
 fn replayed<R: Source>(
     alloc: Global,
     cells: &CellPages,
@@ -46,7 +46,7 @@ fn replayed<R: Source>(
     Ok((report, sink))
 }
 
-/// Replays one byte again and again, and compares whether it is refused, and what is written.
+/// Replays one repeated byte, and compares whether it is refused, and the output.
 fn check_repeated(
     alloc: Global,
     cells: &CellPages,
@@ -59,7 +59,7 @@ fn check_repeated(
     same(&sink.bytes(), &written.as_bytes(), &count)
 }
 
-/// A byte, how often it comes, why the file is refused, if it is, and what is written.
+/// A byte, how often it is repeated, why the file is refused, if it is, and the output.
 static REPEATED: [((u8, u64), (Option<ReplayFault>, &str)); 3] = [
     ((b'#', 268_435_456), (None, "T 0 0 0 0\n")),
     ((b'#', 268_435_457), (None, "R 1 long\nT 1 0 0 1\n")),

@@ -1,4 +1,4 @@
-//! Runs of a task over bytes in memory, and what has to come of them.
+//! Runs of a task over bytes in memory, and their expected results.
 
 use crate::calls::{memory_sink, source_of};
 use crate::tasks::{End, ROOM, Setting, Task};
@@ -8,8 +8,7 @@ use std::alloc::AllocError;
 use std::test::Fail;
 use test_support::checks::same;
 
-/// A task, the bytes that it reads, the sizes of the reads, the last of them for all that follow, and the read that
-/// fails.
+/// A task, the bytes that it reads, the sizes of the reads (the last one for all later reads), and the read that fails.
 #[derive(Clone, Copy, Debug)]
 pub struct Run<'a> {
     pub task: Task,
@@ -18,7 +17,7 @@ pub struct Run<'a> {
     pub failing: Option<u64>,
 }
 
-/// How a run ended, the sink that it wrote to, and what became of the source.
+/// How a run ended, the sink that it wrote to, and the source afterwards.
 #[derive(Drop)]
 pub struct Ran {
     pub end: End,
@@ -27,7 +26,7 @@ pub struct Ran {
     pub ended: bool,
 }
 
-/// A run that reads all at once.
+/// A run that reads everything at once.
 pub fn whole(task: Task, input: &[u8]) -> Run<'_> {
     Run {
         task,
@@ -38,7 +37,7 @@ pub fn whole(task: Task, input: &[u8]) -> Run<'_> {
 }
 
 impl Run<'_> {
-    /// Runs into a sink that takes all.
+    /// Runs into a sink that accepts everything.
     pub fn ran(self, setting: Setting<'_>) -> Result<Ran, AllocError> {
         let mut source = source_of(self.input, self.sizes, self.failing);
         let mut sink = memory_sink(setting.alloc, ROOM, usize::MAX)?;

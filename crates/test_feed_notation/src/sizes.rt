@@ -1,4 +1,4 @@
-//! Texts of many sizes, with ample memory: each comes to its value, and none runs out of memory.
+//! Texts of many sizes, with ample memory: each gives its result, and none runs out of memory.
 
 use crate::calls::{cut_source, next_passage, sample_cells};
 use lbk_notation::{Form, LineFault, TestLine, mark_text, read_back};
@@ -8,7 +8,7 @@ use std::alloc::{AllocError, Global};
 use std::process::Abort;
 use std::test::Fail;
 
-/// A size, and two between each power of two up to the 16th and the next, as a linear congruence draws them.
+/// A size, and two pseudorandom ones between each power of two up to the 16th and the next.
 fn sizes(alloc: Global) -> Result<Vec<u32>, AllocError> {
     let mut drawn = Vec::new(alloc);
     let mut chance: u32 = 14;
@@ -29,7 +29,7 @@ fn read_again(alloc: Global, line: &TestLine) -> Result<Option<TestLine>, LineFa
     read_back(alloc, line, Form::Kinds)
 }
 
-/// How many scalars and marks a text's line has, and whether it is read back as it was.
+/// How many scalars and marks a text's line has, and whether it is read back unchanged.
 fn line_counts(alloc: Global, cells: &CellPages, text: &str) -> Result<(usize, usize, bool), Fail> {
     let line = marked(alloc, cells, text)?;
     let again = read_again(alloc, &line)?;
@@ -59,7 +59,7 @@ fn passage_counts(
     }
 }
 
-/// The last word of so many bytes, with the space after it.
+/// The last word, with so many bytes, and the space after it.
 fn last_segment(length: u32) -> Segment {
     Segment {
         start: length.saturating_sub(2),
@@ -70,7 +70,7 @@ fn last_segment(length: u32) -> Segment {
 }
 
 fn check(rt: &impl Abort, alloc: Global, cells: &CellPages, size: u32) -> Result<(), Fail> {
-    // So many letters with a space after each.
+    // This many letters with a space after each.
     let text = "a ".repeat(alloc, size as usize)?;
     let counts = line_counts(alloc, cells, &text)?;
     let (pairs, scalars) = (text.len() / 2, text.len());

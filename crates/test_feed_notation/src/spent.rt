@@ -1,4 +1,4 @@
-//! Faults of a feed after which nothing comes any more.
+//! Faults of a feed, and no results after them.
 
 use crate::calls::{cut_source, source_of, take_piece};
 use lbk_feed::devices::RepeatedSource;
@@ -21,7 +21,7 @@ fn check_spent_piece<R: Source>(feed: &mut Feed, reader: &mut R) -> Result<(), F
     same(&again, &Err(FeedFault::Spent), &"a fault")
 }
 
-/// Takes all pieces up to a fault, which is the one wanted, and calls three times more.
+/// Takes all pieces up to the expected fault, and calls three times more.
 fn check_spent_feed<R: Source>(reader: &mut R, want: FeedFault) -> Result<(), Fail> {
     let mut feed = Feed::new();
     same(&take_pieces(&mut feed, reader), &Err(want), &"a feed")?;
@@ -32,7 +32,7 @@ fn check_spent_feed<R: Source>(reader: &mut R, want: FeedFault) -> Result<(), Fa
     same(&reader.reads(), &reads, &want)
 }
 
-// Each reader could go on.
+// Each reader could continue.
 #[test]
 fn spent_feeds(_rt: HostRuntime) -> Result<(), Fail> {
     let mut failing = source_of(b"abcdef", &[1], Some(2));

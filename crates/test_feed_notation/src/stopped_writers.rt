@@ -1,5 +1,5 @@
-//! A writer that stops: for each n below the length of the output exactly the first n bytes went out, and the result is
-//! a failed write.
+//! A writer that stops: for each n below the length of the output exactly the first n bytes were written, and the
+//! result is a failed write.
 
 use crate::calls::{cut_source, memory_sink, sample_cells};
 use crate::tasks::{End, Setting, Task};
@@ -10,7 +10,7 @@ use std::test::Fail;
 use test_support::checks::same;
 use test_support::replayed::{FOUR_LINES, FOUR_LINES_TEXT};
 
-/// What is run, its input, and what it writes.
+/// A task, its input, and its output.
 type Row = (Task, &'static str, &'static str);
 
 static RUNS: [Row; 4] = [
@@ -28,7 +28,7 @@ static RUNS: [Row; 4] = [
     (Task::Replay(Form::Plain), FOUR_LINES, FOUR_LINES_TEXT),
 ];
 
-/// Compares how a run into so much room ended, how many writes failed, and what went out.
+/// Compares how a run with so much room ended, how many writes failed, and the output.
 fn check(row: Row, room: usize, end: End, failures: u64, written: &[u8]) -> Result<(), Fail> {
     let (task, _, output) = row;
     let stopped = room < output.len();
@@ -38,7 +38,7 @@ fn check(row: Row, room: usize, end: End, failures: u64, written: &[u8]) -> Resu
     same(&Some(written), &output.as_bytes().get(..room), &run)
 }
 
-/// Into a sink of which a write takes at most this many bytes.
+/// Into a sink that accepts at most this many bytes per write.
 fn check_sink(setting: Setting<'_>, row: Row, room: usize, most: usize) -> Result<(), Fail> {
     let (task, input, _) = row;
     let mut source = cut_source(input.as_bytes(), &[]);
@@ -47,7 +47,7 @@ fn check_sink(setting: Setting<'_>, row: Row, room: usize, most: usize) -> Resul
     check(row, room, end, sink.failures(), sink.bytes())
 }
 
-/// Into a writer of std, which takes no byte once it is full; that is no failure of its own.
+/// Into a writer of std, which accepts no byte once it is full; for std this is not a failure.
 fn check_writer(setting: Setting<'_>, row: Row, room: usize) -> Result<(), Fail> {
     let (task, input, _) = row;
     let mut taken = vec![in setting.alloc; 0u8; room]?;
@@ -58,7 +58,7 @@ fn check_writer(setting: Setting<'_>, row: Row, room: usize) -> Result<(), Fail>
     check(row, room, end, failures, &taken)
 }
 
-/// A write takes one byte, a few, or all, until n bytes were taken.
+/// A write accepts one byte, a few, or all, until n bytes were accepted.
 fn check_row(setting: Setting<'_>, row: Row) -> Result<(), Fail> {
     for room in 0..=row.2.len() {
         check_sink(setting, row, room, 1)?;

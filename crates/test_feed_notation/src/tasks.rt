@@ -1,4 +1,4 @@
-//! What reads a text or a test file and writes, by a name that a table can hold.
+//! Tasks that read a text or a test file and write, by names for tables.
 
 use crate::calls::{has_next, mark_to, replay_to, segment_to, show_to, write_line_to};
 use crate::told::told_next;
@@ -15,10 +15,10 @@ pub const LIMIT: u32 = 65_536;
 /// The most bytes that a run writes.
 pub const ROOM: usize = 4096;
 
-/// What is run.
+/// The tasks.
 #[derive(Clone, Copy, Debug, PartialEq, Eq)]
 pub enum Task {
-    /// The segmenter by itself: each passage is written as the tests tell it, and nothing comes after the last and after a fault.
+    /// Only the segmenter: each passage is written in the tests' form, and nothing follows the last one or a fault.
     Passages,
     Mark,
     Show,
@@ -26,7 +26,7 @@ pub enum Task {
     Replay(Form),
 }
 
-/// What each task runs with.
+/// What each task needs.
 #[derive(Clone, Copy)]
 pub struct Setting<'a> {
     pub alloc: Global,
@@ -58,7 +58,7 @@ pub enum End {
 }
 
 impl End {
-    /// The end of a text that is refused.
+    /// The end of a refused text.
     pub fn refused(fault: PassageFault) -> End {
         End::Text(Err(CmdFault::Passage(fault)))
     }
@@ -67,7 +67,7 @@ impl End {
         matches!(self, End::Text(Err(_)) | End::File(Err(_)))
     }
 
-    /// The end of a test file of which so many lines are counted, agree, differ and are refused.
+    /// The end of a test file with so many lines counted, agreeing, differing and refused.
     pub fn counted(counts: [u32; 4]) -> End {
         let [lines, agreed, differed, refused] = counts;
         End::File(Ok(Report {
@@ -100,7 +100,7 @@ impl Task {
         self.end_of(Err(PassageFault::Read))
     }
 
-    /// The end of a text, or of a test file of which a read failed.
+    /// The end of a text, or of a test file with a failed read.
     pub fn end_of(self, passages: Result<(), PassageFault>) -> End {
         match (self, passages) {
             (Task::Replay(_), _) => End::File(Err(ReplayFault::Read)),
@@ -118,7 +118,7 @@ impl Task {
     }
 }
 
-/// Writes what is reported of each passage, a line each, and calls on after the last, which reads no more after a fault.
+/// Writes a line for each passage, and calls again after the last one; after a fault it reads no more.
 fn tell_all<R: Source, W: Sink>(
     setting: Setting<'_>,
     reader: &mut R,

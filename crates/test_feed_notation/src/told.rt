@@ -1,4 +1,4 @@
-//! Passages as the tests tell them.
+//! Passages in the tests' form.
 
 use crate::calls::next_passage;
 use lbk_cmd::CmdFault;
@@ -26,7 +26,7 @@ fn push_piece(line: &mut String, piece: &Piece) -> Result<(), AllocError> {
     Ok(())
 }
 
-/// Adds what is reported of a passage.
+/// Adds the text of a passage.
 pub fn push_told(line: &mut String, passage: &Passage<'_>) -> Result<(), AllocError> {
     push_start(line, passage)?;
     for segment in passage.segments {
@@ -44,7 +44,7 @@ fn told(alloc: Global, passage: &Passage<'_>) -> Result<String, AllocError> {
     Ok(line)
 }
 
-/// What is reported of the next passage, if there is one.
+/// The text of the next passage, if there is one.
 pub fn told_next<R: Source>(
     alloc: Global,
     segmenter: &mut Segmenter<'_, CellPages>,

@@ -1,7 +1,8 @@
-//! Texts, and the passages, segments and pieces that a segmenter gives: of each passage `P`, its start, its length and the rule at
-//! its end; `S`, start, end, kind and rule of a segment; `W`, start and end of a word; `p`, those of another piece.
+//! Texts, and the passages, segments and pieces of a segmenter: for each passage `P`, its start, its length and the
+//! rule at its end; `S`, start, end, kind and rule of a segment; `W`, start and end of a word; `p`, those of any other
+//! piece.
 
-/// What both profiles say.
+/// In both profiles.
 pub static BOTH: [(&str, &str); 11] = [
     ("", ""),
     (
@@ -37,7 +38,7 @@ pub static BOTH: [(&str, &str); 11] = [
 const TWO_QUOTATIONS: &str =
     "P 0 12 5 S 0 2 May 18 S 2 7 May 18 S 7 12 Must 5 W 0 1 p 1 2 p 2 5 W 5 6 p 6 7 p 7 10 W 10 11 p 11 12\nP 12 1 3 S 0 1 Must 3 W 0 1\n";
 
-/// What the first says.
+/// In the first profile.
 pub static FIRST: [(&str, &str); 3] = [
     (
         "a \u{2019}\u{301},",
@@ -53,7 +54,7 @@ pub static FIRST: [(&str, &str); 3] = [
     ),
 ];
 
-/// What the second says.
+/// In the second profile.
 pub static SECOND: [(&str, &str); 6] = [
     (
         "a \u{2019}\u{301},",

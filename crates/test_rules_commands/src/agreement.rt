@@ -1,4 +1,4 @@
-//! The machines say of every short list of cells what the evaluator says.
+//! The machines agree with the evaluator on every short list of cells.
 
 use crate::calls::{decided, decided_in, late_step, start_late, step, step_over, stepper};
 use lbk_rules::{Cell, CellPages, Class, Machine, Out, Profile, Quote, Verdict};
@@ -32,7 +32,7 @@ fn machine(rt: HostRuntime) -> Result<(), Fail> {
     Ok(())
 }
 
-/// The verdicts that have come, by their positions.
+/// The verdicts so far, by their positions.
 #[derive(Drop)]
 struct Answers([Option<Verdict>; 4]);
 
@@ -58,7 +58,7 @@ impl Answers {
     }
 }
 
-/// What the late machine returns, of each position once.
+/// The verdicts of the late machine, once for each position.
 fn late_answers(rt: &impl Abort, profile: Profile, cells: &[Cell; 3]) -> Answers {
     let mut machine = start_late(profile);
     let mut answers = Answers([None; 4]);
@@ -128,7 +128,7 @@ fn stepper_by_rows(rt: HostRuntime) -> Result<(), Fail> {
     Ok(())
 }
 
-/// Scalars of the sample files, with cells that have nothing that no rule asks of them.
+/// Scalars of the sample files, with normal cells.
 fn sample_scalars() -> [Scalar; 15] {
     [
         ('\0', plain(Class::Alphabetic)),
@@ -149,7 +149,7 @@ fn sample_scalars() -> [Scalar; 15] {
     ]
 }
 
-// What no rule asks of a cell, as whether a letter is one or an ideograph is wide, changes no result.
+// Properties that no rule uses, such as the width of an ideograph, change no result.
 #[test]
 fn stepper_asks_what_rules_ask(rt: HostRuntime) -> Result<(), Fail> {
     let pages = pages_with(rt.alloc(), SAMPLES, &[])?;

@@ -1,5 +1,5 @@
-//! The breaks of texts in memory over the sample files, in both profiles, from pages and from tables and in blocks
-//! of all sizes.
+//! The breaks of texts in memory with the sample files, in both profiles, with pages and with tables, in blocks of all
+//! sizes.
 
 use lbk_passage::{Break, Breaks};
 use lbk_rules::{CellSource, Kind, Profile, Rule, Verdict, decide_in};
@@ -13,10 +13,10 @@ use test_support::checks::same;
 use test_support::property_files::SAMPLES;
 use test_support::texts::{FIRST, SECOND};
 
-/// A text, and of each of its breaks the byte, the kind and the rule.
+/// A text, and the offset, the kind and the rule of each of its breaks.
 type Row = (&'static str, &'static str);
 
-/// What both profiles say.
+/// In both profiles.
 const BOTH: [Row; 8] = [
     ("", ""),
     ("ab cd", "3 May 18 5 Must 3 "),
@@ -31,13 +31,13 @@ const BOTH: [Row; 8] = [
     ),
 ];
 
-/// What the first says.
+/// In the first profile.
 const IN_FIRST: [Row; 2] = [
     ("a \u{2019}\u{301},", "2 May 18 8 Must 3 "),
     ("\u{4E00} \u{2019} \u{4E00}", "4 May 18 8 May 18 11 Must 3 "),
 ];
 
-/// What the second says of the same, in which a closing quotation mark stays closed.
+/// The same in the second profile, where a closing quotation mark stays closed.
 const IN_SECOND: [Row; 2] = [
     ("a \u{2019}\u{301},", "8 Must 3 "),
     ("\u{4E00} \u{2019} \u{4E00}", "8 May 18 11 Must 3 "),
@@ -52,7 +52,7 @@ const NO_BREAK: Break = Break {
 /// The sizes of blocks.
 const SIZES: [usize; 4] = [1, 2, 3, 1024];
 
-/// The breaks of the next block, of which there are none after the last.
+/// The breaks of the next block; after the last one there are none.
 fn next_block<'b, C: CellSource>(
     breaks: &mut Breaks<'_, C>,
     block: &'b mut [Break],
@@ -61,7 +61,7 @@ fn next_block<'b, C: CellSource>(
     block.get(..count).unwrap_or(&[])
 }
 
-/// All breaks, by blocks of this size. A call after the last gives none.
+/// All breaks, in blocks of this size. A call after the last one returns none.
 fn by_blocks<C: CellSource>(
     alloc: Global,
     source: &C,
@@ -140,7 +140,7 @@ fn same_breaks(rt: &impl Abort, found: &[Break], want: &[Break], size: usize, te
     assert!(rt; found == want, "by {size}: {text:?}");
 }
 
-/// The breaks of a text by the rules, with which those in blocks of all sizes are compared, and those one by one.
+/// Compares the breaks of a text by the rules with those in blocks of all sizes, and with those one by one.
 fn agreed<C: CellSource>(
     rt: &impl Abort,
     alloc: Global,

@@ -1,4 +1,4 @@
-//! What `break_text` returns and refuses: the lines of `show`, without the rules' numbers, are what was read back.
+//! What `break_text` returns and refuses: the lines of `show`, read back, without the rules' numbers.
 
 use lbk_cmd::{BreakFault, CellsFault, CmdFault, SAMPLE_FILES, break_text};
 use lbk_feed::Source;
@@ -27,7 +27,7 @@ fn broken(
     break_text(alloc, files, source, limit, profile)
 }
 
-/// The lines written again, each with a line end.
+/// The lines, written again, each with a line end.
 fn written(alloc: Global, lines: &[TestLine]) -> Result<Vec<u8>, AllocError> {
     let mut text = Vec::new(alloc);
     for line in lines {
@@ -37,7 +37,7 @@ fn written(alloc: Global, lines: &[TestLine]) -> Result<Vec<u8>, AllocError> {
     Ok(text)
 }
 
-/// Lines without the tab and the comment at the end of each.
+/// The lines without the tab and the comment at the end.
 fn without_rules(alloc: Global, lines: &str) -> Result<Vec<u8>, AllocError> {
     let mut text = Vec::new(alloc);
     let mut in_comment = false;
@@ -50,7 +50,7 @@ fn without_rules(alloc: Global, lines: &str) -> Result<Vec<u8>, AllocError> {
     Ok(text)
 }
 
-/// Checks a text in reads of `size` bytes: what is read back is what `show` writes.
+/// Checks a text in reads of `size` bytes: the lines read back are those of `show`.
 fn check(
     alloc: Global,
     text: &str,
@@ -88,7 +88,7 @@ fn texts(rt: HostRuntime) -> Result<(), Fail> {
     check_rows(alloc, &SECOND, Profile::Second, 1)
 }
 
-/// A text, the limit of a paragraph, the read of one byte that fails, if one does, and why the text is refused.
+/// A text, the limit of a paragraph, the failing read of one byte, if any, and why the text is refused.
 type Refused = (&'static [u8], u32, Option<u64>, PassageFault);
 
 static REFUSED: [Refused; 9] = [
@@ -108,7 +108,7 @@ static REFUSED: [Refused; 9] = [
     (b"a\r\nb", LIMIT, Some(4), PassageFault::Read),
 ];
 
-/// In reads of one byte where one fails, and else in one.
+/// In reads of one byte if one fails, else in one read.
 fn source_of(text: &'static [u8], failing: Option<u64>) -> MemorySource<'static> {
     match failing {
         Some(read) => MemorySource::cut(text, &[1]).failing_at(read),

@@ -1,4 +1,4 @@
-//! A text broken in one call, from the property files on: the characters of each passage, with the marks between them.
+//! Breaks a text in one call, from the property files on: the characters of each passage, with the marks between them.
 
 use lbk_cmd::{SAMPLE_FILES, break_text};
 use lbk_feed::devices::MemorySource;
@@ -7,7 +7,7 @@ use lbk_rules::Profile;
 use std::alloc::AllocError;
 use std::test::Fail;
 
-/// Puts the characters of a passage at the end of a text, each with the mark after it.
+/// Appends the characters of a passage to a text, each with the mark after it.
 fn push_marked(seen: &mut String, passage: &TestLine) -> Result<(), AllocError> {
     let behind = &passage.marks()[1..];
     for (c, mark) in passage.scalars().iter().zip(behind) {

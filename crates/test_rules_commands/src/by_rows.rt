@@ -1,4 +1,4 @@
-//! The breaks of texts say of every short list of cells what the evaluator says.
+//! The breaks of texts agree with the evaluator on every short list of cells.
 
 use lbk_passage::{Break, Breaks};
 use lbk_rules::{CellPages, Kind, Profile, Verdict, decide_in};
@@ -16,7 +16,7 @@ fn text_of_three(alloc: Global, text: &[Scalar; 3]) -> Result<String, AllocError
     Ok(three)
 }
 
-/// The next break is this.
+/// The next break has to be this one.
 fn check_next(
     rt: &impl Abort,
     breaks: &mut Breaks<'_, CellPages>,
@@ -27,7 +27,7 @@ fn check_next(
     assert!(rt; found == want, "{found:?} of {text:?}");
 }
 
-/// Finds the breaks of a text of three scalars of two bytes each, and compares them with what the rules say of its
+/// Finds the breaks of a text of three scalars of two bytes each, and compares them with the rules' verdicts for its
 /// cells.
 fn check_breaks(
     rt: &impl Abort,

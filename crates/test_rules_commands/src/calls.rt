@@ -1,5 +1,5 @@
-//! Calls that tests make, each without its contract. A test proves only that it is safe and returns, so it needs no
-//! fact of them; a check that does not carry their facts from call to call takes a fraction of the time.
+//! Calls for tests, without their contracts. A test only proves that it is safe and returns, so it needs no facts about
+//! them; without these facts a check takes a fraction of the time.
 
 use lbk_rules::{
     Cell, CellSource, LateMachine, Machine, Out, Profile, Stepper, Verdict, decide, decide_in,
@@ -25,7 +25,7 @@ pub fn start_late(profile: Profile) -> LateMachine {
     LateMachine::start(profile)
 }
 
-/// Steps on, after `taken` cells.
+/// Steps once more, after `taken` cells.
 pub fn late_step(rt: &impl Abort, machine: &mut LateMachine, taken: u64, cell: Cell) -> Out {
     assert!(rt; machine.steps() == taken && taken < u64::MAX);
     machine.step(cell)
@@ -39,17 +39,17 @@ pub fn step_over<C: CellSource>(stepper: &mut Stepper<'_, C>, c: char) -> Out {
     stepper.step(c)
 }
 
-/// Compares what was found of a text with what is wanted.
+/// Compares the result for a text with the expected one.
 pub fn same(rt: &impl Abort, found: &str, want: &str, by: &str, text: &str) {
     assert_eq!(rt; found, want, "{by}: {text:?}");
 }
 
-/// Compares what was found of this with what is wanted.
+/// Compares the result for this with the expected one.
 pub fn same_value<T: Copy + PartialEq + Debug>(rt: &impl Abort, found: T, want: T, what: &str) {
     assert_eq!(rt; found, want, "{what}");
 }
 
-/// Compares what was found at a position with what is wanted.
+/// Compares the result at a position with the expected one.
 pub fn same_at<T: Copy + PartialEq + Debug>(rt: &impl Abort, found: T, want: T, k: usize) {
     assert_eq!(rt; found, want, "at {k}");
 }

@@ -1,4 +1,4 @@
-//! What the files of a folder of the Unicode Character Database have to say of themselves.
+//! What the files in a folder of the Unicode Character Database have to claim.
 
 use lbk_cmd::{ClaimCause, Version};
 use lbk_files::{check_claim, name_in_database};
@@ -6,7 +6,7 @@ use lbk_ucd::Which;
 use std::test::Fail;
 use test_support::checks::same;
 
-/// Files of other versions, and the version.
+/// Files of other versions, and their version.
 static VERSIONS: [(Which, &str, [u32; 3]); 7] = [
     (
         Which::LineBreak,
@@ -45,7 +45,7 @@ static VERSIONS: [(Which, &str, [u32; 3]); 7] = [
     ),
 ];
 
-/// Files of no version, and such as name the version and are not those that Unicode published.
+/// Files of no version, and files that name the version but are not the published ones.
 static REFUSED: [(Which, &str, ClaimCause); 16] = [
     (Which::LineBreak, "", ClaimCause::Title),
     (Which::LineBreak, "# LineBreak-", ClaimCause::Title),

@@ -1,5 +1,5 @@
-//! How often a run over files in memory loads a property file, which a contract bounds by four, and what it makes of operands
-//! where no files of text are given.
+//! How often a run over files in memory loads a property file (a contract bounds it by four), and what it does with
+//! operands if there are no texts.
 
 use lbk_cmd::{Ending, MemoryStore, SAMPLE_FILES, Store, run};
 use lbk_feed::devices::{MemorySink, MemorySource};
@@ -9,8 +9,8 @@ use test_support::checks::same;
 
 const BAD_ROW: &[u8] = b"0061;AK\n";
 
-/// The subcommand, the first two files, the words behind them, what is written of `ab cd`, the status, whether texts were
-/// reported, and how many files were loaded.
+/// The subcommand, the first two files, the arguments after them, the output for `ab cd`, the status, whether texts
+/// were reported, and how many files were loaded.
 type Row = (
     &'static str,
     [&'static str; 2],
@@ -21,8 +21,8 @@ type Row = (
     u64,
 );
 
-// No file is loaded for refused words, and none after the first that cannot be read. Without files of text each name but `-`
-// is one that cannot be opened.
+// No file is loaded for refused arguments, and none after the first that cannot be read. Without texts each name except
+// `-` cannot be opened.
 static ROWS: [Row; 8] = [
     ("show", ["L", "E"], &["--limit", "0"], "", 2, false, 0),
     ("show", ["L", "none"], &[], "", 1, false, 2),
@@ -42,7 +42,7 @@ static ROWS: [Row; 8] = [
     ),
 ];
 
-/// Words that need no file, and what is written.
+/// Arguments that need no file, and the output.
 static NO_FILES: [(&[&str], &str); 2] = [
     (
         &[],
@@ -51,8 +51,8 @@ static NO_FILES: [(&[&str], &str); 2] = [
     (&["show", "--help"], ""),
 ];
 
-/// How a run over the sample files and a bad file `B` ends, and how often it loaded a file. It promises nothing, so that the tests
-/// see nothing of what `run` promises.
+/// How a run over the sample files and a bad file `B` ends, and how often it loaded a file. It has no contract, so that
+/// the tests do not see the contract of `run`.
 fn ended(
     alloc: Global,
     words: &[&'static str],

@@ -1,4 +1,5 @@
-//! What the rules say of the positions of texts over the sample files: the evaluator in both profiles, and the machines.
+//! The verdicts at the positions of texts with the sample files: by the evaluator in both profiles, and by the
+//! machines.
 
 use crate::calls::{decided, decided_in, late_step, same, start_late, step_over, stepper};
 use lbk_rules::{
@@ -14,16 +15,16 @@ use test_support::cells::cells_of;
 use test_support::property_files::{SAMPLES, line_break_alone};
 use test_support::texts::{FIRST, SECOND, STEPS};
 
-/// A text, and what is said of it.
+/// A text, and its labels.
 type Row = (&'static str, &'static str);
 
-/// What both profiles say of the kinds and rules of a text, but for the position before its quotation mark.
+/// The kinds and rules of a text in both profiles, except at the position before its quotation mark.
 const KINDS: [Row; 2] = [
     ("a \u{2019}\u{301},", "×2 ×7 ÷18 ×9 ×13 !3"),
     ("a \u{2019}\u{301},", "×2 ×7 ×15b ×9 ×13 !3"),
 ];
 
-/// The labels of verdicts, each after the sign of its kind where a row begins with one.
+/// The labels of verdicts, each after the sign of its kind if the row begins with one.
 fn told(alloc: Global, verdicts: &[Verdict], signs: bool) -> Result<String, AllocError> {
     let mut told = String::new(alloc);
     for verdict in verdicts {
@@ -107,8 +108,8 @@ fn by_late_machine(
     Ok(verdicts)
 }
 
-/// Compares the verdicts of the positions of some cells with those of their row. The plain evaluator and its machine know only
-/// the first profile.
+/// Compares the verdicts at the positions of some cells with those of their row. The plain evaluator and its machine
+/// know only the first profile.
 fn check_cells(
     rt: &impl Abort,
     alloc: Global,

@@ -1,18 +1,18 @@
-//! The cell that properties come to, what cells say of units, and rules by their numbers.
+//! The cells of properties, the units of cells, and rules by their numbers.
 
 use crate::calls::same_value;
 use lbk_rules::{Class, Rule, resolve};
 use lbk_ucd::{Category, EastAsian, LineBreak};
 use test_support::cells::plain;
 
-/// A class, and whether a cell of it closes the quotation, where that is known.
+/// A class, and whether a cell of it closes the quotation, if that is known.
 const UNITS: [(Class, Option<bool>); 3] = [
     (Class::InfixNumeric, Some(true)),
     (Class::Alphabetic, Some(false)),
     (Class::CombiningMark, None),
 ];
 
-/// A rule's number, and one that is none's.
+/// A rule's number, and a number of no rule.
 const NUMBERS: [(u8, Option<Rule>); 3] = [
     (65, Some(Rule::Lb8a)),
     (248, Some(Rule::Lb31)),

@@ -1,4 +1,4 @@
-//! The laws over the program's words and over what it writes can be called.
+//! The laws about the program's arguments and output can be called.
 
 #[test]
 fn laws_of_the_program() {

@@ -1,4 +1,4 @@
-//! How the faults of a run are reported to a caller of the library, who knows no words of the program.
+//! How the faults of a run are reported to a caller of the library, which has no arguments of the program.
 
 use lbk_cmd::{BreakFault, CellsFault, ClaimCause, CmdFault, Message, RunFault, Version};
 use lbk_notation::ReplayFault;
@@ -9,7 +9,7 @@ use std::fmt::Display;
 use std::process::Abort;
 use std::test::Fail;
 
-/// Compares a fault as it is reported with what is wanted.
+/// Compares the text of a fault with the expected one.
 fn check<T: Display>(rt: &impl Abort, alloc: Global, fault: &T, want: &str) -> Result<(), Fail> {
     let told = format!(in alloc; "{fault}")?;
     assert_eq!(rt; told.as_str(), want);

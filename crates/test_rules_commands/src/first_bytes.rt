@@ -1,4 +1,4 @@
-//! First bytes of scalars after which no line must end are reported: without them the passages are the same, and found slower.
+//! First bytes of scalars that never end a line: without them the passages are the same, but found more slowly.
 
 use crate::calls::same_at;
 use lbk_rules::CellSource;
@@ -6,7 +6,7 @@ use std::test::Fail;
 use test_support::calls::pages_by;
 use test_support::property_files::line_break_alone;
 
-/// The codes after which a line must end.
+/// The code points after which a line must end.
 const LINE_ENDS: &[u8] = b"000A;LF\n000B..000C;BK\n000D;CR\n0085;NL\n2028..2029;BK\n";
 
 /// The first bytes of their scalars.

@@ -1,4 +1,4 @@
-//! How another crate calls the library: a snippet of each passage, and what `show` writes of a text.
+//! How another crate calls the library: a snippet of each passage, and the output of `show` for a text.
 
 ghost use Rattle.std.specs.Prelude.{◌≡◌, ◌≤◌, ◌⊎◌, Contains, IfOk};
 ghost use Rattle.std.specs.List.{All};
@@ -16,7 +16,7 @@ use lbk_rules::{CellPages, Profile};
 use std::alloc::Global;
 use std::test::Fail;
 
-/// The end of the longest snippet from a passage's start of at most `most` bytes, 0 where not even one segment fits.
+/// The end of the longest snippet of at most `most` bytes from a passage's start; 0 if not even one segment fits.
 fn snippet_end(segments: &[Segment], most: u32) -> u32
     ensures fits { result ≤ most }
     ensures breaks { (result ≡ 0) ⊎ ((s : Segment) × Contains segments.now s × (s.end ≡ result)) }
@@ -31,7 +31,7 @@ fn snippet_end(segments: &[Segment], most: u32) -> u32
     end
 }
 
-/// What `show` writes of a text, in at most `room` bytes.
+/// What `show` writes for a text, in at most `room` bytes.
 fn shown(alloc: Global, cells: &CellPages, text: &str, room: usize) -> Result<MemorySink, CmdFault>
     ensures { IfOk result (λ out. sink_bytes out
         ≡ show_text (passages Profile.First (page_cell cells.now) (chars text.now))) }
@@ -44,10 +44,10 @@ fn shown(alloc: Global, cells: &CellPages, text: &str, room: usize) -> Result<Me
 
 #[test]
 fn guide(rt: HostRuntime) -> Result<(), Fail> {
-    // A program reads its own four files, and gives their bytes in place of the samples.
+    // A program reads its own four files, and passes their bytes instead of the samples.
     let cells = read_cells(rt.alloc(), SAMPLE_FILES)?;
 
-    // `Device` makes a reader of a file or of standard input, as `MemorySource` does of bytes.
+    // `Device` makes a reader from a file or from standard input, as `MemorySource` does from bytes.
     let mut reader = MemorySource::new(b"ab cd ef\ngh");
     let mut segmenter = Segmenter::new(rt.alloc(), &cells, 65_536, Profile::First)?;
     let mut snippets = Vec::new(rt.alloc());

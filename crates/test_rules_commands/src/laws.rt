@@ -1,4 +1,4 @@
-//! The laws over rules and the annex can be called.
+//! The laws about rules and the annex can be called.
 
 use lbk_rules::annex;
 

@@ -15,7 +15,7 @@ fn push_label(labels: &mut String, rule: Rule) -> Result<(), AllocError> {
     labels.push(' ')
 }
 
-/// Steps by rows, and looks ahead where rule 15b may not stand.
+/// Steps by rows, and looks ahead where rule 15b may not apply.
 fn row_step(machine: &mut RowMachine<'_, CellPages>, c: char, rest: &Chars<'_>) -> Rule {
     let before = *machine;
     let rule = machine.step(c).rule;

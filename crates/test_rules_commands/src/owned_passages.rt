@@ -1,4 +1,4 @@
-//! The passages of a text in one call, from the property files on, each with its breaks and its words.
+//! Returns the passages of a text in one call, from the property files on, each with its breaks and its words.
 
 use lbk_cmd::{OwnedPassage, SAMPLE_FILES, read_passages};
 use lbk_feed::devices::MemorySource;
@@ -6,7 +6,7 @@ use lbk_rules::{Kind, Profile};
 use std::fmt::Write;
 use std::test::Fail;
 
-/// Puts a passage at the end of a text: where it begins, its breaks with their rules, and its words.
+/// Appends a passage to a text: its start, its breaks with their rules, and its words.
 fn push_passage(seen: &mut String, passage: &OwnedPassage) -> Result<(), Fail> {
     write!(seen, "{}:", passage.start())?;
     for found in passage.breaks() {

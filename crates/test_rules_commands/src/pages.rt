@@ -1,5 +1,5 @@
-//! Pages give each scalar the cell of the tables that they are built of: at the edges of pages, and where pages are
-//! equal and where they differ.
+//! Pages have the cells of the tables that they are built from: at the edges of pages, and for equal and different
+//! pages.
 
 use lbk_rules::{Cell, CellPages, Class};
 use lbk_ucd::Tables;
@@ -22,7 +22,7 @@ fn check_all(rt: &impl Abort, pages: &CellPages, tables: &Tables) {
     }
 }
 
-/// Compares the cells of the scalars named, and of all scalars.
+/// Compares the cells of these scalars, and of all scalars.
 fn check(
     rt: &impl Abort,
     alloc: Global,
@@ -38,7 +38,7 @@ fn check(
     Ok(())
 }
 
-/// A code, and others with which it shares a page, or its place in a page.
+/// A code point, and others with the same page, or the same index in a page.
 const EDGES: [(char, [char; 3]); 4] = [
     ('\0', ['\u{1}', '\u{FF}', '\u{10FF00}']),
     ('\u{FF}', ['\u{FE}', '\u{100}', '\u{1FF}']),
@@ -46,7 +46,7 @@ const EDGES: [(char, [char; 3]); 4] = [
     ('\u{10FFFF}', ['\u{10FFFE}', '\u{10FEFF}', '\u{FF}']),
 ];
 
-/// A file by which one code is ideographic, and all others are contingent breaks.
+/// A file with one ideographic code point; all others are contingent breaks.
 fn one_ideograph(alloc: Global, code: char) -> Result<String, AllocError> {
     let mut file = String::new(alloc);
     file.push_str("# @missing: 0000..10FFFF; CB\n")?;
@@ -65,7 +65,7 @@ fn check_edge(rt: &impl Abort, alloc: Global, code: char, others: [char; 3]) -> 
     check(rt, alloc, file.as_bytes(), &rows)
 }
 
-// One code is ideographic, and all others are contingent breaks.
+// One code point is ideographic; all others are contingent breaks.
 #[test]
 fn page_edges(rt: HostRuntime) -> Result<(), Fail> {
     for (code, others) in &EDGES {
@@ -96,8 +96,8 @@ fn equal_pages(rt: HostRuntime) -> Result<(), Fail> {
     )
 }
 
-/// A file by which two codes of each page open: that at the page's place among 256, and that at the place of its 256
-/// pages among all. So most pages differ from all others.
+/// A file with two opening code points in each page: at the page's index among 256, and at the index of its 256 pages
+/// among all. So most pages differ from all others.
 pub fn striped(alloc: Global) -> Result<String, AllocError> {
     let mut file = String::new(alloc);
     for page in 0..4352u32 {

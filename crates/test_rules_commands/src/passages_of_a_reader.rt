@@ -1,4 +1,4 @@
-//! The passages of a text that a reader gives, a paragraph at a time.
+//! The passages of a reader's text, a paragraph at a time.
 
 use lbk_cmd::{SAMPLE_FILES, read_cells};
 use lbk_feed::devices::MemorySource;
@@ -7,7 +7,7 @@ use lbk_rules::Profile;
 use std::fmt::Write;
 use std::test::Fail;
 
-/// Writes where a passage begins, its words, and how many segments it has.
+/// Writes the start of a passage, its words, and its number of segments.
 fn push_passage(seen: &mut String, passage: &Passage<'_>) -> Result<(), Fail> {
     write!(seen, "{}:", passage.start)?;
     for piece in passage.pieces {

@@ -1,5 +1,5 @@
-//! Calls that tests make, each without its contract. A test proves only that it is safe and returns, so it needs no
-//! fact of them; a check that does not carry their facts from call to call takes a fraction of the time.
+//! Calls for tests, without their contracts. A test only proves that it is safe and returns, so it needs no facts about
+//! them; without these facts a check takes a fraction of the time.
 
 use lbk_ucd::{Category, EastAsian, LineBreak, Places, Run, Tables};
 use std::fmt::Debug;
@@ -32,7 +32,7 @@ pub fn run_of(rt: &impl Abort, tables: &Tables, code: u32, near: Places) -> Run 
     tables.run(code, near)
 }
 
-/// Compares what was found at a code with what is wanted.
+/// Compares the result for a code point with the expected one.
 pub fn same_at<T: Copy + PartialEq + Debug>(rt: &impl Abort, found: T, want: T, code: u32) {
     assert_eq!(rt; found, want, "at {code:x}");
 }

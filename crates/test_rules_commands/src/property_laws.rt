@@ -1,4 +1,4 @@
-//! The laws over property files can be called.
+//! The laws about property files can be called.
 
 use lbk_ucd::LineBreak;
 

@@ -1,5 +1,4 @@
-//! Messages with the system's reason, of which a contract says no more than that they come: what failed, and then the reason
-//! as std words it.
+//! Messages with the system's reason, which no contract contains: what failed, and then the reason in the words of std.
 
 use lbk_args::{Engine, FileName, FileNames};
 use lbk_cmd::{Caller, CmdFault, Message, Reason, RunFault};
@@ -56,7 +55,7 @@ const IN_FOLDER: Caller<'static> = Caller::Words {
 
 const READ: RunFault = RunFault::Cmd(CmdFault::Passage(PassageFault::Read));
 
-/// A fault, who is told of it, the operand that names the text, and what is said in front of the reason.
+/// A fault, its caller, the operand that names the text, and the message before the reason.
 type Row = (
     RunFault,
     Caller<'static>,
@@ -134,7 +133,7 @@ fn check(rt: &impl Abort, alloc: Global, row: &Row, kind: ErrorKind) -> Result<(
     Ok(())
 }
 
-/// A folder whose files cannot be read, and how to go on.
+/// A folder with unreadable files, and what to do.
 static FOLDERS: [(&str, &str); 3] = [
     (
         "U",

@@ -1,4 +1,4 @@
-//! The sample files, range by range: what the tables say of the first and the last code of each, and of the code on
+//! The sample files, range by range: the tables' values for the first and the last code point of each, and for those on
 //! either side.
 
 use crate::property_calls::{
@@ -11,7 +11,7 @@ use std::test::Fail;
 use test_support::calls::tables_of;
 use test_support::property_files::SAMPLES;
 
-/// First code, last code and line break of each range, and the defaults after them.
+/// First code point, last code point and line break of each range, and the defaults after them.
 const LINE_BREAKS: &[(u32, u32, LineBreak)] = &[
     (0xA, 0xA, LineBreak::LineFeed),
     (0xB, 0xC, LineBreak::MandatoryBreak),
@@ -64,7 +64,7 @@ const LINE_BREAKS: &[(u32, u32, LineBreak)] = &[
     (0x0, 0x10FFFF, LineBreak::Unknown),
 ];
 
-/// First code, last code and width of each range, and the default after them.
+/// First code point, last code point and width of each range, and the default after them.
 const WIDTHS: &[(u32, u32, EastAsian)] = &[
     (0x20, 0x7E, EastAsian::Narrow),
     (0x2014, 0x2014, EastAsian::Ambiguous),
@@ -79,7 +79,7 @@ const WIDTHS: &[(u32, u32, EastAsian)] = &[
     (0x0, 0x10FFFF, EastAsian::Neutral),
 ];
 
-/// First code, last code and category of each range, and the default after them.
+/// First code point, last code point and category of each range, and the default after them.
 const CATEGORIES: &[(u32, u32, Category)] = &[
     (0x41, 0x5A, Category::Lu),
     (0x61, 0x7A, Category::Ll),
@@ -129,7 +129,7 @@ const CATEGORIES: &[(u32, u32, Category)] = &[
     (0x0, 0x10FFFF, Category::Cn),
 ];
 
-/// First and last code of each range of the emoji file, and whether its codes are pictographs.
+/// First and last code point of each range of the emoji file, and whether its code points are pictographs.
 const PICTOGRAPHS: &[(u32, u32, bool)] = &[
     (0x1F466, 0x1F478, true),
     (0x1FAFF, 0x1FAFF, true),
@@ -138,7 +138,7 @@ const PICTOGRAPHS: &[(u32, u32, bool)] = &[
     (0x0, 0x10FFFF, false),
 ];
 
-/// The value of the first of the ranges that holds the code.
+/// The value of the first range with the code point.
 fn value_at<T: Copy>(ranges: &[(u32, u32, T)], code: u32) -> Option<T> {
     for (first, last, value) in ranges {
         if *first <= code && code <= *last {
@@ -148,7 +148,7 @@ fn value_at<T: Copy>(ranges: &[(u32, u32, T)], code: u32) -> Option<T> {
     None
 }
 
-/// Adds the first and the last code of each of these ranges, and the code on either side.
+/// Adds the first and the last code point of each of these ranges, and those on either side.
 fn push_codes<T: Copy>(codes: &mut Vec<u32>, ranges: &[(u32, u32, T)]) -> Result<(), AllocError> {
     for (first, last, _) in ranges {
         codes.extend_from_slice(&[
@@ -161,7 +161,7 @@ fn push_codes<T: Copy>(codes: &mut Vec<u32>, ranges: &[(u32, u32, T)]) -> Result
     Ok(())
 }
 
-/// The codes around all ranges.
+/// The code points around all ranges.
 fn codes(alloc: Global) -> Result<Vec<u32>, AllocError> {
     let mut codes = Vec::new(alloc);
     push_codes(&mut codes, LINE_BREAKS)?;

@@ -1,5 +1,5 @@
-//! Passages of many sizes in one call, with ample memory: each comes with all of its bytes, breaks and words, and no call
-//! runs out of memory.
+//! Passages of many sizes in one call, with ample memory: each has all of its bytes, breaks and words, and no call runs
+//! out of memory.
 
 use lbk_cmd::{BreakFault, OwnedPassage, SAMPLE_FILES, break_text, read_passages};
 use lbk_feed::devices::MemorySource;
@@ -10,7 +10,7 @@ use std::alloc::{AllocError, Global};
 use std::process::Abort;
 use std::test::Fail;
 
-/// How many passages of one letter come after the others.
+/// How many passages of one letter follow the others.
 const SHORT: usize = 70_000;
 
 /// `read_passages` without its contract.
@@ -25,7 +25,7 @@ fn broken(alloc: Global, text: &str, limit: u32) -> Result<Vec<TestLine>, BreakF
     break_text(alloc, SAMPLE_FILES, &mut source, limit, Profile::First)
 }
 
-/// Two sizes between each power of two up to so many and the next, as a linear congruence draws them.
+/// Two pseudorandom sizes between each power of two, up to so many, and the next.
 fn drawn(alloc: Global, powers: u32) -> Result<Vec<u32>, AllocError> {
     let mut sizes = Vec::new(alloc);
     let mut chance: u32 = 14;
@@ -39,7 +39,7 @@ fn drawn(alloc: Global, powers: u32) -> Result<Vec<u32>, AllocError> {
     Ok(sizes)
 }
 
-/// Each size up to the 1,030th, and those that are drawn.
+/// Each size up to 1,030, and the pseudorandom ones.
 fn sizes(alloc: Global) -> Result<Vec<u32>, AllocError> {
     let mut sizes = drawn(alloc, 17)?;
     for size in 1..1_031 {
@@ -61,7 +61,7 @@ fn text_of(alloc: Global, sizes: &[u32]) -> Result<String, AllocError> {
     Ok(text)
 }
 
-/// How many bytes, breaks and words the passage of this place has.
+/// How many bytes, breaks and words the passage with this index has.
 fn counts(place: usize, sizes: &[u32]) -> (usize, usize, usize) {
     match sizes.get(place / 2) {
         Some(size) if place % 2 == 0 => (*size as usize + 1, 1, 1),

@@ -1,5 +1,5 @@
-//! The public surface that does not change: each item by the crate that exports it, with its types written out. A crate that
-//! renames one, or changes a variant, a field, a parameter or a result, fails here, and so does one that no longer exports it.
+//! The stable public interface: each item of each crate, with its types written out. A crate that renames or no longer
+//! exports one, or changes a variant, a field, a parameter or a result, fails here.
 
 mod commands;
 mod feeds;

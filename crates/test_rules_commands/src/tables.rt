@@ -1,4 +1,4 @@
-//! What tables say of codes, and how files are refused.
+//! The values of code points in tables, and how files are refused.
 
 use crate::property_calls::{
     category_of, east_asian_of, is_pictographic, line_break_of, run_of, same_at,
@@ -11,7 +11,7 @@ use std::test::Fail;
 use test_support::calls::tables_of;
 use test_support::property_files::{NO_FILES, SAMPLES, line_break_alone};
 
-/// The fault of a LineBreak file beside empty files, as its line and cause.
+/// The fault of a LineBreak file, with the others empty, as its line and cause.
 fn line_break_fault(alloc: Global, bytes: &[u8]) -> Option<(u32, UcdCause)> {
     match tables_of(alloc, line_break_alone(bytes)) {
         Ok(_) => None,
@@ -23,10 +23,10 @@ fn check_file(rt: &impl Abort, alloc: Global, bytes: &[u8], fault: Option<(u32, 
     assert_eq!(rt; line_break_fault(alloc, bytes), fault, "at {bytes:?}");
 }
 
-/// A code, and what files say of it.
+/// A code point, and its values in files.
 type Row = (u32, LineBreak, EastAsian, Category, bool);
 
-/// What the samples say.
+/// The values in the samples.
 const SAMPLE_ROWS: [Row; 10] = [
     (
         0x23,
@@ -133,7 +133,7 @@ fn samples_answer(rt: HostRuntime) -> Result<(), Fail> {
     Ok(())
 }
 
-/// LineBreak files beside empty files, and the line and cause of their fault.
+/// LineBreak files, with the others empty, and the line and cause of their fault.
 const LINE_BREAK_FILES: [(&[u8], Option<(u32, UcdCause)>); 16] = [
     (b"0061;Alphabetic # x", None),
     (b"00041 ;AL", None),
@@ -191,12 +191,12 @@ fn lengths_of_files(rt: HostRuntime) -> Result<(), Fail> {
     Ok(())
 }
 
-/// Does not show the file where it fails.
+/// Does not show the file in a failure.
 fn check_long_file(rt: &impl Abort, alloc: Global, bytes: &[u8], fault: Option<(u32, UcdCause)>) {
     assert_eq!(rt; line_break_fault(alloc, bytes), fault);
 }
 
-/// A row for each code to FFFF.
+/// A row for each code point up to FFFF.
 fn many_rows(alloc: Global) -> Result<String, AllocError> {
     let mut text = String::new(alloc);
     for code in 0..=0xFFFFu32 {
@@ -296,7 +296,7 @@ fn other_files(rt: HostRuntime) {
     }
 }
 
-/// A default from each of 2,000 codes to the last, and a row for the last of them.
+/// A default from each of 2,000 code points to the last one, and a row for the last of them.
 fn many_defaults(alloc: Global) -> Result<String, AllocError> {
     let mut text = String::new(alloc);
     for code in 0..2_000u32 {
@@ -307,7 +307,7 @@ fn many_defaults(alloc: Global) -> Result<String, AllocError> {
     Ok(text)
 }
 
-/// Codes, their line breaks, and the last code that has all properties of each.
+/// Code points, their line breaks, and the last code point with all properties of each.
 const RUNS: [(u32, LineBreak, u32); 7] = [
     (0, LineBreak::Alphabetic, 0),
     (1, LineBreak::Ideographic, 1),
@@ -318,7 +318,7 @@ const RUNS: [(u32, LineBreak, u32); 7] = [
     (0x10_FFFF, LineBreak::Ideographic, 0x10_FFFF),
 ];
 
-/// Looks a code up, and its run near the one before it. Where the run was found.
+/// Looks up a code point, and its range near the previous one. Returns where the range was found.
 fn check_run(
     rt: &impl Abort,
     tables: &Tables,
@@ -362,7 +362,7 @@ fn rows_in_falling_order(rt: HostRuntime) -> Result<(), Fail> {
     Ok(())
 }
 
-/// Compares the run of a row's code, looked up near the one before it. Where it was found.
+/// Compares the range of a row's code point, looked up near the previous one. Returns where it was found.
 fn check_run_of_row(rt: &impl Abort, tables: &Tables, near: Places, row: &Row) -> Places {
     let (code, line_break, east_asian, category, is_pictographic) = *row;
     let run = run_of(rt, tables, code, near);

@@ -1,4 +1,4 @@
-//! Lines in the notation of the published break tests: written of a text, read, and compared with the rules.
+//! Lines in the notation of the published break tests: written for a text, read, and compared with the rules.
 
 use lbk_cmd::{SAMPLE_FILES, read_cells};
 use lbk_notation::{Form, Mark, Outcome, mark_text, read_line, replay_line, write_line};
@@ -14,7 +14,7 @@ fn test_lines(rt: HostRuntime) -> Result<(), Fail> {
     let bytes = write_line(rt.alloc(), &line, Form::Kinds)?;
     assert_eq!(&rt; bytes.as_slice(), "× 0062 × 0020 ÷ 0064 !".as_bytes());
 
-    // A line of a test file, which breaks within a word.
+    // A line of a test file, with a break inside a word.
     let read = read_line(
         rt.alloc(),
         "× 0061 ÷ 0062 ÷ # comment".as_bytes(),

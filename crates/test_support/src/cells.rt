@@ -1,4 +1,4 @@
-//! Cells: those that a source gives a text, and those of a class with and without flags.
+//! Cells: those of a text from a source, and those of a class with and without flags.
 
 use lbk_rules::{Cell, CellSource, Class, Quote};
 use std::alloc::{AllocError, Global};

@@ -1,4 +1,4 @@
-//! What the crates of tests share: texts, files and rows with results from outside, cells, and a check.
+//! What the test crates share: texts, files and rows with results from other sources, cells, and a check.
 #![tactic(auto)]
 
 pub mod calls;

@@ -1,6 +1,6 @@
-//! What `mark` writes of texts over the sample files.
+//! What `mark` writes for texts with the sample files.
 
-/// What both profiles write of a text.
+/// The output for a text in both profiles.
 pub static BOTH: [(&str, &str); 17] = [
     ("ab cd", "ab ÷cd\n"),
     ("ab cd\n", "ab ÷cd\n"),
@@ -21,13 +21,13 @@ pub static BOTH: [(&str, &str); 17] = [
     ("a \u{2019}\u{301}b", "a ÷\u{2019}\u{301}b\n"),
 ];
 
-/// What the first writes.
+/// In the first profile.
 pub static FIRST: [(&str, &str); 2] = [
     ("a \u{2019}\u{301},", "a ÷\u{2019}\u{301},\n"),
     ("\u{2018} a", "\u{2018} ÷a\n"),
 ];
 
-/// What the second writes.
+/// In the second profile.
 pub static SECOND: [(&str, &str); 2] = [
     ("a \u{2019}\u{301},", "a \u{2019}\u{301},\n"),
     ("\u{2018} a", "\u{2018} a\n"),

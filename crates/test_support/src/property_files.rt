@@ -1,4 +1,4 @@
-//! The sample files, and property files of which one or none says something.
+//! The sample files, and property files with content in one file or none.
 
 use lbk_ucd::{Files, SAMPLE_CATEGORY, SAMPLE_EAST_ASIAN, SAMPLE_EMOJI, SAMPLE_LINE_BREAK};
 
@@ -16,7 +16,7 @@ pub const NO_FILES: Files<'static> = Files {
     emoji: b"",
 };
 
-/// Property files of which only the first says something.
+/// Property files with content only in the first.
 pub fn line_break_alone(line_break: &[u8]) -> Files<'_> {
     Files {
         line_break,

@@ -1,4 +1,4 @@
-//! How reads cut what they read.
+//! Ways to cut reads.
 
 /// Sizes of reads.
 pub const SIZES: [usize; 5] = [1, 2, 3, 4096, usize::MAX];

@@ -1,13 +1,13 @@
-//! Test files, and what a replay over the sample files writes and counts.
+//! Test files, and what a replay with the sample files writes and counts.
 
-/// A file, what is written of it, and how many lines are counted, agree, differ and are refused.
+/// A file, the output for it, and how many lines are counted, agree, differ and are refused.
 pub type Row = (&'static str, &'static str, [u32; 4]);
 
 pub const FOUR_LINES: &str = "× 0061 × 0062 ÷\n× 0061 ÷ 0062 ÷\n× D800 ÷\n# done\n";
 
 pub const FOUR_LINES_TEXT: &str = "D 2 1 ÷ × 28\nR 3 7\nT 3 1 1 1\n";
 
-/// In form Plain, alike in both profiles.
+/// In form Plain, the same in both profiles.
 pub static PLAIN: [Row; 11] = [
     (FOUR_LINES, FOUR_LINES_TEXT, [3, 1, 1, 1]),
     ("", "T 0 0 0 0\n", [0, 0, 0, 0]),
@@ -34,7 +34,7 @@ pub static PLAIN: [Row; 11] = [
     ),
 ];
 
-/// A line of which the second profile makes something else.
+/// A line with another result in the second profile.
 pub const QUOTED: &str = "× 0061 × 0020 × 2019 ÷ 0301 × 002C ÷\n";
 
 /// In form Kinds.

@@ -1,6 +1,6 @@
-//! What `segment` writes of texts over the sample files.
+//! What `segment` writes for texts with the sample files.
 
-/// What both profiles say of a text.
+/// A text in both profiles.
 pub static BOTH: [(&str, &str); 8] = [
     ("", ""),
     ("ab cd", "P 0 5\nS 0 3 May 18\nS 3 5 Must 3\nW 0 2\nW 3 5\n"),
@@ -18,7 +18,7 @@ pub static BOTH: [(&str, &str); 8] = [
     ),
 ];
 
-/// What the first says, and what the second.
+/// In the first profile, and in the second.
 pub static FIRST: [(&str, &str); 1] = [(
     "a \u{2019}\u{301},",
     "P 0 8\nS 0 2 May 18\nS 2 8 Must 3\nW 0 1\n",

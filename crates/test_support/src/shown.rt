@@ -1,6 +1,6 @@
-//! What `show` writes of texts over the sample files.
+//! What `show` writes for texts with the sample files.
 
-/// What both profiles say of a text.
+/// A text in both profiles.
 pub static BOTH: [(&str, &str); 14] = [
     ("ab cd", TWO_WORDS),
     ("", ""),
@@ -30,7 +30,7 @@ pub static BOTH: [(&str, &str); 14] = [
     ),
 ];
 
-/// What the first says.
+/// In the first profile.
 pub static FIRST: [(&str, &str); 3] = [
     (
         "a \u{2019}\u{301},",
@@ -40,7 +40,7 @@ pub static FIRST: [(&str, &str); 3] = [
     ("\u{2018} a", "× 2018 × 0020 ÷ 0061 !\t# 2 7 18 3\n"),
 ];
 
-/// What the second says.
+/// In the second profile.
 pub static SECOND: [(&str, &str); 4] = [
     (
         "a \u{2019}\u{301},",

@@ -1,6 +1,6 @@
-//! Texts over the sample files, with the labels of the rules that decide their positions.
+//! Texts with the sample files, with the labels of the rules that decide their positions.
 
-/// What the first profile says.
+/// In the first profile.
 pub static FIRST: [(&str, &str); 65] = [
     ("", "2"),
     // ends of lines
@@ -9,7 +9,7 @@ pub static FIRST: [(&str, &str); 65] = [
     ("\x0Ca", "2 4 3"),
     ("\u{85}a", "2 5 3"),
     ("a\r\nb", "2 6 5 5 3"),
-    // spaces, and what stands before them
+    // spaces, and what comes before them
     ("( \u{301}a", "2 7 14 28 3"),
     ("\u{FF08}\u{301}a", "2 9 14 3"),
     (" \u{301}(", "2 18 30 3"),
@@ -65,7 +65,7 @@ pub static FIRST: [(&str, &str); 65] = [
     ("\u{AC00}\u{11A8}", "2 26 3"),
     ("\u{AC01}\u{1161}", "2 31 3"),
     ("\u{1100}%", "2 27 3"),
-    // letters, and classes that the properties resolve to them
+    // letters, and classes that resolve to them
     ("\u{E01}\u{E31}\u{E01}", "2 9 28 3"),
     ("\u{378}a", "2 28 3"),
     ("\u{A7}a", "2 28 3"),
@@ -83,7 +83,7 @@ pub static FIRST: [(&str, &str); 65] = [
     ("\u{4E00}\u{4E00}", "2 31 3"),
 ];
 
-/// What the second profile says.
+/// In the second profile.
 pub static SECOND: [(&str, &str); 8] = [
     ("a \u{2019}\u{301},", "2 7 15b 9 13 3"),
     ("a \u{2019}\u{301}b", "2 7 18 9 19 3"),
@@ -95,8 +95,8 @@ pub static SECOND: [(&str, &str); 8] = [
     ("a\u{2019}\u{2019}a", "2 15b 19 19 3"),
 ];
 
-/// What each step of the machine of the second profile returns: the label of the position before the cell, or `-`
-/// where it is held, and `position:label` where an earlier verdict comes; last what `finish` returns.
+/// What each step of the machine of the second profile returns: the label of the position before the cell, or `-` if it
+/// is held, and `position:label` for an earlier verdict; last what `finish` returns.
 pub static STEPS: [(&str, &str); 5] = [
     ("a \u{2019}\u{301},", "2 7 - 9 13,2:15b 3"),
     ("a \u{2019}\u{301}b", "2 7 - 9 19,2:18 3"),

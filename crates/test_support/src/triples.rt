@@ -1,4 +1,4 @@
-//! Texts of three scalars of which each has another class or flag, and property files by which they have these.
+//! Texts of three scalars with all combinations of classes and flags, and property files that give them these.
 
 use crate::calls::{cell_of, pages_by};
 use crate::cells::{mark, pictograph, plain, wide};
@@ -53,7 +53,7 @@ const CLASSES: [(char, Class); 38] = [
     ('\u{125}', Class::ZWJ),
 ];
 
-/// One cell for each flag that a rule asks of.
+/// One cell for each flag that a rule uses.
 fn flagged() -> [Scalar; 5] {
     [
         ('\u{126}', wide(Class::OpenPunctuation)),
@@ -98,7 +98,7 @@ pub fn cells_of_three(text: &[Scalar; 3]) -> [Cell; 3] {
     [text[0].1, text[1].1, text[2].1]
 }
 
-/// Property files by which the codes from 0100 to 012A have all these cells and marks, in their order.
+/// Property files that give the code points from 0100 to 012A all these cells and marks, in order.
 const EACH_ONCE: Files<'static> = Files {
     line_break: b"\
 0100;AL
@@ -150,7 +150,7 @@ const EACH_ONCE: Files<'static> = Files {
     emoji: b"0128;Extended_Pictographic\n",
 };
 
-/// The pages of these files, which have the cells of these scalars.
+/// The pages of these files, with the cells of these scalars.
 pub fn pages_with(alloc: Global, files: Files<'_>, scalars: &[Scalar]) -> Result<CellPages, Fail> {
     let pages = pages_by(alloc, files)?;
     check_cells(&pages, scalars)?;
@@ -164,7 +164,7 @@ fn check_cells(pages: &CellPages, scalars: &[Scalar]) -> Result<(), Fail> {
     Ok(())
 }
 
-/// The pages by which each cell comes once.
+/// The pages with each cell once.
 pub fn pages_of_each_once(alloc: Global) -> Result<CellPages, Fail> {
     let scalars = each_once(alloc)?;
     pages_with(alloc, EACH_ONCE, &scalars)

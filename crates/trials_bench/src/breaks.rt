@@ -1,4 +1,4 @@
-//! `Breaks`, in blocks and one by one, and `Stepper`, over pages and over tables: calls that take no memory.
+//! `Breaks`, in blocks and one by one, and `Stepper`, over pages and over tables: calls that allocate nothing.
 
 use crate::counting::{begin, end};
 use crate::digest::Digest;
@@ -41,7 +41,7 @@ const NO_BREAK: Break = Break {
     rule: Rule::Lb31,
 };
 
-/// Adds the breaks of a text in blocks of three, and again one by one; how many there are.
+/// Adds the breaks of a text in blocks of three, and again one by one. Returns how many there are.
 fn add_breaks<C: CellSource>(
     digest: &mut Digest,
     cells: &C,
@@ -63,7 +63,7 @@ fn add_one_by_one<C: CellSource>(digest: &mut Digest, breaks: Breaks<'_, C>) {
     }
 }
 
-/// Adds the breaks of the next block; how many there are.
+/// Adds the breaks of the next block. Returns how many there are.
 fn add_block<C: CellSource>(digest: &mut Digest, breaks: &mut Breaks<'_, C>) -> usize {
     let mut block = [NO_BREAK; 3];
     let count = breaks.fill(&mut block);

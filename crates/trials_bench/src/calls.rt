@@ -1,6 +1,6 @@
-//! The calls that are tried, each on what was made for it, with its allocations counted and without its contract. A trial
-//! proves only that it is safe and ends, so it needs no fact of them; a check that does not carry their facts on takes
-//! a fraction of the time.
+//! The calls that are tried, each on its prepared input, with its allocations counted and without its contract. A trial
+//! only proves that it is safe and returns, so it needs no facts about them; without these facts a check takes a
+//! fraction of the time.
 
 use crate::commands::Words;
 use crate::counting::{begin, end};
@@ -124,7 +124,7 @@ pub fn push_line(
     answer
 }
 
-/// The result, where there is a verdict at each position.
+/// The result, if there is a verdict at each position.
 pub fn push_passage_line(
     alloc: Global,
     out: &mut Vec<u8>,
@@ -276,7 +276,7 @@ pub fn run(
     ending
 }
 
-// A call and no more, so that what it promises is not carried over the end of the count.
+// Only a call, so that its contract is not carried past the end of the count.
 
 pub fn bare_segmenter(
     alloc: Global,

@@ -1,4 +1,4 @@
-//! Words of the command line: `parse`, `prepare`, and `run` over files in memory.
+//! Arguments: `parse`, `prepare`, and `run` over files in memory.
 
 use crate::inputs::{Text, sink_of};
 use crate::told::{answer_told, cells_told, fault_told, told};
@@ -11,7 +11,7 @@ use lbk_files::{MemoryStore, Ready};
 use lbk_ucd::{SAMPLE_CATEGORY, SAMPLE_EAST_ASIAN, SAMPLE_EMOJI, SAMPLE_LINE_BREAK};
 use std::alloc::Global;
 
-/// The words after the program's name.
+/// The arguments after the program's name.
 pub type Words = &'static [&'static str];
 
 const BAD_ROW: &[u8] = b"0061;AK\n";

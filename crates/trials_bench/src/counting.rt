@@ -1,8 +1,7 @@
-//! Where allocations are counted.
+//! Marks where allocations are counted.
 //!
-//! A library that is loaded before the program, `checks/c/refuse.c`, refuses allocations. It sees these by requests for room
-//! of two sizes, which nothing else here asks for, where to begin to count and where to stop. Without the library
-//! they are plain requests.
+//! A preloaded library, `checks/c/refuse.c`, refuses allocations. Requests of two sizes, which nothing else here makes,
+//! tell it where to start counting and where to stop. Without the library they are plain requests.
 
 use std::alloc::Global;
 

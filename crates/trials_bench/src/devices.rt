@@ -1,4 +1,4 @@
-//! The feed, and devices over readers and writers of std: calls that take no memory.
+//! The feed, and devices over readers and writers of std: calls that allocate nothing.
 
 use crate::counting::{begin, end};
 use crate::digest::Digest;
@@ -53,7 +53,7 @@ fn add_pieces(
     Ok(())
 }
 
-/// Adds the next piece, if there is one, and uses it up.
+/// Adds the next piece, if there is one, and consumes it.
 fn add_piece(
     digest: &mut Digest,
     feed: &mut Feed,
@@ -84,7 +84,7 @@ pub fn device(alloc: Global) -> Result<String> {
     Ok(told)
 }
 
-/// What a device over a reader returns, and what it counts.
+/// The results and the counts of a device over a reader.
 #[derive(Clone, Copy)]
 struct Reads {
     answers: [Result<usize, Failed>; 3],
@@ -135,7 +135,7 @@ fn write_whole(writer: &mut Device<Vec<u8>>, bytes: &[u8]) -> Result<(), Failed>
     write_all(writer, bytes)
 }
 
-/// What a device over a writer returns, and what it counts.
+/// The results and the counts of a device over a writer.
 #[derive(Clone, Copy)]
 struct Writes {
     first: Result<usize, Failed>,

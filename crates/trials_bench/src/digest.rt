@@ -1,4 +1,4 @@
-//! A number by which long results are compared (the FNV hash of 64 bits).
+//! A number to compare long results by (the 64-bit FNV hash).
 
 use lbk_rules::{Kind, Rule};
 use lbk_ucd::{Category, EastAsian, LineBreak};

@@ -1,10 +1,10 @@
-//! A writer that drops what it takes.
+//! A writer that drops its bytes.
 
 ghost use Rattle.std.specs.Prelude.{None};
 
 use lbk_feed::{Failed, Sink};
 
-/// A sink that takes all that a write offers and keeps nothing.
+/// A sink that accepts everything and keeps nothing.
 #[derive(Clone, Copy)]
 pub struct Dropped;
 

@@ -1,4 +1,4 @@
-//! `show`, `segment` and `replay`: what they return, and what went out; the sink that it goes to; and `break_text`.
+//! `show`, `segment` and `replay`: their results and outputs; the sink of the output; and `break_text`.
 
 use crate::calls;
 use crate::inputs::{Input, sink_of};

@@ -1,4 +1,4 @@
-//! Texts, test files, and what is made before allocations are counted.
+//! Texts, test files, and inputs that are made before allocations are counted.
 
 use anyhow::{Result, anyhow};
 use lbk_feed::devices::{MemorySink, MemorySource};
@@ -12,9 +12,9 @@ use std::alloc::{AllocError, Global};
 #[derive(Clone, Copy)]
 pub enum Text {
     Of(&'static str),
-    /// This often, one after the other.
+    /// Repeated this often.
     Repeated(&'static str, usize),
-    /// Bytes that need not be well-formed.
+    /// Bytes, perhaps ill-formed.
     Bytes(&'static [u8]),
 }
 
@@ -75,7 +75,7 @@ fn push_cells(list: &mut Vec<Cell>, cells: &CellPages, text: &str) -> Result<(),
     Ok(())
 }
 
-/// A source that gives these bytes, three in a read.
+/// A source of these bytes, three in a read.
 pub fn source_of(bytes: &[u8]) -> MemorySource<'_> {
     MemorySource::cut(bytes, &[3])
 }
@@ -87,7 +87,7 @@ pub fn sink_of(alloc: Global) -> Result<MemorySink, AllocError> {
     MemorySink::new(alloc, ROOM)
 }
 
-/// The tables of files of which none is refused.
+/// The tables of well-formed files.
 pub fn tables_of(alloc: Global, files: Files<'_>) -> Result<Tables> {
     match Tables::read(alloc, files) {
         Ok(tables) => Ok(tables),

@@ -23,11 +23,11 @@ pub enum Layer {
     Decoding,
     /// Their cells.
     LookUp,
-    /// The verdicts of the first profile, one after another.
+    /// The verdicts of the first profile, in order.
     Machine,
-    /// Those of a profile by the machine that may hold a position.
+    /// Those of a profile, by the machine that may hold a position.
     LateMachine(Profile),
-    /// The same by the table of steps, or what steps in its place.
+    /// The same, by the table of steps, or what replaces it.
     Stepper(Profile),
     /// The breaks in blocks.
     Breaks(Profile),
@@ -35,11 +35,11 @@ pub enum Layer {
     ByRules,
     /// The word boundaries of the text.
     Words,
-    /// The segments of each passage, the passages being known.
+    /// The segments of each known passage.
     Segments,
     /// The passages of the text from a device in memory.
     Next,
-    /// What the command's engines write of the text.
+    /// What the engines of the program write for the text.
     Show,
     Mark,
     Segment,
@@ -51,7 +51,7 @@ pub enum Layer {
     Pages,
 }
 
-/// The layers in the order in which they are run.
+/// The layers, in the order of their runs.
 pub const LAYERS: [Layer; 19] = [
     Layer::Decoding,
     Layer::LookUp,
@@ -111,7 +111,7 @@ impl Layer {
         }
     }
 
-    /// How many bytes a run goes over; none where it is part of the start-up.
+    /// How many bytes a run processes; none for a part of the start-up.
     pub fn bytes(self, material: &Material<'_>) -> Option<usize> {
         match self {
             Layer::Tables | Layer::Pages => None,
@@ -120,7 +120,7 @@ impl Layer {
         }
     }
 
-    /// One run. What it counts depends on all that it does.
+    /// One run. Its count depends on everything that it does.
     pub fn run(self, alloc: Global, material: &Material<'_>) -> Result<u64> {
         let text = material.text;
         let cells = material.cells;
@@ -174,7 +174,7 @@ fn by_machine(cells: &CellPages, text: &str) -> u64 {
     breaks.wrapping_add(breaks_at(machine.finish()))
 }
 
-/// How many breaks the results of a step or of the end are.
+/// How many breaks are in the results of a step or of the end.
 fn breaks_in(late: Option<(u64, Verdict)>, now: Option<Verdict>) -> u64 {
     let late = late.map_or(0, |(_, verdict)| breaks_at(verdict));
     late.wrapping_add(now.map_or(0, breaks_at))
@@ -237,7 +237,7 @@ fn segments(alloc: Global, material: &Material<'_>) -> Result<u64> {
     Ok(count)
 }
 
-/// One passage. The error is the segmenter's too: a large one would be written at each call.
+/// One passage. The error is the segmenter's, too: a larger one would be written in each call.
 fn cut(
     cells: &CellPages,
     text: &str,

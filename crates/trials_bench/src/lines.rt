@@ -45,15 +45,15 @@ pub fn mark(alloc: Global, input: &Input, profile: Profile) -> Result<String> {
     }
 }
 
-/// What `replay_line`, which takes no memory, says of the text's line, which agrees in form Kinds, and of the line that
-/// breaks nowhere, which differs in both forms.
+/// The results of `replay_line`, which allocates nothing, for the text's line, which agrees in form Kinds, and for the
+/// line without breaks, which differs in both forms.
 pub fn replay(alloc: Global, input: &Input, profile: Profile) -> Result<String> {
     let line = input.line(alloc, profile)?;
     let unbroken = unbroken(alloc, &line)?;
     outcomes_told(alloc, &input.cells, &line, &unbroken, profile)
 }
 
-/// The line of the same scalars that breaks nowhere.
+/// The line of the same scalars without breaks.
 fn unbroken(alloc: Global, line: &TestLine) -> Result<TestLine> {
     let marks = vec![in alloc; Mark::No; line.marks().len()]?;
     accepted(alloc, line.scalars(), &marks)
@@ -78,7 +78,7 @@ fn outcome(source: &CellPages, line: &TestLine, form: Form, profile: Profile) ->
     replay_line(source, line, form, profile)
 }
 
-/// What `TestLine::new` takes and refuses, and what it lends: none of it takes memory.
+/// What `TestLine::new` accepts and refuses, and what it lends: none of it allocates.
 pub fn test_line(alloc: Global) -> Result<String> {
     let line = accepted(
         alloc,

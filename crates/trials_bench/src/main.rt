@@ -1,9 +1,10 @@
-//! `trials_bench`: each call that can be out of memory or takes none, run on its own input; how fast each layer is.
+//! `trials_bench`: runs each call that can run out of memory or allocates nothing on its own input; measures each
+//! layer.
 //!
-//! `trials_bench ROW PROFILE` runs a row of the table and writes what the call returned. Without arguments it runs all rows, and
-//! heads each with its name. It is run by `scripts/check refused-allocations`, which refuses the allocations in turn and compares.
-//! `trials_bench layers NAME` measures the layers for `scripts/bench`, over what standard input has: four property files and a text
-//! of this name, each but the last with a zero byte after it.
+//! `trials_bench ROW PROFILE` runs a row of the table and writes the result of its call. Without arguments it runs all
+//! rows, each after its name. `scripts/check refused-allocations` runs it, refuses the allocations in turn, and
+//! compares. `trials_bench layers NAME` measures the layers for `scripts/bench`; standard input has four property files
+//! and a text of this name, each except the last followed by a zero byte.
 #![tactic(auto)]
 
 mod breaks;
@@ -39,7 +40,7 @@ use std::process::ExitCode;
 
 const USAGE: u8 = 2;
 
-/// What is shown of a result where all rows are run.
+/// How much of a result is shown in a run of all rows.
 const SHOWN: usize = 400;
 
 fn main(rt: HostRuntime) -> Result<ExitCode> {
@@ -60,13 +61,13 @@ fn usage(rt: &HostRuntime) -> Result<ExitCode> {
     Ok(ExitCode::from(USAGE))
 }
 
-/// Times the layers over a text, which is called by this name.
+/// Times the layers over a text with this name.
 fn measure(rt: &HostRuntime, name: &str) -> Result<ExitCode> {
     timing::print(rt, name)?;
     Ok(ExitCode::SUCCESS)
 }
 
-/// Runs the row of this name, and writes the whole result.
+/// Runs the row with this name, and writes the whole result.
 fn run_one(rt: &HostRuntime, name: &str, profile: Profile) -> Result<ExitCode> {
     let Some(trial) = trial_of(name) else {
         return usage(rt);
@@ -76,7 +77,7 @@ fn run_one(rt: &HostRuntime, name: &str, profile: Profile) -> Result<ExitCode> {
     Ok(ExitCode::SUCCESS)
 }
 
-/// Runs all rows, those that have a profile in both, and writes the results that are short, the sum of the others.
+/// Runs all rows, in both profiles if it matters, and writes short results, and a digest of the others.
 fn run_all(rt: &HostRuntime) -> Result<ExitCode> {
     for group in &GROUPS {
         run_rows(rt, group.rows())?;

@@ -1,4 +1,4 @@
-//! What the layers run over.
+//! The inputs of the layers.
 
 use anyhow::{Result, bail};
 use lbk_cmd::show;
@@ -11,11 +11,11 @@ use std::alloc::Global;
 /// The most bytes of a text that the layers run over.
 const TEXT_MOST: usize = 1_000_000;
 
-/// Room for what `show` writes of a text: for each byte at most a scalar of four digits, a mark, a label and
-/// their spaces.
+/// Room for the output of `show` for a text: for each byte at most a scalar of four digits, a mark, a label and their
+/// spaces.
 const SHOWN_MOST: usize = 16 * TEXT_MOST;
 
-/// Four property files and a text: the parts of an input, each but the last with a zero byte after it.
+/// Four property files and a text: the parts of an input, each except the last followed by a zero byte.
 pub fn parts_of(input: &str) -> Result<(Files<'_>, &str)> {
     let mut parts = input.splitn(5, '\0');
     let (Some(line_break), Some(east_asian), Some(category), Some(emoji), Some(text)) = (
@@ -36,8 +36,8 @@ pub fn parts_of(input: &str) -> Result<(Files<'_>, &str)> {
     Ok((files, text))
 }
 
-/// What the layers run over: the property files and what is made of them, a text, its passages, and its lines as `show`
-/// writes them. It owns nothing, since a check of what holds many owners takes long.
+/// The inputs of the layers: the property files and what is made of them, a text, its passages, and its lines as `show`
+/// writes them. It owns nothing, because a type with many owned parts takes long to check.
 #[derive(Clone, Copy)]
 pub struct Material<'a> {
     pub files: Files<'a>,
@@ -49,7 +49,7 @@ pub struct Material<'a> {
     pub shown: &'a [u8],
 }
 
-/// The front of a text that the layers run over.
+/// The prefix of a text that the layers run over.
 pub fn front_of(text: &str) -> &str {
     text.get(..text.floor_char_boundary(TEXT_MOST))
         .unwrap_or(text)

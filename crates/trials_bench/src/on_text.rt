@@ -7,7 +7,7 @@ use lbk_notation::Form;
 use lbk_rules::Profile;
 use std::alloc::Global;
 
-/// A call on a text, by the cells of the sample files. It may come to something else in another profile.
+/// A call on a text, with the cells of the sample files. Its result may depend on the profile.
 #[derive(Clone, Copy)]
 pub enum OnText {
     /// `Segmenter::next` with a limit, until the end of the text or a fault.
@@ -30,18 +30,18 @@ pub enum OnText {
     BreakText(u32),
     /// `replay`.
     Replay(Form),
-    /// `decide`, `decide_in`, `decide_all`, `decide_all_in`, which take no memory.
+    /// `decide`, `decide_in`, `decide_all`, `decide_all_in`, which allocate nothing.
     Decide,
-    /// Each call of `Machine` and `LateMachine`, and `label`, which take no memory.
+    /// Each call of `Machine` and `LateMachine`, and `label`, which allocate nothing.
     Machines,
-    /// `Breaks`, in blocks and one by one, and `Stepper`, over pages and over tables, which take no memory.
+    /// `Breaks`, in blocks and one by one, and `Stepper`, over pages and over tables, which allocate nothing.
     Breaks,
-    /// `replay_line`, which takes no memory, of the line of one text against the rules' marks of a text, in both forms.
+    /// `replay_line`, which allocates nothing, for the line of a text and the rules' marks of a text, in both forms.
     ReplayLine,
 }
 
 impl OnText {
-    /// Makes what the call needs, makes the call, and tells what it returned.
+    /// Makes what the call needs, makes the call, and returns its result as text.
     pub fn run(self, alloc: Global, text: Text, profile: Profile) -> Result<String> {
         let input = Input::new(alloc, text)?;
         self.run_on(alloc, &input, profile)

@@ -27,7 +27,7 @@ fn new_told(alloc: Global, cells: &CellPages, limit: u32, profile: Profile) -> R
     }
 }
 
-/// All passages of a text, and what comes after them, with the number of reads made so far.
+/// All passages of a text, and the result after them, with the number of reads so far.
 pub fn next(alloc: Global, input: &Input, limit: u32, profile: Profile) -> Result<String> {
     let mut segmenter = segmenter_of(alloc, &input.cells, limit, profile)?;
     all_told(alloc, &mut segmenter, &input.bytes)
@@ -60,8 +60,7 @@ fn all_told(
     Ok(told)
 }
 
-/// Makes one call, and tells what it returned. Whether there is another to make: also after `Memory`, where the same
-/// call is made again.
+/// Makes one call, and writes its result. Returns whether to make another: also after `Memory`, which repeats the call.
 fn tell_call(
     alloc: Global,
     told: &mut String,
@@ -91,7 +90,7 @@ fn tell_answer(
     }
 }
 
-/// The passage in full where it is short, else the counts of its parts and a digest of them.
+/// The passage in full if it is short, else the counts of its parts and a digest of them.
 fn tell(told: &mut String, passage: &Passage<'_>) -> Result<(), AllocError> {
     if passage.segments.len() <= 4 && passage.pieces.len() <= 8 {
         return write!(told, "{passage:?}");

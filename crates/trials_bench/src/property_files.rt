@@ -4,20 +4,20 @@ use lbk_files::SAMPLE_FILES;
 use lbk_ucd::Files;
 use std::alloc::{AllocError, Global};
 
-/// Which property files a row reads.
+/// The property files that a row reads.
 #[derive(Clone, Copy)]
 pub enum PropertyFiles {
     /// The sample files.
     Samples,
-    /// A row that shares a code with the row before it.
+    /// A row that shares a code point with the row before it.
     Overlap,
     /// An unknown value after rows and defaults.
     UnknownValue,
-    /// Forty defaults in each file that has them, laid over one another.
+    /// Forty overlapping defaults in each file that has defaults.
     ManyDefaults,
     /// Three thousand rows in each file.
     ManyRows,
-    /// Eleven hundred pages of 256 codes, each unlike the others.
+    /// Eleven hundred different pages of 256 code points.
     ManyPages,
 }
 
@@ -47,7 +47,7 @@ impl Made {
         Ok(made)
     }
 
-    /// Puts these files after its own.
+    /// Appends these files to its own.
     fn add(&mut self, files: Files<'_>) -> Result<(), AllocError> {
         self.line_break.extend_from_slice(files.line_break)?;
         self.east_asian.extend_from_slice(files.east_asian)?;
@@ -102,7 +102,7 @@ fn many_defaults(alloc: Global) -> Result<Made, AllocError> {
     })
 }
 
-/// Defaults, each within the one before it except every fourth, and the values in turn.
+/// Defaults, each inside the previous one except every fourth, with the values in turn.
 fn defaults(alloc: Global, values: [&str; 4]) -> Result<Vec<u8>, AllocError> {
     let mut file = Vec::new(alloc);
     for k in 0..DEFAULTS {
@@ -133,7 +133,7 @@ fn many_rows(alloc: Global) -> Result<Made, AllocError> {
     })
 }
 
-/// A row for every third code, and the values in turn.
+/// A row for every third code point, with the values in turn.
 fn rows(alloc: Global, values: [&str; 2]) -> Result<Vec<u8>, AllocError> {
     let mut file = Vec::new(alloc);
     for k in 0..ROWS {
@@ -147,7 +147,7 @@ fn push_row(alloc: Global, file: &mut Vec<u8>, code: u32, value: &str) -> Result
     file.extend_from_slice(line.as_bytes())
 }
 
-/// A row for each bit of a page's number, so that no two pages are alike.
+/// A row for each bit of a page's number, so that no two pages are equal.
 fn many_pages(alloc: Global) -> Result<Vec<u8>, AllocError> {
     let mut file = Vec::new(alloc);
     for page in 0..PAGES {

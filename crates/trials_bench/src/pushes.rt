@@ -1,5 +1,5 @@
-//! The calls of the notation that put something after a text: `push_line`, `push_scalar`, `push_mark` and
-//! `push_passage_line`. What stood there before stays, and after a refusal a front of what was to come follows.
+//! The calls of the notation that append to a text: `push_line`, `push_scalar`, `push_mark` and `push_passage_line`.
+//! The earlier text stays, and after a refusal a prefix of the addition follows.
 
 use crate::calls;
 use crate::inputs::{Input, verdicts_of};

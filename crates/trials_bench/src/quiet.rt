@@ -1,5 +1,5 @@
-//! Calls that take no memory, on inputs of their own. What they are run on is made before allocations are counted, and none
-//! may be counted.
+//! Calls that allocate nothing, on their own inputs. Their inputs are made before allocations are counted; the count
+//! has to be 0.
 
 use crate::counting::{begin, end};
 use crate::digest::Digest;
@@ -14,7 +14,7 @@ use lbk_rules::{Cell, CellPages, CellSource, resolve};
 use lbk_ucd::{Places, Tables};
 use std::alloc::Global;
 
-/// Which calls are made.
+/// The calls.
 #[derive(Clone, Copy)]
 pub enum Quiet {
     /// `Feed::new`, `ready`, `piece`, `settle`, `advance`, `given`.
@@ -67,7 +67,7 @@ fn add_look_ups(digest: &mut Digest, tables: &Tables) {
     }
 }
 
-/// How many scalar values have the same cell by the properties, by the tables and by the pages.
+/// How many scalar values have the same cell by properties, tables and pages.
 fn both_cells(alloc: Global) -> Result<String> {
     let tables = tables_of(alloc, SAMPLE_FILES)?;
     same_told(alloc, &tables)

@@ -1,5 +1,5 @@
-//! The rows: their names, and what each tries. The part of a name before `/` says which call it is of, and so what
-//! is asked of it when memory is refused.
+//! The rows: their names, and what each tries. The part of a name before `/` names the call, and so what is required of
+//! it when memory is refused.
 
 use crate::commands::Words;
 use crate::inputs::Text;
@@ -18,7 +18,7 @@ const TWO_WORDS: Text = Text::Of("ab cd");
 
 const RETURN: Text = Text::Of("a\r\nb");
 
-/// A closing quotation mark whose position the second profile holds.
+/// A closing quotation mark; the second profile holds its position.
 const QUOTED: Text = Text::Of("a \u{2019}\u{301},");
 
 /// Paragraphs of several lines, scripts and widths.
@@ -51,7 +51,7 @@ const MANY_LINES: Text = Text::Repeated(
     200,
 );
 
-/// A line of a thousand scalars, which lacks its last mark.
+/// A line of a thousand scalars without its last mark.
 const LONG_BAD_LINE: Text = Text::Repeated("× 0061 ", 1000);
 
 const PASSAGE_LINE: Text = Text::Of("× 0061 × 000D × 000A !\t# 2 6 5 3");
@@ -175,12 +175,12 @@ const HELP: Words = &["--help"];
 
 const WRONG: Words = &["bogus"];
 
-/// The limit where none is given, in bytes.
+/// The default limit, in bytes.
 const LIMIT: u32 = 65_536;
 
 const HUGE_LIMIT: u32 = 100_000;
 
-/// Kinds of calls. Each has a table of rows of its own.
+/// Kinds of calls, each with its own table of rows.
 #[derive(Clone, Copy)]
 pub enum Group {
     /// Sinks and property files.
@@ -189,19 +189,19 @@ pub enum Group {
     Passages,
     /// Test lines, read, written and marked.
     Lines,
-    /// What is put after a text.
+    /// Appending to a text.
     Pushes,
     /// Engines over a text.
     Engines,
-    /// Words of the command line, and the files that they name.
+    /// Arguments, and the files that they name.
     Words,
     /// Runs of the program.
     Runs,
-    /// Calls that take no memory.
+    /// Calls that allocate nothing.
     Quiet,
 }
 
-/// All groups, in the order in which their rows are run.
+/// All groups, in the order of their runs.
 pub const GROUPS: [Group; 8] = [
     Group::Files,
     Group::Passages,
@@ -237,7 +237,7 @@ impl Group {
     }
 }
 
-// Each names its table by itself: a function is read with all of each table that it names.
+// Each function names only its own table: a function is checked with the whole of each table that it names.
 
 fn files() -> &'static [Row] {
     &FILES
@@ -271,7 +271,7 @@ fn quiet() -> &'static [Row] {
     &QUIET
 }
 
-/// What the row of this name tries.
+/// What the row with this name tries.
 pub fn trial_of(name: &str) -> Option<Trial> {
     for group in &GROUPS {
         let trial = group.trial_of(name);

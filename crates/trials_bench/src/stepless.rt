@@ -1,4 +1,4 @@
-//! Cells that have no table of steps, so that the rules themselves decide a text.
+//! Cells without a table of steps, so that the rules themselves decide a text.
 
 ghost use Rattle.lbk_rules.specs.CellPages.{page_cell};
 

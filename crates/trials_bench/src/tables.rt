@@ -40,7 +40,7 @@ pub fn read_both(alloc: Global, files: PropertyFiles) -> Result<String> {
     }
 }
 
-/// The ranges of codes that have the same properties, and a digest of them.
+/// The ranges of code points with the same properties, and a digest of them.
 fn tables_told(alloc: Global, tables: &Tables) -> Result<String> {
     let mut digest = Digest::new();
     let mut ranges = 0u32;

@@ -1,4 +1,4 @@
-//! The layers timed, and what is printed of them.
+//! Times the layers, and prints the results.
 
 use crate::inputs::tables_of;
 use crate::layers::{LAYERS, Layer};
@@ -9,20 +9,20 @@ use lbk_ucd::Files;
 use std::io;
 use std::time::{Duration, Instant};
 
-/// How often each layer is run. The runs of all layers take turns, so that what else the machine does slows all
-/// alike, and the best of each counts.
+/// How often each layer runs. The layers take turns, so that other load on the machine slows all of them, and the best
+/// run of each counts.
 const ROUNDS: u32 = 9;
 
 /// The best run of a layer.
 #[derive(Clone, Copy)]
 struct Best {
     time: Duration,
-    /// What the run counted.
+    /// The count of the run.
     count: u64,
 }
 
-/// Reads four property files and a text from standard input, and prints for each layer how many millions of bytes it takes in a
-/// second, how that compares with `Machine`, and what it counts, or the milliseconds of a part of the start-up.
+/// Reads four property files and a text from standard input. Prints for each layer its millions of bytes a second, the
+/// ratio to `Machine`, and its count, or the milliseconds of a part of the start-up.
 pub fn print(rt: &HostRuntime, name: &str) -> Result<()> {
     let input = io::read_to_string(rt.alloc(), rt.stdin())?;
     let (files, text) = parts_of(input.as_str())?;

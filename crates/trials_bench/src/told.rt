@@ -1,4 +1,4 @@
-//! What is written of results.
+//! Results as text.
 
 use crate::digest::Digest;
 use crate::inputs::text_of;
@@ -18,7 +18,7 @@ pub fn fault_told<F: Debug>(alloc: Global, fault: &F) -> Result<String> {
     Ok(format!(in alloc; "Err({fault:?})\n")?)
 }
 
-/// The result, and after a line `wrote` what went out.
+/// The result, and the output after a line `wrote`.
 pub fn answer_told<A: Debug>(alloc: Global, answer: &A, written: &[u8]) -> Result<String> {
     let written = text_of(written)?;
     Ok(format!(in alloc; "{answer:?}\nwrote\n{written}")?)

@@ -11,7 +11,7 @@ use lbk_notation::{Form, Mark};
 use lbk_rules::Profile;
 use std::alloc::Global;
 
-/// A call, and what it is run on.
+/// A call, and its input.
 #[derive(Clone, Copy)]
 pub enum Trial {
     /// `MemorySink::new` with room for this many bytes.
@@ -44,17 +44,17 @@ pub enum Trial {
     Run(Words, Text),
     /// A call on a text.
     OnText(Text, OnText),
-    /// A call that takes no memory.
+    /// A call that allocates nothing.
     Quiet(Quiet),
 }
 
 impl Trial {
-    /// Whether it comes to something else in another profile.
+    /// Whether its result depends on the profile.
     pub fn has_profile(self) -> bool {
         matches!(self, Trial::NewSegmenter(_) | Trial::OnText(_, _))
     }
 
-    /// Makes what the call needs, makes the call, and tells what it returned.
+    /// Makes what the call needs, makes the call, and returns its result as text.
     pub fn run(self, alloc: Global, profile: Profile) -> Result<String> {
         match self {
             Trial::Sink(room) => engines::sink(alloc, room),

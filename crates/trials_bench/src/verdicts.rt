@@ -1,4 +1,4 @@
-//! Calls on lists of cells, none of which takes memory.
+//! Calls on lists of cells, which allocate nothing.
 
 use crate::counting::{begin, end};
 use crate::digest::Digest;

@@ -42,7 +42,7 @@ fn run_fault(fault: RunFault) -> bool {
             true
         }
         RunFault::Memory => true,
-        // What only a run over texts, or by a folder, comes to.
+        // What only a run over texts, or with a folder, returns.
         RunFault::Open | RunFault::Claim(..) => false,
     }
 }

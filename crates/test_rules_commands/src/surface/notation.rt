@@ -1,4 +1,4 @@
-//! What `lbk_notation` exports: lines of break tests, read, written and replayed.
+//! What `lbk_notation` exports: reading, writing and replaying lines of break tests.
 
 use lbk_cmd::SAMPLE_FILES;
 use lbk_feed::devices::{MemorySink, MemorySource};

@@ -199,7 +199,7 @@ fn verdicts(rt: HostRuntime) -> Result<(), Fail> {
     Ok(())
 }
 
-/// The evaluator's own types, by the calls that ask for its condition.
+/// The evaluator's own types, by the calls with a precondition.
 fn evaluated(cells: &[Cell]) -> (Verdict, Verdict) {
     let k: usize = cells.len();
     (decide(cells, k), decide_in(Profile::First, cells, k))
