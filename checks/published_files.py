@@ -41,7 +41,7 @@ class Runs:
 
 def without_files(runs):
     ended = runs.run(b"ab cd")
-    runs.ends("no arguments: status", ended, 0, "^lbk: these are sample data")
+    runs.ends("no arguments: status", ended, 0, "^lbk: built-in sample data")
     runs.same("no arguments: text", ended, "× 0061 × 0062 × 0020 ÷ 0063 × 0064 !\t# 2 28 7 18 28 3")
     runs.ends("--help", runs.run(b"ab cd", "--help"), 0)
     runs.ends("--version", runs.run(b"ab cd", "--version"), 0)
@@ -135,7 +135,7 @@ def folders(runs, folder):
         contents = (folder / name).read_bytes()
         of_another = contents.replace(b"15.0", b"15.1", 1)
         changed = f"^lbk: {here}/{name}: the file was changed or cut: .*; get it anew, or name a file of your own by --"
-        version = f"^lbk: {here}/{name}: this is of (Unicode 15.1.0|Emoji 15.1), and lbk goes by 15.0"
+        version = f"^lbk: {here}/{name}: this is from (Unicode 15.1.0|Emoji 15.1), and lbk needs 15.0"
         for what, bytes_of, err in [
             ("lacks its last byte", contents[:-1], changed),
             ("lacks rows from the middle", without_rows(contents), changed),
