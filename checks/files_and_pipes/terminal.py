@@ -7,7 +7,7 @@ import termios
 from checks.files_and_pipes.place import words_of
 
 
-WAITS = b"lbk: text is read from the terminal, to the end of input (Ctrl-D at the start of a line)\n"
+WAITS = b"lbk: waiting for text from the terminal; to end it, press Ctrl-D at the start of a line\n"
 ROWS = [
     ("mark", words_of("mark"), b"ab cd\nef\n\x04", 0, b"ab \xc3\xb7cd\nef\n", WAITS),
     ("replay", words_of("replay"), b"\x04", 0, b"T 0 0 0 0\n", WAITS),

@@ -12,7 +12,7 @@ from checks.program import run as run_program
 MISSING = "lbk: {}: cannot be read: no such file\n"
 NOT_UTF_8 = "lbk: {}: byte {}: invalid UTF-8"
 UTF_16 = NOT_UTF_8 + "; it begins as UTF-16 does: iconv -f UTF-16 -t UTF-8 makes UTF-8 of it\n"
-KINDS = "lbk: lines with ! for a break that must be are read with --kinds\n"
+KINDS = "lbk: to read lines with ! (a required break), add --kinds\n"
 LONGEST_NAME = 4_095
 # How many bytes of names one run is given at most: less than a system hands over.
 TOGETHER = 1_000_000

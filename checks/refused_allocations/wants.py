@@ -73,7 +73,7 @@ def reads_of(line):
 
 
 def program_wants(run):
-    return re.fullmatch(rb"(lbk: these are sample data[^\n]*\n)?lbk: ([^\n]*: )?out of memory\n", run.err) is not None
+    return re.fullmatch(rb"(lbk: built-in sample data[^\n]*\n)?lbk: ([^\n]*: )?out of memory\n", run.err) is not None
 
 
 def program_fits(ample, run):

@@ -19,8 +19,8 @@ const VERSION: &str = "0.1.0 (breaks by UAX #14 of Unicode 15.0, words by UAX #2
 
 const ABOUT: &str = "\
 Finds where a text may break and where it must, and says which rule of UAX #14
-decided. A text is a file, or standard input. Without arguments it shows
-standard input by four small sample files.";
+decided. A text is a file, or standard input. Without arguments it runs
+`show` on standard input, with small sample data.";
 
 const EXAMPLES: &str = "\
 FOLDER is the Unicode Character Database of Unicode 15.0. Without --ucd name
@@ -32,8 +32,8 @@ Examples:
   lbk mark --ucd FOLDER text.txt                     the text with its breaks
   lbk show --ucd FOLDER < text.txt                   a line for each paragraph
   lbk segment --ucd FOLDER --limit 1000000 text.txt  the breaks as byte offsets
-  lbk chunk --ucd FOLDER --most 500 text.txt         pieces of it for search
-  lbk replay --ucd FOLDER LineBreakTest.txt          the lines that do not agree
+  lbk chunk --ucd FOLDER --most 500 text.txt         its chunks for search
+  lbk replay --ucd FOLDER LineBreakTest.txt          the lines that differ
 
 Exit status: 0 done, 1 a refused file or text, 2 invalid arguments, 3 a replay
 with lines that differ or are refused.";
@@ -52,29 +52,30 @@ const MARK_ABOUT: &str = "Writes the text with ÷ at each position where a line 
 
 const SHOW_ABOUT: &str = "Writes a line for each paragraph, with the rule of each position";
 
-const SEGMENT_ABOUT: &str = "Writes the place of each paragraph, segment and word in bytes";
+const SEGMENT_ABOUT: &str = "Writes the byte offsets of each paragraph, segment and word";
 
-const CHUNK_ABOUT: &str = "Cuts texts for search, where a line may end and no word does not";
+const CHUNK_ABOUT: &str = "Cuts texts into chunks for search, at breaks outside words";
 
 const REPLAY_ABOUT: &str = "Compares break tests with the rules, and counts what differs";
 
 const MARK_AFTER: &str = "\
-Nothing else is changed: where a line must end, the line end of the text shows
-it. A text that ends without a line end gets one. Example:
+The text is otherwise unchanged: where a line must end, it has its own line end.
+A text that ends without a line end gets one. Example:
   $ printf 'ab cd' | lbk mark --ucd FOLDER
   ab ÷cd";
 
 const SHOW_AFTER: &str = "\
-A mark stands before and after each character: × no break, ÷ break allowed,
+A mark is before and after each character: × no break, ÷ break allowed,
 ! break required. Example:
   $ printf 'ab cd' | lbk show --ucd FOLDER
   × 0061 × 0062 × 0020 ÷ 0063 × 0064 !\t# 2 28 7 18 28 3";
 
 const SEGMENT_AFTER: &str = "\
-`P start end` is a paragraph, `S start end kind rule` a segment of it up to a
-break that may be (kind May) or must be (kind Must), and `W start end` a word.
-Places count bytes of the whole text. Ranges one after another, as `--to 1000`
-and `--from 1000`, write together what is written of the whole text. Example:
+`P start end` is a paragraph, `S start end kind rule` a segment of it up to an
+allowed break (kind May) or a required one (kind Must), and `W start end` a
+word. Offsets count bytes of the whole text. Adjacent ranges, such as
+`--to 1000` and `--from 1000`, together write what the whole text writes.
+Example:
   $ printf 'ab cd' | lbk segment --ucd FOLDER
   P 0 5
   S 0 3 May 18
@@ -84,11 +85,11 @@ and `--from 1000`, write together what is written of the whole text. Example:
 
 const CHUNK_AFTER: &str = "\
 `C start end words kind rule` is a chunk, with the kind and the rule of the
-break at its end. It is as long as --most and --words allow, or ends early where
-a line must end, once it has --least new bytes. A stretch of text without a
-break within the sizes is a chunk of its own. Places count bytes of the whole
-text, all of which is read with --from and --to, too. With --text a chunk is an
-object of JSON in a line of its own. Examples:
+break at its end. It is as long as --most and --words allow, or ends early at
+a required break, once it has --least new bytes. Text without a break within
+the limits becomes one longer chunk. Offsets count bytes of the whole text;
+--from and --to still read all of it. With --text each chunk is a JSON object on
+a line. Examples:
   $ printf 'ab cd' | lbk chunk --ucd FOLDER --most 4
   C 0 3 1 May 18
   C 3 5 1 Must 3
@@ -98,9 +99,9 @@ object of JSON in a line of its own. Examples:
 
 const REPLAY_AFTER: &str = "\
 `D line position file rules rule` is the first position of a line that differs,
-with the mark of the file and that of the rules; `R line place` is a line that
-cannot be read from its byte `place` on, and `R line long` one that is too long;
-`T lines agreed differed refused` stands at the end. Example:
+with the mark of the file and that of the rules; `R line byte` is a line with a
+syntax error at that byte, and `R line long` one that is too long;
+`T lines agreed differed refused` is the last line. Example:
   $ printf '× 0061 ÷ 0062 ÷\\n' | lbk replay --ucd FOLDER
   D 1 1 ÷ × 28
   T 1 0 1 0";
@@ -202,7 +203,7 @@ fn kinds_option<'a>(alloc: Global) -> Arg<'a>
 {
     long_option(alloc, "kinds")
         .action(ArgAction::SetTrue)
-        .help("Marks tell ! from ÷, which stands for both without it")
+        .help("! is a required break, ÷ allowed; else ÷ is any")
 }
 
 /// The flag `--text`; its name here differs, because the operands have the name `text`.
@@ -220,7 +221,7 @@ fn sign_option<'a>(alloc: Global) -> Arg<'a>
     ensures rule { rule_of result ≡ value_rule (codes "sign") }
     ensures local { result.global ≡ false }
 {
-    value_option(alloc, "sign", "TEXT").help("In place of ÷, 1 to 8 bytes without a line end")
+    value_option(alloc, "sign", "TEXT").help("Instead of ÷: 1 to 8 bytes without a line end")
 }
 
 fn names_option<'a>(alloc: Global) -> Arg<'a>
