@@ -1,5 +1,6 @@
 -- Which arguments are a command line of the program, and what is wrong with others.
-use Rattle.std.specs.Prelude.{◌≡◌, ◌&&◌, ◌/◌, Bool, true, not, List, [], ◌∷◌, Option, None, Some, if◌then◌else◌, nat_le, nat_lt}
+use Rattle.std.specs.Prelude.{◌≡◌, ◌&&◌, ◌/◌, Bool, true, not, List, [], ◌∷◌, Option, None, Some, if◌then◌else◌}
+use Rattle.std.specs.Prelude.{nat_le, nat_lt}
 use Rattle.clap.specs.Kinds.{or_else}
 use Rattle.clap.specs.Words.{Kinds, Text, fault_of}
 use Rattle.clap.specs.declared.error.kind.ErrorKind.TheVariants.{MissingRequiredArgument, ValueValidation}
@@ -24,7 +25,8 @@ are_sizes _ = true
 -- before it begins, its sign is invalid, or its sizes of chunks contradict each other
 abbrev pub task_fault : Option Task → Kinds
 task_fault None = MissingRequiredArgument ∷ []
-task_fault (Some task) = if is_range task.part && (is_sign task.sign && are_sizes task.engine) then [] else ValueValidation ∷ []
+task_fault (Some task) = if is_range task.part && (is_sign task.sign && are_sizes task.engine) then []
+    else ValueValidation ∷ []
 
 -- what is wrong with the arguments, or what they ask for instead of work, by the kinds of `clap`; else what is wrong
 -- with their task

@@ -36,7 +36,8 @@ KeepsIfTold (Some xs) (Some ys) = ys ≡ xs
 -- a read with result r: for Ok(n) the first n bytes of buf are the front of the unread bytes, and are taken from them;
 -- n is 0 only at their end or without room. For Err none was taken, if they are still known
 abbrev pub Takes : {E : Type 0} → Option (List ℕ) → Option (List ℕ) → Result ℕ E → List ℕ → Type 0
-Takes old new r buf = MatchResult r (λ n. Consumes old new (take n buf) × (n ≡ 0 → 0 < length buf → IsAtEnd new)) (λ _. KeepsIfTold old new)
+Takes old new r buf = MatchResult r (λ n. Consumes old new (take n buf) × (n ≡ 0 → 0 < length buf → IsAtEnd new))
+    (λ _. KeepsIfTold old new)
 
 -- a write with result r: for Ok(n) the first n bytes join those written, for Err none do
 abbrev pub Puts : {E : Type 0} → Option (List ℕ) → Option (List ℕ) → Result ℕ E → List ℕ → Type 0

@@ -10,7 +10,8 @@ use Rattle.lbk_feed.specs.View.{View, BeginsWith, CanGoOn, IsStill, AreDue}
 
 -- the intake as callers of the feed see it
 unfoldable pub view_of : Intake → View
-view_of i = record { held = items i.block; ready = take i.ready_len (items i.block); given = i.given; is_ended = i.is_ended; is_spent = i.is_spent }
+view_of i = record { held = items i.block; ready = take i.ready_len (items i.block); given = i.given;
+    is_ended = i.is_ended; is_spent = i.is_spent }
 
 -- nothing is ready, and the held bytes may continue: a read is needed
 pub record WantsMore (i : Intake) : Type 0 where
@@ -21,7 +22,8 @@ pub record WantsMore (i : Intake) : Type 0 where
 
 -- a piece is ready, the bytes have a fault, more were read than a text may have, or the end was reached
 abbrev pub IsSettled : Intake → Type 0
-IsSettled i = (0 < i.ready_len) ⊎ ((i.stop ≡ Faulty) ⊎ ((longest_text < i.given + length (items i.block)) ⊎ (i.is_ended ≡ true)))
+IsSettled i = (0 < i.ready_len)
+    ⊎ ((i.stop ≡ Faulty) ⊎ ((longest_text < i.given + length (items i.block)) ⊎ (i.is_ended ≡ true)))
 
 -- the result of reads that did not fail: `before` and `after` are the unread bytes, `from` and `to` the reads made
 pub record Draws (old new : View) (before after : Option (List ℕ)) (from to : Reads) : Type 0 where

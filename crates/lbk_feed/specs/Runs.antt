@@ -23,7 +23,8 @@ Took true before after read = BeginsWith read before × KeepsIfTold before (prep
 
 -- a run read some bytes and wrote some, and So holds of both; `failed` says that a read failed, `unread` and `written`
 -- are what the devices told before it, and those with a prime what they tell after it
-pub record Ran (failed : Bool) (unread unread' written written' : Option (List ℕ)) (So : List ℕ → List ℕ → Type 0) : Type 0 where
+pub record Ran (failed : Bool) (unread unread' written written' : Option (List ℕ))
+    (So : List ℕ → List ℕ → Type 0) : Type 0 where
   pub read : List ℕ
   pub out : List ℕ
   pub took : Took failed unread unread' read
@@ -33,5 +34,6 @@ pub record Ran (failed : Bool) (unread unread' written written' : Option (List �
 -- a run that stopped: `out` is a prefix of the output that some first bytes of those read settle, whatever follows
 -- them, or, once the end was reached, a prefix of the output for all of them
 pub data IsStopped (Settled Whole : List ℕ → List ℕ → Type 0) (ended : Type 0) (read out : List ℕ) : Type 0 where
-  midway : (first later all : List ℕ) (n : ℕ) → read ≡ first ++ later → Settled first all → out ≡ take n all → IsStopped Settled Whole ended read out
+  midway : (first later all : List ℕ) (n : ℕ) → read ≡ first ++ later → Settled first all → out ≡ take n all
+      → IsStopped Settled Whole ended read out
   at_end : (all : List ℕ) (n : ℕ) → ended → Whole read all → out ≡ take n all → IsStopped Settled Whole ended read out

@@ -112,7 +112,9 @@ IsOutOfMemory four before after =
 -- a file cannot be read or is not the published one, and no more is loaded; or all are loaded and refused; or out of
 -- memory
 abbrev pub IsFileFault : FourFiles → LoadCounts → LoadCounts → CellsFault → Type 0
-IsFileFault four before after (Load which) = IsFirst four which (λ file. IsUnreadable file.contents) × LoadsTo which before after
-IsFileFault four before after (Claim which cause) = IsFirst four which (IsUnlikeItsClaim which cause) × LoadsTo which before after
+IsFileFault four before after (Load which) = IsFirst four which (λ file. IsUnreadable file.contents)
+    × LoadsTo which before after
+IsFileFault four before after (Claim which cause) = IsFirst four which (IsUnlikeItsClaim which cause)
+    × LoadsTo which before after
 IsFileFault four before after (Tables fault) = AllLoaded four before after (λ files. IsRefused files fault)
 IsFileFault four before after Memory = IsOutOfMemory four before after

@@ -15,7 +15,8 @@ use Rattle.lbk_notation.specs.Outcome.{IsOutcome}
 abbrev pub IsFinding : (ℕ → Cell) → Form → Profile → List ℕ → Finding → Type 0
 IsFinding cell form profile bytes NoLine = (length bytes ≤ longest) × IsLine form bytes None
 IsFinding cell form profile bytes (Replayed outcome) =
-    (length bytes ≤ longest) × ((line : Line) × IsLine form bytes (Some line) × IsOutcome cell form profile line outcome)
+    (length bytes ≤ longest)
+    × ((line : Line) × IsLine form bytes (Some line) × IsOutcome cell form profile line outcome)
 IsFinding cell form profile bytes (Bad at) = IsFault form bytes (Faults.Bad at)
 IsFinding cell form profile bytes Long = IsFault form bytes Faults.LineTooLong
 

@@ -74,9 +74,11 @@ IsEnd (byte ∷ bytes) = ((byte ≡ 13) × (bytes ≡ [])) ⊎ ((byte ≡ 35) ×
 -- what may follow a mark: (ws+ hex ws+ mark)* ws* and the end of the line
 pub data IsAfter (form : Form) : List ℕ → List Mark → List ℕ → Type 0 where
   last : (blank end : List ℕ) → IsBlank blank → IsEnd end → IsAfter form [] [] (blank ++ end)
-  more : (gap digits gap' : List ℕ) (mark : Mark) (rest scalars : List ℕ) (marks : List Mark) → IsGap gap → IsToken digits
+  more : (gap digits gap' : List ℕ) (mark : Mark) (rest scalars : List ℕ) (marks : List Mark)
+      → IsGap gap → IsToken digits
       → IsGap gap' → Has form mark → IsAfter form scalars marks rest
-      → IsAfter form (number_of digits ∷ scalars) (mark ∷ marks) (gap ++ (token_bytes digits ++ (gap' ++ (mark_bytes mark ++ rest))))
+      → IsAfter form (number_of digits ∷ scalars) (mark ∷ marks)
+          (gap ++ (token_bytes digits ++ (gap' ++ (mark_bytes mark ++ rest))))
 
 -- a line, with its meaning: ws* and its end, or ws*, a mark and what may follow it
 pub data IsLine (form : Form) : List ℕ → Option Line → Type 0 where

@@ -44,7 +44,8 @@ pub record Meets (form : Form) (marks : List Mark) (position : ℕ) (rules : Ver
   pub same : new ≡ met form old position file rules
 
 -- what was met is a difference
-pub record Differs (cell : ℕ → Cell) (form : Form) (profile : Profile) (line : Line) (position : ℕ) (file : Mark) (rules : Verdict) : Type 0 where
+pub record Differs (cell : ℕ → Cell) (form : Form) (profile : Profile) (line : Line) (position : ℕ) (file : Mark)
+    (rules : Verdict) : Type 0 where
   pub mark : slice_get line.marks position ≡ Some file
   pub verdict : rules ≡ verdict_at cell profile line position
   pub differs : Agrees form file rules.kind → ⊥

@@ -30,7 +30,8 @@ AgreesAt cell form profile line k =
     (mark : Mark) × (slice_get line.marks k ≡ Some mark) × Agrees form mark (verdict_at cell profile line k).kind
 
 -- the first position whose mark does not agree
-pub record IsFirstDifference (cell : ℕ → Cell) (form : Form) (profile : Profile) (line : Line) (position : ℕ) (file : Mark) (rules : Verdict) : Type 0 where
+pub record IsFirstDifference (cell : ℕ → Cell) (form : Form) (profile : Profile) (line : Line) (position : ℕ)
+    (file : Mark) (rules : Verdict) : Type 0 where
   pub mark : slice_get line.marks position ≡ Some file
   pub verdict : rules ≡ verdict_at cell profile line position
   pub differs : ¬ (Agrees form file rules.kind)
@@ -39,4 +40,5 @@ pub record IsFirstDifference (cell : ℕ → Cell) (form : Form) (profile : Prof
 
 abbrev pub IsOutcome : (ℕ → Cell) → Form → Profile → Line → Outcome → Type 0
 IsOutcome cell form profile line Agree = (k : ℕ) → k ≤ length line.scalars → AgreesAt cell form profile line k
-IsOutcome cell form profile line (Differ position file rules) = IsFirstDifference cell form profile line position file rules
+IsOutcome cell form profile line (Differ position file rules) =
+    IsFirstDifference cell form profile line position file rules

@@ -22,14 +22,16 @@ pub record IsEndedText (cell : ℕ → Cell) (form : Form) (profile : Profile) (
   pub text : out ≡ text_from form 1 findings
 
 -- the output for a file of exactly these bytes, and its report
-pub record IsReplayText (cell : ℕ → Cell) (form : Form) (profile : Profile) (bytes : List ℕ) (report : Report) (out : List ℕ) : Type 0 where
+pub record IsReplayText (cell : ℕ → Cell) (form : Form) (profile : Profile) (bytes : List ℕ) (report : Report)
+    (out : List ℕ) : Type 0 where
   pub findings : List Finding
   pub are : AreFindings cell form profile (lines_of bytes) findings
   pub counts : report ≡ report_of findings
   pub text : out ≡ text_from form 1 findings ++ total_text report
 
 -- the file fits, and its replay text was written
-pub record IsReplayed (cell : ℕ → Cell) (form : Form) (profile : Profile) (input : List ℕ) (report : Report) (written written' : Option (List ℕ)) : Type 0 where
+pub record IsReplayed (cell : ℕ → Cell) (form : Form) (profile : Profile) (input : List ℕ) (report : Report)
+    (written written' : Option (List ℕ)) : Type 0 where
   pub fits : length input ≤ longest_stream
   pub out : List ℕ
   pub text : IsReplayText cell form profile input report out
@@ -57,12 +59,14 @@ failed_writes_with n _ = n
 -- the replay text
 abbrev pub IsStoppedReplay : (ℕ → Cell) → Form → Profile → Type 0 → List ℕ → List ℕ → Type 0
 IsStoppedReplay cell form profile ended read out =
-    IsStopped (IsEndedText cell form profile) (λ bytes all. (report : Report) × IsReplayText cell form profile bytes report all)
+    IsStopped (IsEndedText cell form profile)
+        (λ bytes all. (report : Report) × IsReplayText cell form profile bytes report all)
     ended read out
 
 -- out of memory: the output is that of the lines that ended before some offset, or, once the end was reached, that of
 -- all lines, without the counts
-pub data IsOutOfMemory (cell : ℕ → Cell) (form : Form) (profile : Profile) (ended : Type 0) (read out : List ℕ) : Type 0 where
+pub data IsOutOfMemory (cell : ℕ → Cell) (form : Form) (profile : Profile) (ended : Type 0)
+    (read out : List ℕ) : Type 0 where
   between_lines : (first later : List ℕ) → read ≡ first ++ later → IsEndedText cell form profile first out
       → IsOutOfMemory cell form profile ended read out
   uncounted : (report : Report) → ended → IsReplayText cell form profile read report (out ++ total_text report)
@@ -76,12 +80,15 @@ IsReplay cell form profile ended (Err Read) read out =
     (length read ≤ longest_stream) × IsEndedText cell form profile read out
 IsReplay cell form profile ended (Err StreamTooLong) read out =
     (longest_stream < length read) × IsEndedText cell form profile (take longest_stream read) out
-IsReplay cell form profile ended (Err Write) read out = IsStoppedReplay cell form profile ended (take longest_stream read) out
-IsReplay cell form profile ended (Err Memory) read out = IsOutOfMemory cell form profile ended (take longest_stream read) out
+IsReplay cell form profile ended (Err Write) read out =
+    IsStoppedReplay cell form profile ended (take longest_stream read) out
+IsReplay cell form profile ended (Err Memory) read out =
+    IsOutOfMemory cell form profile ended (take longest_stream read) out
 
 -- nothing is held back: the output of the lines that end in the bytes of all reads except the last, at least one each,
 -- was written; `from` and `to` are the reads before the run and after it
-pub record KeepsUp (cell : ℕ → Cell) (form : Form) (profile : Profile) (from to : Reads) (read out : List ℕ) : Type 0 where
+pub record KeepsUp (cell : ℕ → Cell) (form : Form) (profile : Profile) (from to : Reads)
+    (read out : List ℕ) : Type 0 where
   pub before : List ℕ
   pub last : List ℕ
   pub split : read ≡ before ++ last

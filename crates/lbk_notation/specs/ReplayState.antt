@@ -24,7 +24,8 @@ Holds rest line false = (line ≡ rest) × (length rest ≤ longest)
 Holds rest line true = longest < length rest
 
 -- the bytes taken so far, and the output of the lines that they end
-pub record Stands (cell : ℕ → Cell) (form : Form) (profile : Profile) (progress : ReplayState) (used out : List ℕ) : Type 0 where
+pub record Stands (cell : ℕ → Cell) (form : Form) (profile : Profile) (progress : ReplayState)
+    (used out : List ℕ) : Type 0 where
   pub taken : progress.taken ≡ length used
   pub held : Holds (cut_of used).rest progress.line.items progress.is_long
   pub findings : List Finding
@@ -34,7 +35,8 @@ pub record Stands (cell : ℕ → Cell) (form : Form) (profile : Profile) (progr
   pub text : out ≡ text_from form 1 findings
 
 -- the output of all lines of the file was written, except the counts
-pub record StandsAtEnd (cell : ℕ → Cell) (form : Form) (profile : Profile) (progress : ReplayState) (used out : List ℕ) : Type 0 where
+pub record StandsAtEnd (cell : ℕ → Cell) (form : Form) (profile : Profile) (progress : ReplayState)
+    (used out : List ℕ) : Type 0 where
   pub findings : List Finding
   pub are : AreFindings cell form profile (lines_of used) findings
   pub counts : progress.report ≡ report_of findings
@@ -66,7 +68,8 @@ pub record Uses (cell : ℕ → Cell) (form : Form) (profile : Profile) (old new
       (λ fault. IsStoppedBy cell form profile ⊥ fault (used ++ bytes) (out ++ text))
 
 -- what the call that ends the file writes
-pub record Ends (cell : ℕ → Cell) (form : Form) (profile : Profile) (old : ReplayState) (written written' : Option (List ℕ))
+pub record Ends (cell : ℕ → Cell) (form : Form) (profile : Profile) (old : ReplayState)
+    (written written' : Option (List ℕ))
     (result : Result Report ReplayFault) : Type 0 where
   pub text : List ℕ
   pub put : Appends written written' text
@@ -80,7 +83,8 @@ is_read_fault_of _ = false
 
 -- what was read up to the end of the stream, or up to a fault, and the output for it; at the end the last read returned
 -- no byte, and each of the others at least one
-abbrev pub HasRead : (ℕ → Cell) → Form → Profile → Reads → Reads → Result ReplayState ReplayFault → List ℕ → List ℕ → Type 0
+abbrev pub HasRead : (ℕ → Cell) → Form → Profile → Reads → Reads → Result ReplayState ReplayFault → List ℕ → List ℕ
+    → Type 0
 HasRead cell form profile from to (Ok progress) read out =
     (to.gave ≡ 0) × (to.count ≤ from.count + (length read + 1)) × Stands cell form profile progress read out
 HasRead cell form profile from to (Err fault) read out = IsReplayRun cell form profile from to ⊥ (Err fault) read out

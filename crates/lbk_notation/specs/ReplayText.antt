@@ -55,4 +55,5 @@ report_of findings = record {
 -- the last line
 abbrev pub total_text : Report → List ℕ
 total_text report =
-    row_text (codes "T" ∷ decimal report.lines ∷ decimal report.agreed ∷ decimal report.differed ∷ decimal report.refused ∷ [])
+    row_text (codes "T" ∷ decimal report.lines ∷ decimal report.agreed ∷ decimal report.differed
+        ∷ decimal report.refused ∷ [])

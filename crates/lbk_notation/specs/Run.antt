@@ -50,7 +50,8 @@ abbrev pub is_scalar : ℕ → Bool
 is_scalar number = ltb number 0xD800 || ltb 0xDFFF number
 
 abbrev pub digits_step : ℕ → ℕ → Sort → Taken
-digits_step count number (Digit digit) = if takes_digit count number then On (Digits (count + 1) (16 * number + digit)) else Dead
+digits_step count number (Digit digit) = if takes_digit count number then On (Digits (count + 1) (16 * number + digit))
+    else Dead
 digits_step count number Space = if leb 4 count && is_scalar number then OneScalar number else Dead
 digits_step count number sort = Dead
 

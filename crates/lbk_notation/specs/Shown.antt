@@ -18,4 +18,5 @@ passage_marks scalars verdicts = record { scalars = scalars; marks = map (λ ver
 
 -- the written line in form Kinds, a tab, # and the labels
 abbrev pub passage_line : List ℕ → List Verdict → List ℕ
-passage_line scalars verdicts = written_line Kinds (passage_marks scalars verdicts) ++ (9 ∷ 35 ∷ written_labels verdicts)
+passage_line scalars verdicts = written_line Kinds (passage_marks scalars verdicts)
+    ++ (9 ∷ 35 ∷ written_labels verdicts)

@@ -59,7 +59,9 @@ rule_number Lb31 = 8 * 31
 
 -- all rules, in the annex's order
 abbrev pub rules : List Rule
-rules = Lb2 ∷ Lb3 ∷ Lb4 ∷ Lb5 ∷ Lb6 ∷ Lb7 ∷ Lb8 ∷ Lb8a ∷ Lb9 ∷ Lb11 ∷ Lb12 ∷ Lb12a ∷ Lb13 ∷ Lb14 ∷ Lb15 ∷ Lb15a ∷ Lb15b ∷ Lb16 ∷ Lb17 ∷ Lb18 ∷ Lb19 ∷ Lb20 ∷ Lb21 ∷ Lb21a ∷ Lb21b ∷ Lb22 ∷ Lb23 ∷ Lb23a ∷ Lb24 ∷ Lb25 ∷ Lb26 ∷ Lb27 ∷ Lb28 ∷ Lb29 ∷ Lb30 ∷ Lb30a ∷ Lb30b ∷ Lb31 ∷ []
+rules = Lb2 ∷ Lb3 ∷ Lb4 ∷ Lb5 ∷ Lb6 ∷ Lb7 ∷ Lb8 ∷ Lb8a ∷ Lb9 ∷ Lb11 ∷ Lb12 ∷ Lb12a ∷ Lb13 ∷ Lb14 ∷ Lb15 ∷ Lb15a ∷ Lb15b
+    ∷ Lb16 ∷ Lb17 ∷ Lb18 ∷ Lb19 ∷ Lb20 ∷ Lb21 ∷ Lb21a ∷ Lb21b ∷ Lb22 ∷ Lb23 ∷ Lb23a ∷ Lb24 ∷ Lb25 ∷ Lb26 ∷ Lb27 ∷ Lb28
+    ∷ Lb29 ∷ Lb30 ∷ Lb30a ∷ Lb30b ∷ Lb31 ∷ []
 
 -- the kind that has this number
 abbrev pub kind_numbered : ℕ → Kind

@@ -7,7 +7,8 @@ use Rattle.std.specs.Str.{IsTrimAsciiEnd}
 abbrev pub claims_name : List ℕ → Bool
 claims_name bytes =
     starts_with nat_eq bytes (codes "# LineBreak-") || (starts_with nat_eq bytes (codes "# EastAsianWidth-")
-    || (starts_with nat_eq bytes (codes "# DerivedGeneralCategory-") || starts_with nat_eq bytes (codes "# emoji-data.")))
+    || (starts_with nat_eq bytes (codes "# DerivedGeneralCategory-")
+    || starts_with nat_eq bytes (codes "# emoji-data.")))
 
 -- a text ends like published files: in a line (after 10) of its own
 abbrev pub ends_as_published : List ℕ → Bool
@@ -15,4 +16,5 @@ ends_as_published text = ends_with nat_eq text (10 ∷ codes "# EOF") || ends_wi
 
 -- whether a file is truncated: it claims a published name, and does not end so, without trailing white space
 abbrev pub TellsCut : List ℕ → Bool → Type 0
-TellsCut bytes told = (text : List ℕ) × IsTrimAsciiEnd bytes text × (told ≡ (claims_name bytes && not (ends_as_published text)))
+TellsCut bytes told = (text : List ℕ) × IsTrimAsciiEnd bytes text
+    × (told ≡ (claims_name bytes && not (ends_as_published text)))

@@ -44,8 +44,11 @@ pub record ArePublished (files : Files) : Type 0 where
 -- this file is not the published one, and those before it are
 abbrev pub IsFirstUnpublished : Files → Which → Type 0
 IsFirstUnpublished files LineBreak = ¬ (IsPublished LineBreak files.line_break.now)
-IsFirstUnpublished files EastAsianWidth = IsPublished LineBreak files.line_break.now × (¬ (IsPublished EastAsianWidth files.east_asian.now))
-IsFirstUnpublished files Category = IsPublished LineBreak files.line_break.now × IsPublished EastAsianWidth files.east_asian.now
+IsFirstUnpublished files EastAsianWidth = IsPublished LineBreak files.line_break.now
+    × (¬ (IsPublished EastAsianWidth files.east_asian.now))
+IsFirstUnpublished files Category = IsPublished LineBreak files.line_break.now
+    × IsPublished EastAsianWidth files.east_asian.now
     × (¬ (IsPublished Category files.category.now))
-IsFirstUnpublished files Emoji = IsPublished LineBreak files.line_break.now × IsPublished EastAsianWidth files.east_asian.now
+IsFirstUnpublished files Emoji = IsPublished LineBreak files.line_break.now
+    × IsPublished EastAsianWidth files.east_asian.now
     × IsPublished Category files.category.now × (¬ (IsPublished Emoji files.emoji.now))

@@ -43,7 +43,8 @@ module _ {V : Type 0} where
   -- an entry with the value of its name
   abbrev pub valued : Format V → Entry → Option (Row V)
   valued format entry =
-      option_map (λ value. record { first = entry.first; last = entry.last; value = value }) (named format.names entry.name)
+      option_map (λ value. record { first = entry.first; last = entry.last; value = value })
+          (named format.names entry.name)
 
   -- the kept row of a line's meaning, if it is one
   abbrev pub row_meant : Format V → Option Meaning → Option (Row V)
@@ -101,7 +102,8 @@ module _ {V : Type 0} where
   -- the first cause that applies to a line after earlier ones
   abbrev pub cause_after : Format V → List (List ℕ) → List ℕ → Option UcdCause
   cause_after format earlier line =
-      cause_beside format (rows_in format earlier) (length (rows_in format earlier) + length (defaults_in format earlier)) line
+      cause_beside format (rows_in format earlier)
+          (length (rows_in format earlier) + length (defaults_in format earlier)) line
 
   -- the cause of the line at an index, and that none of the lines before an index has one
   abbrev pub cause_at : Format V → List (List ℕ) → ℕ → Option UcdCause
@@ -135,7 +137,8 @@ module _ {V : Type 0} where
     pub index : ℕ
     pub within : index < length (lines_of bytes)
     pub counted : number ≡ index + 1
-    pub gives : IsSome (row_in format (slice_index_or (lines_of bytes) index [])) ⊎ IsSome (default_in format (slice_index_or (lines_of bytes) index []))
+    pub gives : IsSome (row_in format (slice_index_or (lines_of bytes) index []))
+        ⊎ IsSome (default_in format (slice_index_or (lines_of bytes) index []))
     pub before : IsLawfulBefore format (lines_of bytes) (index + 1)
 
   -- The value of a code point: that of the row that has it, else that of the last default that has it, else that of

@@ -61,8 +61,8 @@ pub data Says (defaults : Bool) (text : List ℕ) : Meaning → Type 0 where
   blank : IsBlank text → Says defaults text nothing
   comment : (before any : List ℕ) → text ≡ before ++ (35 ∷ any) → IsBlank before
       → (defaults ≡ true → (entry : Entry) → IsDefault any entry → ⊥) → Says defaults text nothing
-  row_line : (spelled rest : List ℕ) (entry : Entry) → text ≡ spelled ++ rest → IsEntry true spelled entry → IsComment rest
-      → Says defaults text (row entry)
+  row_line : (spelled rest : List ℕ) (entry : Entry) → text ≡ spelled ++ rest → IsEntry true spelled entry
+      → IsComment rest → Says defaults text (row entry)
   default_line : (before any : List ℕ) (entry : Entry) → defaults ≡ true → text ≡ before ++ (35 ∷ any) → IsBlank before
       → IsDefault any entry → Says defaults text (default entry)
 

@@ -17,7 +17,8 @@ pub record IsInOrder {V : Type 0} (rows : List (Row V)) : Type 0 where
 
 -- in the result a code point has its value in over, or else in under
 abbrev pub IsOverlay : {V : Type 0} → List (Row V) → List (Row V) → List (Row V) → Type 0
-IsOverlay under over result = (code : ℕ) → first_value code result ≡ option_or (first_value code over) (first_value code under)
+IsOverlay under over result = (code : ℕ)
+    → first_value code result ≡ option_or (first_value code over) (first_value code under)
 
 -- a code point is marked exactly if a row has it
 abbrev pub AreMarked : {V : Type 0} → List (Row V) → List ℕ → Type 0

@@ -5,7 +5,8 @@ ghost use Rattle.std.specs.Str.Parse.{AllDigits};
 ghost use Rattle.lbk_ucd.specs.Digests.{IsPublished};
 ghost use Rattle.lbk_ucd.specs.declared.published.Version.{Version};
 ghost use Rattle.lbk_ucd.specs.Published.{BeginsWithNumber, BeginsWithVersion, BeginsWithoutDigit, EndsVersion};
-ghost use Rattle.lbk_ucd.specs.Published.{IsClaimCause, IsNamedWrong, NamesVersion, name_before_version, words_before_version};
+ghost use Rattle.lbk_ucd.specs.Published.{IsClaimCause, IsNamedWrong, NamesVersion};
+ghost use Rattle.lbk_ucd.specs.Published.{name_before_version, words_before_version};
 
 use crate::digests::is_published;
 use crate::which::Which;

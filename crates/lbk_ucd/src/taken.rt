@@ -1,5 +1,6 @@
 //! The code points that rows have.
-ghost use Rattle.std.specs.Prelude.{◌≡◌, ◌+◌, ◌*◌, ◌^◌, ◌<◌, ◌≤◌, ◌⊎◌, ◌&&◌, ℕ, true, false, [], length, nat_le, OnErr, OnOk};
+ghost use Rattle.std.specs.Prelude.{◌≡◌, ◌+◌, ◌*◌, ◌^◌, ◌<◌, ◌≤◌, ◌⊎◌, ◌&&◌, ℕ, true, false, [], length};
+ghost use Rattle.std.specs.Prelude.{nat_le, OnErr, OnOk};
 ghost use Rattle.std.specs.List.{All};
 ghost use Rattle.lbk_masks.specs.Bits.{is_marked};
 ghost use Rattle.lbk_masks.specs.Sets.{is_set};

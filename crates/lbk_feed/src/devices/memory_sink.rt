@@ -72,7 +72,8 @@ impl MemorySink {
         ensures within { IfOk result (λ n. n ≤ length bytes.now) }
         ensures some { 0 < length bytes.now → IfOk result (λ n. 0 < n) }
         ensures size { IfOk result (λ n.
-            n ≡ min (min (length bytes.now) (most_in_a_write self.old)) (sink_room self.old - length (sink_bytes self.old))) }
+            n ≡ min (min (length bytes.now) (most_in_a_write self.old))
+                (sink_room self.old - length (sink_bytes self.old))) }
         ensures fails { IsErr result ↔ ((0 < length bytes.now) × (sink_room self.old ≤ length (sink_bytes self.old))) }
         ensures bytes { Puts (Some (sink_bytes self.old)) (Some (sink_bytes self.new)) result bytes.now }
         ensures room { sink_room self.new ≡ sink_room self.old }
@@ -108,7 +109,8 @@ impl Sink for MemorySink {
 
         ensures fails { IsErr result ↔ ((0 < length bytes.now) × (sink_room self.old ≤ length (sink_bytes self.old))) }
         ensures size { IfOk result (λ n.
-            n ≡ min (min (length bytes.now) (most_in_a_write self.old)) (sink_room self.old - length (sink_bytes self.old))) }
+            n ≡ min (min (length bytes.now) (most_in_a_write self.old))
+                (sink_room self.old - length (sink_bytes self.old))) }
         ensures room { sink_room self.new ≡ sink_room self.old }
         ensures most { most_in_a_write self.new ≡ most_in_a_write self.old }
     {
