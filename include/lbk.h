@@ -447,8 +447,8 @@ lbk_fed lbk_feed(const lbk_table *table, lbk_stream *stream, const char *piece, 
  * state moves to the first character after the covered offsets, so up to three bytes further. Bits of offsets that are
  * not covered are 0, with any table and state.
  *
- * For the rule of one offset, call lbk_breaks or lbk_positions with a state whose `at` is lbk_cut_before of the byte
- * before that offset. Ill-formed bytes, LBK_GOES_ON and the cases that return 0 (they clear the words, too) are as for
+ * For the rule of one offset, call lbk_breaks or lbk_positions with a state at the lbk_cut_before of the byte before
+ * that offset. Ill-formed bytes, LBK_GOES_ON and the cases that return 0 (they clear the words, too) are as for
  * lbk_breaks. Allocates nothing. */
 size_t lbk_marks(const lbk_table *table, lbk_state *state, const char *text, size_t size, uint64_t *words,
                  size_t count);

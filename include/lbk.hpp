@@ -959,7 +959,7 @@ private:
     call start_;
 };
 
-/// The breaks of a text that arrives in pieces, cut anywhere. It refers to its table, which has to outlive it. Copies are
+/// The breaks of a text that arrives in pieces, cut anywhere. It refers to its table; the table must outlive it. Copies are
 /// independent.
 class stream {
 public:

@@ -1,5 +1,5 @@
 #!/bin/sh
-# Installs what stands beside this file below a folder:
+# Installs the files next to this one below a folder:
 #
 #     ./install.sh PREFIX [LIBDIR]
 #

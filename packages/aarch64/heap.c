@@ -15,7 +15,7 @@ static block given(void *start)
     return start == NULL ? (block){0, &nothing} : (block){1, start};
 }
 
-/* A block of no bytes gets as many as its alignment, so that its place is its own. */
+/* An empty block gets as many bytes as its alignment, so that its address is unique. */
 block rattle_alloc(size_t size, size_t align)
 {
     return given(malloc(size == 0 ? align : size));

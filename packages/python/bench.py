@@ -1,5 +1,5 @@
 #!/usr/bin/env python3
-"""Measures the package beside the C call and PyICU's line iterator, in one run, and prints tables
+"""Measures the package, the C call and PyICU's line iterator in one run, and prints tables
 in Markdown:
 
     bench.py UNICODE_DATA LIBRARY TEXT..

@@ -28,7 +28,7 @@ fn by_pkg_config() -> Option<PathBuf> {
 }
 
 /// The folder of the library that the crate contains for the target, if there is one.
-fn beside() -> Option<PathBuf> {
+fn bundled() -> Option<PathBuf> {
     let crate_folder: PathBuf = env::var_os("CARGO_MANIFEST_DIR")?.into();
     let folder = crate_folder.join("lib").join(env::var_os("TARGET")?);
     if folder.is_dir() {
@@ -40,7 +40,7 @@ fn beside() -> Option<PathBuf> {
 
 fn main() {
     let named = variable("LBK_LIB_DIR").map(PathBuf::from);
-    let folder = named.or_else(beside).or_else(by_pkg_config).unwrap_or_else(|| {
+    let folder = named.or_else(bundled).or_else(by_pkg_config).unwrap_or_else(|| {
         eprintln!("there is no liblbk of version 0.1: install it, and name its folder in LBK_LIB_DIR, or that of lbk.pc in PKG_CONFIG_PATH");
         exit(1)
     });

@@ -1,8 +1,8 @@
 /* Line breaks under the names of libunibreak's public header, found by liblbk (UAX #14, Unicode 15.0).
  *
- * A program that was written for libunibreak is built against this header and linked to the library that
- * packages/unibreak/build makes, unchanged. The rules are those of the annex, with no tailoring: the argument for a language
- * is taken and not looked at. */
+ * A program written for libunibreak builds against this header, unchanged, and links the library that
+ * packages/unibreak/build makes. The rules are those of the annex, without tailorings: the argument for a language is
+ * ignored. */
 #ifndef LINEBREAK_H
 #define LINEBREAK_H
 
@@ -19,19 +19,19 @@ typedef unsigned short utf16_t;
 typedef unsigned int utf32_t;
 #endif
 
-/* What a mark says of the position after its unit. */
+/* What a mark says about the position after its unit. */
 #define LINEBREAK_MUSTBREAK 0     /* the line must end */
 #define LINEBREAK_ALLOWBREAK 1    /* it may end */
 #define LINEBREAK_NOBREAK 2       /* it does not end */
 #define LINEBREAK_INSIDEACHAR 3   /* the position is inside of a scalar, or of bytes that are read as one U+FFFD */
 #define LINEBREAK_INDETERMINATE 4 /* there is no table, so nothing is known */
 
-/* Maps the table's file, or reads its folder, once in a process; the first of the other calls does so too. Where there is no
- * whole table it writes one line to standard error, which names the file and says what to do, and all marks are
- * LINEBREAK_INDETERMINATE. Any number of threads may call at once. */
+/* Maps the table's file, or reads its folder, once per process; otherwise the first other call does it. Without an intact
+ * table it writes one line to standard error, which names the file and says what to do, and all marks are
+ * LINEBREAK_INDETERMINATE. Any number of threads may call at the same time. */
 void init_linebreak(void);
 
-/* Writes a mark for each of the `len` units of a text: what holds of the position after it. The last one is
+/* Writes a mark for each of the `len` units of a text, about the position after it. The last one is
  * LINEBREAK_MUSTBREAK, by rule 3. Ill-formed units are read as U+FFFD. */
 void set_linebreaks_utf8(const utf8_t *s, size_t len, const char *lang, char *brks);
 void set_linebreaks_utf16(const utf16_t *s, size_t len, const char *lang, char *brks);

@@ -13,7 +13,7 @@
 #include <sys/stat.h>
 #include <unistd.h>
 
-/* Where the table is: a file as examples/save_table.c writes it, or a folder of the Unicode Character Database. */
+/* The table: a file that examples/save_table.c wrote, or a folder of the Unicode Character Database. */
 #ifndef LBK_TABLE
 #error "name the table: -DLBK_TABLE='\"/usr/share/unicode\"'"
 #endif
@@ -34,7 +34,7 @@ static void complain(const char *path, const char *why, const char *remedy)
     fprintf(stderr, "linebreak: %s: %s: %s\n", path, why, remedy);
 }
 
-/* A whole file. Where it cannot be read, errno says why. */
+/* Reads a whole file. If it cannot be read, errno says why. */
 static bytes read_file(const char *path)
 {
     bytes file = {NULL, 0};
@@ -56,21 +56,21 @@ static bytes read_file(const char *path)
     return file;
 }
 
-/* A file of the folder, whose path is given back: where Unicode has it, or else beside the others. */
+/* Reads a file of the folder, in Unicode's layout or else next to the others, and returns its path. */
 static bytes find_file(const char *name, char path[PATH_SIZE])
 {
     const char *last = strrchr(name, '/');
     snprintf(path, PATH_SIZE, "%s/%s", LBK_TABLE, name);
     bytes file = read_file(path);
     if (file.at == NULL && errno == ENOENT && last != NULL) {
-        char beside[PATH_SIZE];
-        snprintf(beside, sizeof beside, "%s%s", LBK_TABLE, last);
-        file = read_file(beside);
+        char flat[PATH_SIZE];
+        snprintf(flat, sizeof flat, "%s%s", LBK_TABLE, last);
+        file = read_file(flat);
     }
     return file;
 }
 
-/* The table of four files of a folder, or NULL after a complaint. */
+/* The table of the four files of a folder, or NULL after an error message. */
 static const lbk_table *read_files(bytes *files)
 {
     static const char *const names[FILES] = {"LineBreak.txt", "EastAsianWidth.txt", "extracted/DerivedGeneralCategory.txt",
@@ -104,7 +104,7 @@ static const lbk_table *read_folder(void)
     return found;
 }
 
-/* The table that is a file of this size, or NULL after a complaint. */
+/* Maps a file of this size as a table; NULL after an error message. */
 static const lbk_table *map_file(int file, off_t size)
 {
     static const char remedy[] = "write it with examples/save_table.c of lbk " LBK_VERSION;
@@ -138,7 +138,7 @@ static void find_table(void)
 
 void init_linebreak(void) { pthread_once(&once, find_table); }
 
-/* Whether marks are to be set: there are some, and there is a table. Where there is none all marks say so. */
+/* Whether to set marks: there are some, and there is a table. Without a table, all marks say so. */
 static int is_known(char *brks, size_t len)
 {
     if (len == 0)
@@ -158,7 +158,7 @@ static void set_marks(const lbk_break *block, size_t count, char *brks)
             brks[block[k].at - 1] = marks[block[k].kind];
 }
 
-/* The marks of a text, of which a call gives some places: all else is `others`. */
+/* Sets the marks at the offsets that a call returns, and all others to `others`. */
 #define SET_LINEBREAKS(name, unit, others, call, number)                          \
     void name(const unit *s, size_t len, const char *lang, char *brks)            \
     {                                                                             \
@@ -175,7 +175,7 @@ static void set_marks(const lbk_break *block, size_t count, char *brks)
         } while (count == ROOM);                                                  \
     }
 
-/* Beside the positions there are places inside of scalars; in UTF-32 each place is a position. */
+/* UTF-8 and UTF-16 have offsets inside scalars, too; in UTF-32 each offset is a position. */
 SET_LINEBREAKS(set_linebreaks_utf8, utf8_t, LINEBREAK_INSIDEACHAR, lbk_positions, char)
 SET_LINEBREAKS(set_linebreaks_utf16, utf16_t, LINEBREAK_INSIDEACHAR, lbk_positions_utf16, uint16_t)
 SET_LINEBREAKS(set_linebreaks_utf32, utf32_t, LINEBREAK_NOBREAK, lbk_breaks_utf32, uint32_t)

@@ -1,4 +1,4 @@
-// Chunks, beside their definition as it reads. LBK_TABLE names a table of Unicode 15.0 that save_table wrote, and LBK_UNICODE the
+// Chunks, compared with a literal form of their definition. LBK_TABLE names a table of Unicode 15.0 that save_table wrote, and LBK_UNICODE the
 // folder of its files.
 import assert from "node:assert/strict";
 import { readFileSync } from "node:fs";

@@ -26,7 +26,7 @@ function entryOf(name, at) {
   return { local: Buffer.concat([local, Buffer.from(name), bytes]), row: Buffer.concat([row, Buffer.from(name)]) };
 }
 
-/** An archive of files, each of which has its own name in it. */
+/** An archive of files, each under its own name. */
 function archiveOf(names) {
   const [locals, rows] = [[], []];
   let at = 0;

@@ -20,7 +20,7 @@ function randomString(most) {
   return Array.from({ length: below(most) }, () => PIECES[below(PIECES.length)]).join("");
 }
 
-/** A string or bytes, of which some are ill-formed. */
+/** A string or bytes, some of them ill-formed. */
 function randomText(most) {
   const string = randomString(most);
   if (below(2)) return string;
@@ -53,7 +53,7 @@ test("a break comes with the piece that settles it", () => {
   assert.deepEqual(stream.finish(), [{ at: 13, kind: "must", rule: "3" }]);
 });
 
-test("two streams of a table, and other calls, go on by themselves", () => {
+test("two streams of a table, and other calls, are independent", () => {
   const [one, two] = [new Stream(table), new Stream(table, { profile: 2 })];
   const found = [[], []];
   const text = "a « b » c\nd ".repeat(300);

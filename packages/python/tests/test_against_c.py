@@ -1,4 +1,4 @@
-"""Each call beside lbk_breaks of the shared library that LBK_LIBRARY names."""
+"""Each call compared with lbk_breaks of the shared library that LBK_LIBRARY names."""
 
 import ctypes
 import os

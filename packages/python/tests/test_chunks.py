@@ -1,4 +1,4 @@
-"""Chunks, beside their definition as it reads."""
+"""Chunks, compared with a literal form of their definition."""
 
 import copy
 import pickle
@@ -74,7 +74,7 @@ class Chunks(unittest.TestCase):
         cls.table = Table.load(samples.PUBLISHED)
 
     def random_text(self, chance):
-        """A str, or bytes, of which some are ill-formed."""
+        """A str, or bytes, some of them ill-formed."""
         text = "".join(chance.choices(PIECES, k=chance.choice((0, 1, 3, 10, 40))))
         return text if chance.random() < 0.5 else text.encode("utf-8", chance.choice(("replace", "surrogatepass")))[chance.randrange(3):]
 

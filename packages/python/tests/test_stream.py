@@ -12,7 +12,7 @@ from lbk import Break, Kind, Rule, Stream
 
 
 def pieces_of(chance, text, count):
-    """The text cut at random places, of which some may be the same."""
+    """The text cut at random offsets; some may be equal."""
     places = sorted(chance.randrange(len(text) + 1) for _ in range(count))
     return [text[a:b] for a, b in zip([0, *places], [*places, len(text)])]
 

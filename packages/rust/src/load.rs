@@ -58,9 +58,9 @@ fn read(folder: &Path, below: &str, name: &str) -> Result<(PathBuf, Vec<u8>), Lo
         Err(error) => error,
     };
     if error.kind() == io::ErrorKind::NotFound && !below.is_empty() {
-        let beside = folder.join(name);
-        if let Ok(bytes) = fs::read(&beside) {
-            return Ok((beside, bytes));
+        let flat = folder.join(name);
+        if let Ok(bytes) = fs::read(&flat) {
+            return Ok((flat, bytes));
         }
     }
     Err(LoadError::Unreadable(path, error))

@@ -1,4 +1,4 @@
-//! Chunks, beside their definition as it reads.
+//! Chunks, compared with a literal form of their definition.
 
 use lbk::{Files, Kind, LimitError, Limits, Profile, Table};
 

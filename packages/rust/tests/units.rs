@@ -1,4 +1,4 @@
-//! Breaks and positions of a text in UTF-16 and UTF-32, beside those of the same text in UTF-8.
+//! Breaks and positions of a text in UTF-16 and UTF-32, compared with those of the same text in UTF-8.
 
 use lbk::{Break, Files, Kind, Position, Profile, Table};
 

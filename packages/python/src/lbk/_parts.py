@@ -175,7 +175,7 @@ def read_part(part: Part, errors: Errors = "replace") -> memoryview:
 
 
 def _columns(data: memoryview, part: Part, table: Table, profile: int, start: int) -> tuple[Any, Any, Any]:
-    """The breaks of a part's bytes, whose first byte has the offset `start`."""
+    """The breaks of a part's bytes; the first byte has the offset `start`."""
     places, kinds, rules = table.break_columns(data, profile, goes_on=not part.is_last, start=start)
     return np.frombuffer(places, np.int64), np.frombuffer(kinds, np.uint8), np.frombuffer(rules, np.uint8)
 
