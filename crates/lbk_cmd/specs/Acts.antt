@@ -47,10 +47,12 @@ use Rattle.lbk_cmd.specs.Operands.{Reads, ReadsAlone, Standing}
 use Rattle.lbk_cmd.specs.Ending.{ending_of_files, ending_of_replay, ending_of_stop, ending_of_text}
 
 -- what the engines over texts do, which differ only in what they write: to the devices, with the result
-pub record TextRuns (Written : List ℕ → Option (List ℕ) → Option (List ℕ) → Type 0) (engine : Writing) (before after : Devices) (answer : Result (Unit {0}) CmdFault) : Type 0 where
+pub record TextRuns (Written : List ℕ → Option (List ℕ) → Option (List ℕ) → Type 0) (engine : Writing)
+    (before after : Devices) (answer : Result (Unit {0}) CmdFault) : Type 0 where
   pub shown : OnOk answer (IfSome before.unread (λ input. IsUtf8 input × Written input before.written after.written))
   pub ended : OnOk answer (IsTrue after.has_ended × IsAtEnd after.unread)
-  pub run : Ran (is_failed_read answer) before.unread after.unread before.written after.written (IsRun engine before.reads after.reads after.has_ended answer)
+  pub run : Ran (is_failed_read answer) before.unread after.unread before.written after.written
+      (IsRun engine before.reads after.reads after.has_ended answer)
   pub reads : after.reads.count ≤ before.reads.count + (longest_text + 1)
   pub limit : IsErrOf answer (CmdFault.Passage PassageFault.Limit) ↔ (¬ (IsLimit engine.limit))
   pub failed_reads : after.failed_reads ≡ failed_reads_with before.failed_reads answer
@@ -59,29 +61,35 @@ pub record TextRuns (Written : List ℕ → Option (List ℕ) → Option (List �
 -- the same, by the lines written for each passage
 abbrev pub Writes : Lines → (ℕ → Cell) → ℕ → Profile → Devices → Devices → Result (Unit {0}) CmdFault → Type 0
 Writes lines cell limit profile =
-    TextRuns (λ input before after. Appends before after (lines_from (lines_of lines cell) 0 (passages profile cell (chars input))))
+    TextRuns (λ input before after. Appends before after
+        (lines_from (lines_of lines cell) 0 (passages profile cell (chars input))))
     (by_passage (engine_of lines cell profile limit))
 
 abbrev pub Marks : List ℕ → (ℕ → Cell) → ℕ → Profile → Devices → Devices → Result (Unit {0}) CmdFault → Type 0
 Marks mark cell limit profile =
-    TextRuns (λ input before after. Appends before after (signed_text mark cell (passages profile cell (chars input)))) (by_passage (marking mark cell profile limit))
+    TextRuns (λ input before after. Appends before after (signed_text mark cell (passages profile cell (chars input))))
+        (by_passage (marking mark cell profile limit))
 
 abbrev pub Shows : (ℕ → Cell) → ℕ → Profile → Devices → Devices → Result (Unit {0}) CmdFault → Type 0
 Shows cell limit profile =
-    TextRuns (λ input before after. Appends before after (show_text (passages profile cell (chars input)))) (by_passage (showing cell profile limit))
+    TextRuns (λ input before after. Appends before after (show_text (passages profile cell (chars input))))
+        (by_passage (showing cell profile limit))
 
 abbrev pub Segments : (ℕ → Cell) → ℕ → Profile → Devices → Devices → Result (Unit {0}) CmdFault → Type 0
 Segments cell limit profile =
-    TextRuns (λ input before after. Appends before after (segment_text cell (passages profile cell (chars input)))) (by_passage (segmenting cell profile limit))
+    TextRuns (λ input before after. Appends before after (segment_text cell (passages profile cell (chars input))))
+        (by_passage (segmenting cell profile limit))
 
 -- `chunk`, as the task asks for it
 abbrev pub Chunks : Asked → Limits → (ℕ → Cell) → ℕ → Profile → Devices → Devices → Result (Unit {0}) CmdFault → Type 0
 Chunks asked limits cell limit profile =
-    TextRuns (λ input before after. (out : List ℕ) × AreLinesOf asked limits cell (passages profile cell (chars input)) out × Appends before after out)
+    TextRuns (λ input before after. (out : List ℕ)
+        × AreLinesOf asked limits cell (passages profile cell (chars input)) out × Appends before after out)
     (chunking asked limits cell profile limit)
 
 -- what `replay` does
-pub record Replays (cell : ℕ → Cell) (form : Form) (profile : Profile) (before after : Devices) (answer : Result Report ReplayFault) : Type 0 where
+pub record Replays (cell : ℕ → Cell) (form : Form) (profile : Profile) (before after : Devices)
+    (answer : Result Report ReplayFault) : Type 0 where
   pub replayed : IfOk answer (λ report. IfSome before.unread (λ input.
       IsReplayed cell form profile input report before.written after.written))
   pub run : Ran (is_read_fault answer) before.unread after.unread before.written after.written
@@ -105,25 +113,31 @@ abbrev pub ShowsSamples : Devices → Devices → Ending → Type 0
 ShowsSamples before after ending =
     ((fault : CellsFault) × IsSampleFault fault × (ending ≡ ending_of_files fault) × (after ≡ before))
     ⊎ ((cell : ℕ → Cell) × AreSampleCells cell
-    × ((answer : Result (Unit {0}) CmdFault) × Shows cell default_limit First before after answer × (ending ≡ ending_of_text answer)))
+    × ((answer : Result (Unit {0}) CmdFault) × Shows cell default_limit First before after answer
+        × (ending ≡ ending_of_text answer)))
 
 -- `chunk` runs, and the run ends as its result says
 abbrev pub ChunksEnd : Asked → Limits → (ℕ → Cell) → ℕ → Profile → Devices → Devices → Ending → Type 0
 ChunksEnd asked limits cell limit profile before after ending =
-    (answer : Result (Unit {0}) CmdFault) × Chunks asked limits cell limit profile before after answer × (ending ≡ ending_of_text answer)
+    (answer : Result (Unit {0}) CmdFault) × Chunks asked limits cell limit profile before after answer
+        × (ending ≡ ending_of_text answer)
 
 -- the engine runs with its option, `mark` with this sign, and the run ends as its result says
 abbrev pub EngineRuns : Engine → List ℕ → Profile → (ℕ → Cell) → Devices → Devices → Ending → Type 0
 EngineRuns (Mark limit) mark profile cell before after ending =
-    (answer : Result (Unit {0}) CmdFault) × Marks mark cell limit profile before after answer × (ending ≡ ending_of_text answer)
+    (answer : Result (Unit {0}) CmdFault) × Marks mark cell limit profile before after answer
+        × (ending ≡ ending_of_text answer)
 EngineRuns (Show limit) mark profile cell before after ending =
-    (answer : Result (Unit {0}) CmdFault) × Shows cell limit profile before after answer × (ending ≡ ending_of_text answer)
+    (answer : Result (Unit {0}) CmdFault) × Shows cell limit profile before after answer
+        × (ending ≡ ending_of_text answer)
 EngineRuns (Segment limit) mark profile cell before after ending =
-    (answer : Result (Unit {0}) CmdFault) × Segments cell limit profile before after answer × (ending ≡ ending_of_text answer)
+    (answer : Result (Unit {0}) CmdFault) × Segments cell limit profile before after answer
+        × (ending ≡ ending_of_text answer)
 EngineRuns (Chunk limit sizes texts) mark profile cell before after ending =
     ChunksEnd (record { range = None; texts = texts }) (limits_of sizes) cell limit profile before after ending
 EngineRuns (Replay kinds) mark profile cell before after ending =
-    (answer : Result Report ReplayFault) × Replays cell (form_of kinds) profile before after answer × (ending ≡ ending_of_replay answer)
+    (answer : Result Report ReplayFault) × Replays cell (form_of kinds) profile before after answer
+        × (ending ≡ ending_of_replay answer)
 
 -- an engine writes the passages of a range, and the run ends as its result says
 abbrev pub RangeEnds : Part → TextEngine → Devices → Devices → Ending → Type 0
@@ -151,15 +165,18 @@ RunsReady ready =
 
 -- a task: its files stop the run and no text is opened, or its engine runs with its options and profile and the cells
 -- of the files, over its texts, or over its range of each
-abbrev pub Performs : {F : Type 0} → SourceMembers F → (List ℕ → Option (Option (List ℕ))) → (List ℕ → Option (Option (List ℕ))) → Task
+abbrev pub Performs : {F : Type 0} → SourceMembers F → (List ℕ → Option (Option (List ℕ)))
+    → (List ℕ → Option (Option (List ℕ))) → Task
     → LoadCounts → LoadCounts → Standing → Standing → Type 0
 Performs source file text task counts counts' before after =
-    (StopsBefore (IsStoppedAt file task counts counts') before.devices after.devices after.ending × (after.refused ≡ before.refused))
+    (StopsBefore (IsStoppedAt file task counts counts') before.devices after.devices after.ending
+        × (after.refused ≡ before.refused))
     ⊎ ((cell : ℕ → Cell) × AreCellsFrom (files_of file task.files) cell
     × Reads source text (RunsTask task cell) task.texts before after)
 
 -- a task, if no texts can be opened
-abbrev pub PerformsAlone : (List ℕ → Option (Option (List ℕ))) → Task → LoadCounts → LoadCounts → Devices → Devices → Ending → Type 0
+abbrev pub PerformsAlone : (List ℕ → Option (Option (List ℕ))) → Task → LoadCounts → LoadCounts → Devices → Devices
+    → Ending → Type 0
 PerformsAlone file task counts counts' before after ending =
     StopsBefore (IsStoppedAt file task counts counts') before after ending
     ⊎ ((cell : ℕ → Cell) × AreCellsFrom (files_of file task.files) cell

@@ -38,7 +38,8 @@ pub record IsBroken (files : Files) (profile : Profile) (unread : Option (List �
 
 -- `show` with cells of the files has this result
 abbrev pub ShowsBy : Files → ℕ → Profile → Devices → Devices → Result (Unit {0}) CmdFault → Type 0
-ShowsBy files limit profile before after answer = (cell : ℕ → Cell) × AreCellsOf files cell × Shows cell limit profile before after answer
+ShowsBy files limit profile before after answer = (cell : ℕ → Cell) × AreCellsOf files cell
+    × Shows cell limit profile before after answer
 
 -- the files are refused, and nothing is read; or `show` stops by their cells
 abbrev pub IsBreakFault : Files → ℕ → Profile → Devices → Devices → BreakFault → Type 0
@@ -58,4 +59,5 @@ ShowStops cell limit profile before after fault = Shows cell limit profile befor
 abbrev pub IsLinesFault : Files → ℕ → Profile → Devices → Devices → BreakFault → Type 0
 IsLinesFault files limit profile before after (files_fault fault) = IsCellsRefusal files fault × (after ≡ before)
 IsLinesFault files limit profile before after (text_fault fault) = (cell : ℕ → Cell) × AreCellsOf files cell
-    × (ShowStops cell limit profile before after fault ⊎ ((fault ≡ Memory) × Shows cell limit profile before after (Ok tt)))
+    × (ShowStops cell limit profile before after fault
+        ⊎ ((fault ≡ Memory) × Shows cell limit profile before after (Ok tt)))

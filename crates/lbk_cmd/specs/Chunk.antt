@@ -25,7 +25,8 @@ use Rattle.lbk_cmd.specs.declared.chunked.Asked.{Asked}
 -- C, a chunk's start and end, its number of words, and the kind and the rule at its end
 abbrev pub chunk_line : Chunk → List ℕ
 chunk_line c = part (codes "C") c.start c.end
-    ++ (32 ∷ (decimal c.words ++ (32 ∷ (kind_name (kind_numbered c.kind) ++ (32 ∷ (label_of (rule_numbered c.rule) ++ 10 ∷ []))))))
+    ++ (32 ∷ (decimal c.words
+        ++ (32 ∷ (kind_name (kind_numbered c.kind) ++ (32 ∷ (label_of (rule_numbered c.rule) ++ 10 ∷ []))))))
 
 -- an object with a chunk's start and end, its number of words, and this text
 abbrev pub object_of : List ℕ → Chunk → List Token
@@ -61,7 +62,8 @@ chunk_lines asked text chunks = flat_map (asked_line asked text) chunks
 abbrev pub lines_by_ranges : Bool → List ℕ → ℕ → List ℕ → List Chunk → List ℕ
 lines_by_ranges texts text from [] chunks = []
 lines_by_ranges texts text from (to ∷ tos) chunks =
-    chunk_lines (record { range = Some (record { from = from; to = to }); texts = texts }) text chunks ++ lines_by_ranges texts text to tos chunks
+    chunk_lines (record { range = Some (record { from = from; to = to }); texts = texts }) text chunks
+        ++ lines_by_ranges texts text to tos chunks
 
 -- the lines of the chunks of a text with these passages, and of the chunks that its first passages settle
 abbrev pub AreLinesOf : Asked → Limits → (ℕ → Cell) → List (List Marked) → List ℕ → Type 0

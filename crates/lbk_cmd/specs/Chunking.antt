@@ -39,7 +39,8 @@ pub record StandsIn (asked : Asked) (text : List ℕ) (w : Window) : Type 0 wher
   pub between : AreCutsBetween (here_in w).start (cuts_in w) (length text)
 
 -- a window returned chunks of a text; their lines are buffered or were written
-pub record Gave (asked : Asked) (text : List ℕ) (is_whole : Bool) (old new : Window) (written written' : Option (List ℕ)) (waiting waiting' : List ℕ) : Type 0 where
+pub record Gave (asked : Asked) (text : List ℕ) (is_whole : Bool) (old new : Window)
+    (written written' : Option (List ℕ)) (waiting waiting' : List ℕ) : Type 0 where
   pub limits : limits_in new ≡ limits_in old
   pub words : words_in new ≡ words_in old
   pub chunks : List Chunk
@@ -55,18 +56,23 @@ Rests true w = cuts_past (here_in w).told (cuts_in w) ≡ []
 Rests false w = IsOpen (limits_in w) (here_in w) (cuts_in w)
 
 -- a write failed: a prefix of the buffered lines and of those of all settled chunks was written
-pub record BreaksOff (asked : Asked) (text : List ℕ) (is_whole : Bool) (old : Window) (written written' : Option (List ℕ)) (waiting : List ℕ) : Type 0 where
+pub record BreaksOff (asked : Asked) (text : List ℕ) (is_whole : Bool) (old : Window)
+    (written written' : Option (List ℕ)) (waiting : List ℕ) : Type 0 where
   pub chunks : List Chunk
   pub all : SettleAll (limits_in old) is_whole (here_in old) (cuts_in old) chunks
   pub count : ℕ
   pub wrote : Appends written written' (take count (waiting ++ chunk_lines asked text chunks))
 
 -- the buffered lines were written, and those of all chunks that are left
-pub record WritesAll (asked : Asked) (text : List ℕ) (old : Window) (written written' : Option (List ℕ)) (waiting : List ℕ) : Type 0 where
+pub record WritesAll (asked : Asked) (text : List ℕ) (old : Window) (written written' : Option (List ℕ))
+    (waiting : List ℕ) : Type 0 where
   pub chunks : List Chunk
   pub all : SettleAll (limits_in old) true (here_in old) (cuts_in old) chunks
   pub wrote : Appends written written' (waiting ++ chunk_lines asked text chunks)
 
-abbrev pub Gives : {X Y : Type 0} → Asked → List ℕ → Bool → Window → Window → Option (List ℕ) → Option (List ℕ) → List ℕ → List ℕ → Result X Y → Type 0
-Gives asked text is_whole old new written written' waiting waiting' (Ok x) = Gave asked text is_whole old new written written' waiting waiting' × Rests is_whole new
-Gives asked text is_whole old new written written' waiting waiting' (Err y) = BreaksOff asked text is_whole old written written' waiting
+abbrev pub Gives : {X Y : Type 0} → Asked → List ℕ → Bool → Window → Window → Option (List ℕ) → Option (List ℕ)
+    → List ℕ → List ℕ → Result X Y → Type 0
+Gives asked text is_whole old new written written' waiting waiting' (Ok x) =
+    Gave asked text is_whole old new written written' waiting waiting' × Rests is_whole new
+Gives asked text is_whole old new written written' waiting waiting' (Err y) =
+    BreaksOff asked text is_whole old written written' waiting

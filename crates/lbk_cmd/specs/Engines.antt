@@ -17,7 +17,8 @@ marking mark cell profile limit =
 
 -- that of `show`
 abbrev pub showing : (ℕ → Cell) → Profile → ℕ → Engine
-showing cell profile limit = record { lines = λ start ms. shown_passage ms; cell = cell; profile = profile; limit = limit }
+showing cell profile limit =
+    record { lines = λ start ms. shown_passage ms; cell = cell; profile = profile; limit = limit }
 
 -- that of `segment`
 abbrev pub segmenting : (ℕ → Cell) → Profile → ℕ → Engine
@@ -30,4 +31,5 @@ lines_of Shown cell start ms = shown_passage ms
 lines_of Segmented cell start ms = segmented_passage cell start ms
 
 abbrev pub engine_of : Lines → (ℕ → Cell) → Profile → ℕ → Engine
-engine_of lines cell profile limit = record { lines = lines_of lines cell; cell = cell; profile = profile; limit = limit }
+engine_of lines cell profile limit =
+    record { lines = lines_of lines cell; cell = cell; profile = profile; limit = limit }

@@ -18,16 +18,19 @@ HasWritten written written' before after = (after ≡ []) × Appends written wri
 
 -- the lines of the passage that a segmenter lent were appended to the buffer, if one was lent and memory could grow for
 -- them; `at` is then the offset after it
-abbrev pub Puts : Engine → State → Result (Option LentPassage) PassageFault → List ℕ → List ℕ → ℕ → Result Bool CmdFault → Type 0
+abbrev pub Puts : Engine → State → Result (Option LentPassage) PassageFault → List ℕ → List ℕ → ℕ
+    → Result Bool CmdFault → Type 0
 Puts e s (Ok None) before after at answer = (answer ≡ Ok false) × (after ≡ before)
 Puts e s (Ok (Some p)) before after at answer =
     ((answer ≡ Ok true) × (at ≡ p.start + length p.text.now)
-    × ((ms : List Marked) → s.cell ≡ e.cell → s.profile ≡ e.profile → IsPassage s ms p → after ≡ before ++ e.lines p.start ms))
+    × ((ms : List Marked) → s.cell ≡ e.cell → s.profile ≡ e.profile → IsPassage s ms p → after ≡ before
+        ++ e.lines p.start ms))
     ⊎ ((answer ≡ Err Memory) × (after ≡ before))
 Puts e s (Err why) before after at answer = (answer ≡ Err (Passage why)) × (after ≡ before)
 
 -- the state after a call that appends the lines of the next passage to the buffer, by what a segmenter would lend
-pub record PutsNext (e : Engine) (old new : State) (unread unread' : Option (List ℕ)) (ended ended' : Bool) (reads reads' : Reads) (failures failures' : ℕ)
+pub record PutsNext (e : Engine) (old new : State) (unread unread' : Option (List ℕ)) (ended ended' : Bool)
+    (reads reads' : Reads) (failures failures' : ℕ)
     (before after : List ℕ) (at : ℕ) (answer : Result Bool CmdFault) : Type 0 where
   pub lent : Result (Option LentPassage) PassageFault
   pub next : AfterNext old new unread unread' ended ended' reads reads' lent

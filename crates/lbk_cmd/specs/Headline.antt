@@ -14,12 +14,14 @@ use Rattle.lbk_cmd.specs.Show.{verdicts_of}
 
 -- the line written for a passage means its scalars and marks
 abbrev pub IsReadBack : List Marked → Type 0
-IsReadBack ms = IsLine Kinds (passage_line (scalars_of ms) (verdicts_of ms)) (Some (passage_marks (scalars_of ms) (verdicts_of ms)))
+IsReadBack ms = IsLine Kinds (passage_line (scalars_of ms) (verdicts_of ms))
+    (Some (passage_marks (scalars_of ms) (verdicts_of ms)))
 
 -- the passages, joined, are the text; their marks, joined, are those that the rule list gives on the whole text, by the
 -- cells of four property files; a line must end after the last mark of each, and after no other; their segments end at
 -- the breaks of the whole text; and the line written for each means its scalars and marks
-pub record ArePassagesOf (files : Files) (profile : Profile) (text : List ℕ) (passages : List (List Marked)) : Type 0 where
+pub record ArePassagesOf (files : Files) (profile : Profile) (text : List ℕ)
+    (passages : List (List Marked)) : Type 0 where
   pub joined : flat_map scalars_of passages ≡ text
   pub marked : flat_map (λ ms. ms) passages ≡ marks profile (cell_of_files files) text
   pub cut : AllByRecursion EndsOnce passages

@@ -24,7 +24,8 @@ is_line_end cell = (BK or CR or LF or NL) cell.class
 
 -- LF, if the last scalar is no line end
 abbrev pub missing_line_end : (ℕ → Cell) → List ℕ → List ℕ
-missing_line_end cell scalars = if option_map_or (λ c. is_line_end (cell c)) (last_or None scalars) false then [] else 10 ∷ []
+missing_line_end cell scalars = if option_map_or (λ c. is_line_end (cell c)) (last_or None scalars) false then []
+    else 10 ∷ []
 
 -- the text of a passage with its signs; a passage without a line end, perhaps the last of a text, gets one
 abbrev pub signed_passage : List ℕ → (ℕ → Cell) → List Marked → List ℕ

@@ -106,7 +106,8 @@ limit_of (Words engine files) = limit_of_engine engine
 
 -- the greatest limit cannot be raised
 abbrev pub rest_of_limit : ℕ → List ℕ
-rest_of_limit limit = if nat_lt limit greatest_limit then codes " bytes; --limit raises the limit, up to " ++ decimal greatest_limit
+rest_of_limit limit = if nat_lt limit greatest_limit
+    then codes " bytes; --limit raises the limit, up to " ++ decimal greatest_limit
     else codes " bytes, the greatest limit"
 
 abbrev pub than_limit : Option ℕ → List ℕ
@@ -115,7 +116,8 @@ than_limit (Some limit) = codes "than " ++ (decimal limit ++ rest_of_limit limit
 
 abbrev pub invalid_text : Bool → List ℕ
 invalid_text is_utf16 =
-    if is_utf16 then codes "invalid UTF-8; it begins as UTF-16 does: iconv -f UTF-16 -t UTF-8 makes UTF-8 of it" else codes "invalid UTF-8"
+    if is_utf16 then codes "invalid UTF-8; it begins as UTF-16 does: iconv -f UTF-16 -t UTF-8 makes UTF-8 of it"
+        else codes "invalid UTF-8"
 
 -- what failed, that it failed, and why
 abbrev pub failed_text : List ℕ → List ℕ → Option Reason → Option (List ℕ)
@@ -134,10 +136,12 @@ abbrev pub not_utf8_text : Message → ℕ → List ℕ
 not_utf8_text m at = at_byte m at ++ invalid_text m.is_utf16
 
 abbrev pub paragraph_text : Message → ℕ → List ℕ
-paragraph_text m start = at_byte m start ++ (codes "the paragraph from here on has more " ++ than_limit (limit_of m.caller))
+paragraph_text m start = at_byte m start
+    ++ (codes "the paragraph from here on has more " ++ than_limit (limit_of m.caller))
 
 abbrev pub passage_text : Message → PassageFault → Option (List ℕ)
-passage_text m passage.Limit = Some (codes "the limit of a paragraph is 1 to " ++ (decimal greatest_limit ++ codes " bytes"))
+passage_text m passage.Limit =
+    Some (codes "the limit of a paragraph is 1 to " ++ (decimal greatest_limit ++ codes " bytes"))
 passage_text m passage.Memory = Some (codes "out of memory")
 passage_text m passage.Read = unread_text m
 passage_text m (passage.NotUtf8 at) = Some (not_utf8_text m at)
@@ -174,7 +178,8 @@ unloaded_text m which = Some (fault_text (cells.Load which) (file_text m.caller 
     ++? (why_text m.reason ++? Some (advice_of_load m.caller which))
 
 abbrev pub unpublished_text : Message → Which → ClaimCause → List ℕ
-unpublished_text m which cause = fault_text (cells.Claim which cause) (file_text m.caller which) ++ advice m.caller which cause
+unpublished_text m which cause = fault_text (cells.Claim which cause) (file_text m.caller which)
+    ++ advice m.caller which cause
 
 -- the line of a fault
 abbrev pub text_of_fault : Message → RunFault → Option (List ℕ)

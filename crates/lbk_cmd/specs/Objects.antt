@@ -5,4 +5,5 @@ use Rattle.lbk_chunks.specs.declared.chunk.Chunk.{Chunk}
 -- the object up to its text
 abbrev pub front_of_object : Chunk → List ℕ
 front_of_object c =
-    codes "{\"start\":" ++ (decimal c.start ++ (codes ",\"end\":" ++ (decimal c.end ++ (codes ",\"words\":" ++ (decimal c.words ++ codes ",\"text\":\"")))))
+    codes "{\"start\":" ++ (decimal c.start
+        ++ (codes ",\"end\":" ++ (decimal c.end ++ (codes ",\"words\":" ++ (decimal c.words ++ codes ",\"text\":\"")))))

@@ -37,7 +37,8 @@ over_file source file devices = record {
 -- the run reads a file instead of its reader, which stays as it was: from the file as it was opened, with all bytes
 -- unread, if these are told, to the file as the run left it. Both are values of the type of files; generic code gets
 -- these only by opening a file and by reading it
-pub record ReadsFile {F : Type 0} (source : SourceMembers F) (told : Option (Option (List ℕ))) (Runs : Devices → Devices → Ending → Type 0)
+pub record ReadsFile {F : Type 0} (source : SourceMembers F) (told : Option (Option (List ℕ)))
+    (Runs : Devices → Devices → Ending → Type 0)
     (before after : Devices) (ending : Ending) : Type 0 where
   pub opened : F
   pub left : F
@@ -54,7 +55,8 @@ pub record IsUnopened (told : Option (Option (List ℕ))) (before after : Device
 abbrev pub ReadsText : {F : Type 0} → SourceMembers F → (List ℕ → Option (Option (List ℕ)))
     → (List ℕ → Devices → Devices → Ending → Type 0) → List ℕ → Devices → Devices → Ending → Type 0
 ReadsText source told Runs name before after ending = ((name ≡ codes "-") × Runs name before after ending)
-    ⊎ ((name ≢ codes "-") × (IsUnopened (told name) before after ending ⊎ ReadsFile source (told name) (Runs name) before after ending))
+    ⊎ ((name ≢ codes "-") × (IsUnopened (told name) before after ending
+        ⊎ ReadsFile source (told name) (Runs name) before after ending))
 
 -- what was refused, after a text that ended so
 abbrev pub refused_after : Refusals → List ℕ → Ending → Refusals
@@ -88,7 +90,8 @@ ReadsNoFile Runs name before after ending = ((name ≡ codes "-") × Runs name b
     ⊎ ((name ≢ codes "-") × IsUnopened (Some None) before after ending)
 
 -- the run's reader if no text is named, else the texts, none of which can be opened
-abbrev pub ReadsAlone : (List ℕ → Devices → Devices → Ending → Type 0) → List (List ℕ) → Devices → Devices → Ending → Type 0
+abbrev pub ReadsAlone : (List ℕ → Devices → Devices → Ending → Type 0) → List (List ℕ) → Devices → Devices → Ending
+    → Type 0
 ReadsAlone Runs [] before after ending = Runs (codes "-") before after ending
 ReadsAlone Runs (name ∷ names) before after ending =
     ReadsEach (ReadsNoFile Runs) (name ∷ names) (standing before None Done) (standing after None ending)

@@ -64,4 +64,5 @@ pub record AreOwned (profile : Profile) (cell : ℕ → Cell) (unread : Option (
 -- the same with the cells of four property files; the main theorem holds for these passages
 pub record AreRead (files : Files) (profile : Profile) (unread : Option (List ℕ)) (list : List Owned) : Type 0 where
   pub owned : AreOwned profile (cell_of_files files) unread list
-  pub promised : ArePassagesOf files profile (chars owned.bytes) (passages profile (cell_of_files files) (chars owned.bytes))
+  pub promised : ArePassagesOf files profile (chars owned.bytes)
+      (passages profile (cell_of_files files) (chars owned.bytes))

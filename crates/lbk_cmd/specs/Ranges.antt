@@ -42,7 +42,8 @@ text_within lines from to passages = lines_from (lines_within (record { from = f
 -- of them, whether none ends before it begins, and where the last ends
 abbrev pub text_by_ranges : (ℕ → List Marked → List ℕ) → ℕ → List ℕ → List (List Marked) → List ℕ
 text_by_ranges lines from [] passages = []
-text_by_ranges lines from (to ∷ tos) passages = text_within lines from to passages ++ text_by_ranges lines to tos passages
+text_by_ranges lines from (to ∷ tos) passages = text_within lines from to passages
+    ++ text_by_ranges lines to tos passages
 
 abbrev pub AreRanges : ℕ → List ℕ → Type 0
 AreRanges from [] = ⊤
@@ -63,7 +64,8 @@ pub record HasPassed (e : Writing) (to : ℕ) (bytes out : List ℕ) : Type 0 wh
   pub reaches : to ≤ next_start settled
 
 -- a fault of the reader or of the text is in a passage that begins before byte `to`
-pub record IsRefusedBefore (e : Writing) (to : ℕ) (why : PassageFault) (ended : Bool) (bytes out : List ℕ) : Type 0 where
+pub record IsRefusedBefore (e : Writing) (to : ℕ) (why : PassageFault) (ended : Bool)
+    (bytes out : List ℕ) : Type 0 where
   pub refused : IsRefused e why ended bytes out
   pub begins : next_start refused.settled < to
 
@@ -79,7 +81,8 @@ pub record IsHeldUpWithin (e : Writing) (from to : ℕ) (ended : Bool) (bytes ou
 abbrev pub RangeComesTo : {X : Type 0} → Writing → ℕ → ℕ → Bool → Type 0 → Result X CmdFault → List ℕ → List ℕ → Type 0
 RangeComesTo e from to ended AtEnd (Ok x) bytes out = (AtEnd × IsWhole e bytes out) ⊎ HasPassed e to bytes out
 RangeComesTo e from to ended AtEnd (Err (Passage passage.Limit)) bytes out = (bytes ≡ []) × (out ≡ [])
-RangeComesTo e from to ended AtEnd (Err (Passage passage.Memory)) bytes out = ((bytes ≡ []) × (out ≡ [])) ⊎ IsHeldUpWithin e from to ended bytes out
+RangeComesTo e from to ended AtEnd (Err (Passage passage.Memory)) bytes out = ((bytes ≡ []) × (out ≡ []))
+    ⊎ IsHeldUpWithin e from to ended bytes out
 RangeComesTo e from to ended AtEnd (Err (Passage why)) bytes out = IsRefusedBefore e to why ended bytes out
 RangeComesTo {X} e from to ended AtEnd (Err Write) bytes out = ComesTo {X = X} e ended (Err Write) bytes out
 RangeComesTo e from to ended AtEnd (Err Memory) bytes out = IsHeldUpWithin e from to ended bytes out
@@ -89,17 +92,21 @@ RangeComesTo e from to ended AtEnd (Err Memory) bytes out = IsHeldUpWithin e fro
 abbrev pub ReadsBefore : {e : Writing} {from to : Reads} {bytes out : List ℕ} → ℕ → KeepsUp e from to bytes out → Type 0
 ReadsBefore {e} {from} {to} {bytes} {out} end keeps_up = IsStill [] bytes from to ⊎ (next_start keeps_up.settled < end)
 
-pub record IsRangeRun {X : Type 0} (e : Writing) (from to : ℕ) (reads reads' : Reads) (ended : Bool) (AtEnd : Type 0) (answer : Result X CmdFault) (bytes out : List ℕ) : Type 0 where
+pub record IsRangeRun {X : Type 0} (e : Writing) (from to : ℕ) (reads reads' : Reads) (ended : Bool) (AtEnd : Type 0)
+    (answer : Result X CmdFault) (bytes out : List ℕ) : Type 0 where
   pub comes : RangeComesTo e from to ended AtEnd answer bytes out
   pub keeps_up : KeepsUp e reads reads' bytes out
   pub no_further : ReadsBefore to keeps_up
 
 -- what `mark`, `show` and `segment` do with the passages of a range: to the devices, with the result
-pub record RangeRuns (part : Part) (engine : Engine) (before after : Devices) (answer : Result (Unit {0}) CmdFault) : Type 0 where
+pub record RangeRuns (part : Part) (engine : Engine) (before after : Devices)
+    (answer : Result (Unit {0}) CmdFault) : Type 0 where
   pub shown : OnOk answer (IfSome before.unread (λ input. IsUtf8 input
-      → Appends before.written after.written (text_within engine.lines part.from part.to (passages_by (by_passage engine) (chars input)))))
+      → Appends before.written after.written
+          (text_within engine.lines part.from part.to (passages_by (by_passage engine) (chars input)))))
   pub run : Ran (is_failed_read answer) before.unread after.unread before.written after.written
-      (IsRangeRun (by_passage (within part engine)) part.from part.to before.reads after.reads after.has_ended (IsTrue after.has_ended × IsAtEnd after.unread) answer)
+      (IsRangeRun (by_passage (within part engine)) part.from part.to before.reads after.reads after.has_ended
+          (IsTrue after.has_ended × IsAtEnd after.unread) answer)
   pub reads : after.reads.count ≤ before.reads.count + (longest_text + 1)
   pub limit : IsErrOf answer (CmdFault.Passage PassageFault.Limit) ↔ (¬ (IsLimit engine.limit))
   pub failed_reads : after.failed_reads ≡ failed_reads_with before.failed_reads answer

@@ -147,7 +147,8 @@ pub record KeepsUp (e : Writing) (from to : Reads) (bytes out : List ℕ) : Type
   pub goes_on : CanGoOn (length (encode_utf8_all settled.scalars)) settled.rest
 
 -- what a run reads and writes, whatever the result
-pub record IsRun {X : Type 0} (e : Writing) (from to : Reads) (ended : Bool) (answer : Result X CmdFault) (bytes out : List ℕ) : Type 0 where
+pub record IsRun {X : Type 0} (e : Writing) (from to : Reads) (ended : Bool) (answer : Result X CmdFault)
+    (bytes out : List ℕ) : Type 0 where
   pub comes : ComesTo e ended answer bytes out
   pub keeps_up : KeepsUp e from to bytes out
 

@@ -24,7 +24,8 @@ kind_name Must = codes "Must"
 -- S, a segment of the passage that begins at `start`, and the kind and the rule at its end
 abbrev pub segment_line : ℕ → Segment → List ℕ
 segment_line start s =
-    part (codes "S") (start + s.start) (start + s.end) ++ (32 ∷ (kind_name s.kind ++ (32 ∷ (label_of s.rule ++ 10 ∷ []))))
+    part (codes "S") (start + s.start) (start + s.end)
+        ++ (32 ∷ (kind_name s.kind ++ (32 ∷ (label_of s.rule ++ 10 ∷ []))))
 
 -- W and a word; other pieces have no line
 abbrev pub word_line : ℕ → Piece → List ℕ
@@ -34,8 +35,10 @@ word_line start piece =
 -- P and a passage of `len` bytes, its segments, and its words
 abbrev pub passage_lines : ℕ → ℕ → List Segment → List Piece → List ℕ
 passage_lines start len segments pieces =
-    part (codes "P") start (start + len) ++ (10 ∷ (flat_map (segment_line start) segments ++ flat_map (word_line start) pieces))
+    part (codes "P") start (start + len)
+        ++ (10 ∷ (flat_map (segment_line start) segments ++ flat_map (word_line start) pieces))
 
 -- the lines of a passage that begins at `start`
 abbrev pub segmented_passage : (ℕ → Cell) → ℕ → List Marked → List ℕ
-segmented_passage cell start ms = passage_lines start (length (text_of ms)) (segments_of ms) (pieces_of cell (text_of ms))
+segmented_passage cell start ms =
+    passage_lines start (length (text_of ms)) (segments_of ms) (pieces_of cell (text_of ms))

@@ -1,6 +1,7 @@
 //! Laws about the calls, over definitions only. Each is the contract of a function with an empty body.
 
-ghost use Rattle.std.specs.Prelude.{ℕ, ◌+◌, ◌*◌, ◌≤◌, ◌↔◌, ◌∷◌, Bool, List, [], Option, None, Some, length, encode_utf8_all};
+ghost use Rattle.std.specs.Prelude.{ℕ, ◌+◌, ◌*◌, ◌≤◌, ◌↔◌, ◌∷◌, Bool, List, [], Option, None, Some, length};
+ghost use Rattle.std.specs.Prelude.{encode_utf8_all};
 ghost use Rattle.std.specs.Prelude.{◌≡◌};
 ghost use Rattle.std.specs.Char.{IsScalar};
 ghost use Rattle.std.specs.List.{AllByRecursion, flat_map};

@@ -98,7 +98,8 @@ impl Waiting {
         writer: &mut W,
     ) -> Result<(), Failed>
         ensures line { Pushes result (W.written writer.old) (W.written writer.new) (waiting_in self.old)
-            (waiting_in self.new) (line_in range (option_map (λ bytes. bytes.now) text.entry) (numbered_chunk chunk.now)) }
+            (waiting_in self.new)
+            (line_in range (option_map (λ bytes. bytes.now) text.entry) (numbered_chunk chunk.now)) }
         ensures failures { W.failure_count writer.new ≡ failures_after (W.failure_count writer.old) result }
     {
         if !is_asked(range, chunk.start) {
