@@ -180,7 +180,7 @@ LINE_BREAKS = [
     (
         "of another version",
         b"# LineBreak-14.0.0.txt\n# EOF\n",
-        "lbk: U/LineBreak.txt: this is from Unicode 14.0.0, and lbk needs 15.0.0\n",
+        "lbk: U/LineBreak.txt: this is Unicode 14.0.0, and lbk needs 15.0.0\n",
     ),
 ]
 

@@ -110,8 +110,8 @@ static void try_claims(const std::string &folder)
 {
     const std::string names[] = {"LineBreak.txt", "EastAsianWidth.txt", "DerivedGeneralCategory.txt", "emoji-data.txt"};
     const std::pair<const char *, const char *> claims[] = {
-        {"# LineBreak-14.0.0.txt\n", "this is from Unicode 14.0.0, and lbk needs 15.0.0"},
-        {"# LineBreak-15.1.txt\n", "this is from Unicode 15.1.0, and lbk needs 15.0.0"},
+        {"# LineBreak-14.0.0.txt\n", "this is Unicode 14.0.0, and lbk needs 15.0.0"},
+        {"# LineBreak-15.1.txt\n", "this is Unicode 15.1.0, and lbk needs 15.0.0"},
         {"# LineBreak-15.0.0.txt\n", "the file was changed or cut: Unicode 15.0.0 published another LineBreak.txt"},
         {"# LineBreak-", "this is not LineBreak.txt as Unicode 15.0 published it"},
         {"0061;AL\n# LineBreak-14.0.0", "this is not LineBreak.txt as Unicode 15.0 published it"},
@@ -125,8 +125,8 @@ static void try_claims(const std::string &folder)
         told(said, !lbk::table::try_load(folder + "/claims", why) && why.message() == std::string("LineBreak.txt: ") + said);
     }
     const std::pair<const char *, const char *> emoji[] = {
-        {"# emoji-data.txt\n# Used with Emoji Version 14.0 and", "this is from Emoji 14.0, and lbk needs 15.0"},
-        {"# emoji-data\n# Used with Emoji Version 5.0.1", "this is from Emoji 5.0.1, and lbk needs 15.0.0"},
+        {"# emoji-data.txt\n# Used with Emoji Version 14.0 and", "this is Emoji 14.0, and lbk needs 15.0"},
+        {"# emoji-data\n# Used with Emoji Version 5.0.1", "this is Emoji 5.0.1, and lbk needs 15.0.0"},
         {"# emoji-data-15.0\n", "this is not emoji-data.txt as Unicode 15.0 published it"},
     };
     for (const auto &[first, said] : emoji) {

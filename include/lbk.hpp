@@ -64,7 +64,7 @@ struct error {
     reason why = reason::none;
     int system = 0;
     lbk_fault fault = {LBK_NO_FILE, 0, LBK_CAUSE_NONE};
-    /// What a file is that is not the published one: "this is from Unicode 14.0.0, and lbk needs 15.0.0"; else empty.
+    /// What a file is that is not the published one: "this is Unicode 14.0.0, and lbk needs 15.0.0"; else empty.
     lbk_text claim = {};
 
     explicit operator bool() const noexcept { return why != reason::none; }

@@ -31,8 +31,8 @@ export function claimText(bytes, k) {
   const version = versionOf(bytes, k);
   if (version === undefined) return `this is not ${name} as Unicode 15.0 published it`;
   if (version === "15.0.0") return `the file was changed or cut: Unicode 15.0.0 published another ${name}`;
-  if (k === EMOJI && version.endsWith(".0")) return `this is from Emoji ${version.slice(0, -2)}, and lbk needs 15.0`;
-  return `${k === EMOJI ? "this is from Emoji " : "this is from Unicode "}${version}, and lbk needs 15.0.0`;
+  if (k === EMOJI && version.endsWith(".0")) return `this is Emoji ${version.slice(0, -2)}, and lbk needs 15.0`;
+  return `${k === EMOJI ? "this is Emoji " : "this is Unicode "}${version}, and lbk needs 15.0.0`;
 }
 
 /** Why these files, in a folder or not, make no table: describes the first one of another version, or of none. */

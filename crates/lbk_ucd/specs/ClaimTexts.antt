@@ -16,9 +16,9 @@ three_numbers v rest = two_numbers v (46 ∷ (decimal v.update ++ rest))
 
 -- a file of another version; that of emoji has a third number only if it is not 0
 abbrev pub version_text : Which → Numbers → List ℕ
-version_text Emoji v = if v.update == 0 then codes "this is from Emoji " ++ two_numbers v (codes ", and lbk needs 15.0")
-    else codes "this is from Emoji " ++ three_numbers v (codes ", and lbk needs 15.0.0")
-version_text which v = codes "this is from Unicode " ++ three_numbers v (codes ", and lbk needs 15.0.0")
+version_text Emoji v = if v.update == 0 then codes "this is Emoji " ++ two_numbers v (codes ", and lbk needs 15.0")
+    else codes "this is Emoji " ++ three_numbers v (codes ", and lbk needs 15.0.0")
+version_text which v = codes "this is Unicode " ++ three_numbers v (codes ", and lbk needs 15.0.0")
 
 -- the text about a file that is not the published one
 abbrev pub claim_text : Which → ClaimCause → List ℕ

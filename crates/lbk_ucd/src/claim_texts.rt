@@ -55,12 +55,12 @@ fn version_text(which: Which, version: Version) -> ArrayString<95>
     match which {
         Which::Emoji => {
             if version.update == 0 {
-                with_two_numbers("this is from Emoji ", version, ", and lbk needs 15.0")
+                with_two_numbers("this is Emoji ", version, ", and lbk needs 15.0")
             } else {
-                with_three_numbers("this is from Emoji ", version, ", and lbk needs 15.0.0")
+                with_three_numbers("this is Emoji ", version, ", and lbk needs 15.0.0")
             }
         }
-        _ => with_three_numbers("this is from Unicode ", version, ", and lbk needs 15.0.0"),
+        _ => with_three_numbers("this is Unicode ", version, ", and lbk needs 15.0.0"),
     }
 }
 

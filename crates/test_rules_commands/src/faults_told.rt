@@ -41,7 +41,7 @@ static OF_FILES: [(CellsFault, &str); 8] = [
     ),
     (
         CellsFault::Claim(Which::EastAsianWidth, ClaimCause::Version(VERSION)),
-        "EastAsianWidth.txt: this is from Unicode 15.1.0, and lbk needs 15.0.0",
+        "EastAsianWidth.txt: this is Unicode 15.1.0, and lbk needs 15.0.0",
     ),
     (
         CellsFault::Claim(Which::Emoji, ClaimCause::Title),
@@ -55,7 +55,7 @@ static OF_FILES: [(CellsFault, &str); 8] = [
                 ..VERSION
             }),
         ),
-        "emoji-data.txt: this is from Emoji 15.1.1, and lbk needs 15.0.0",
+        "emoji-data.txt: this is Emoji 15.1.1, and lbk needs 15.0.0",
     ),
     (
         CellsFault::Claim(Which::Category, ClaimCause::Changed),

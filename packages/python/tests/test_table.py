@@ -70,10 +70,10 @@ class Folders(unittest.TestCase):
 
     def test_what_a_file_claims_is_said(self):
         claims = (
-            (File.LINE_BREAK, b"# LineBreak-14.0.0.txt\n", "this is from Unicode 14.0.0, and lbk needs 15.0.0"),
-            (File.EAST_ASIAN, b"# EastAsianWidth-15.1.txt\n", "this is from Unicode 15.1.0, and lbk needs 15.0.0"),
-            (File.EMOJI, b"# emoji-data.txt\n# Used with Emoji Version 14.0 and", "this is from Emoji 14.0, and lbk needs 15.0"),
-            (File.EMOJI, b"# emoji-data\n# Used with Emoji Version 5.0.1", "this is from Emoji 5.0.1, and lbk needs 15.0.0"),
+            (File.LINE_BREAK, b"# LineBreak-14.0.0.txt\n", "this is Unicode 14.0.0, and lbk needs 15.0.0"),
+            (File.EAST_ASIAN, b"# EastAsianWidth-15.1.txt\n", "this is Unicode 15.1.0, and lbk needs 15.0.0"),
+            (File.EMOJI, b"# emoji-data.txt\n# Used with Emoji Version 14.0 and", "this is Emoji 14.0, and lbk needs 15.0"),
+            (File.EMOJI, b"# emoji-data\n# Used with Emoji Version 5.0.1", "this is Emoji 5.0.1, and lbk needs 15.0.0"),
             (File.EMOJI, b"# emoji-data-15.0\n", "this is not emoji-data.txt as Unicode 15.0 published it"),
             (File.LINE_BREAK, b"0061;AL\n# LineBreak-14.0.0\n", "this is not LineBreak.txt as Unicode 15.0 published it"),
             (

@@ -5,7 +5,7 @@ use core::fmt;
 use crate::calls;
 use crate::fault::File;
 
-/// Describes a file that is not the one that Unicode 15.0.0 published under its name, for example "this is from Unicode
+/// Describes a file that is not the one that Unicode 15.0.0 published under its name, for example "this is Unicode
 /// 14.0.0, and lbk needs 15.0.0".
 #[derive(Clone, Copy, PartialEq, Eq, Debug)]
 pub struct Claim {

@@ -236,11 +236,11 @@ fn a_folder_has_the_published_files() {
     for (first, said) in [
         (
             "# LineBreak-14.0.0.txt\n",
-            "this is from Unicode 14.0.0, and lbk needs 15.0.0",
+            "this is Unicode 14.0.0, and lbk needs 15.0.0",
         ),
         (
             "# LineBreak-15.1.txt\n",
-            "this is from Unicode 15.1.0, and lbk needs 15.0.0",
+            "this is Unicode 15.1.0, and lbk needs 15.0.0",
         ),
         (
             "# LineBreak-15.0.0.txt\n",

@@ -1,5 +1,6 @@
 //! A sink into memory of a given size.
-#![tactic(auto, unfolding(crate::specs::MemorySink::sink_bytes, crate::specs::MemorySink::sink_room, crate::specs::MemorySink::most_in_a_write, crate::specs::MemorySink::sink_tally))]
+#![tactic(auto, unfolding(crate::specs::MemorySink::sink_bytes, crate::specs::MemorySink::sink_room,
+    crate::specs::MemorySink::most_in_a_write, crate::specs::MemorySink::sink_tally))]
 
 ghost use Rattle.std.specs.Prelude.{◌≡◌, ◌<◌, ◌≤◌, ◌-◌, ◌↔◌, [], min, max, length, vec_capacity, Some, IfOk, IsErr};
 ghost use Rattle.lbk_feed.specs.Devices.{failures_after, Puts};

@@ -15,7 +15,7 @@ class Fault(ValueError):
     place: str
     """The name of the file, if it was read by its name or from a folder; else ""."""
     claim: str
-    """For NOT_PUBLISHED, what the file is: "this is from Unicode 14.0.0, and lbk needs 15.0.0"."""
+    """For NOT_PUBLISHED, what the file is: "this is Unicode 14.0.0, and lbk needs 15.0.0"."""
 
     def __init__(self, file: int, line: int, cause: int, place: str = "", claim: str = "") -> None:
         super().__init__(file, line, cause, place, claim)
