@@ -1,0 +1,54 @@
+"""What `rt ci` proved of a program, by what it keeps beside the kit: for each crate the sums of the files that it made.
+
+The kit's own `rt`, read as a module, names the entry of a crate: by the kit, HANDLES, the crate's line and sources, and the libraries
+below as they were built. So an entry is found only where `rt ci` would say again that the crate is kept. Whatever else is met, as
+in a kit that keeps its entries in another way, counts as none.
+"""
+import contextlib
+import hashlib
+import importlib.machinery
+import importlib.util
+import io
+import json
+import os
+import shutil
+import stat
+from types import SimpleNamespace
+
+
+def proved(top, name):
+    """The name of the entry of a program as its sources are now, and the SHA-256 of the program; or None."""
+    try:
+        with contextlib.redirect_stderr(io.StringIO()):
+            return find(read_rt(), os.path.realpath(top), name)
+    # (any code of another kit may run here, and stop in any way)
+    except (Exception, SystemExit):
+        return None
+
+
+def read_rt():
+    """The kit's command `rt` as a module."""
+    loader = importlib.machinery.SourceFileLoader("rt", os.path.realpath(shutil.which("rt")))
+    module = importlib.util.module_from_spec(importlib.util.spec_from_loader("rt", loader))
+    loader.exec_module(module)
+    return module
+
+
+def find(rt, top, name):
+    store = os.lstat(rt.STORE)
+    if not stat.S_ISDIR(store.st_mode) or store.st_uid != os.geteuid() or store.st_mode & 0o077:
+        return None
+    rt.Crate.allowed = rt.handles_of(top)
+    program = next(it for it in rt.crates_of(top) if it.name == name)
+    kept = SimpleNamespace(at=rt.STORE, rlibs={})
+    for crate in [*program.below(), program]:
+        key = rt.Kept.key(kept, crate)
+        entry = rt.Kept.place(kept, crate, False, key)
+        with open(f"{entry}/made.json", encoding="utf-8") as it:
+            made = json.load(it)
+        files = [(path, digest) for path, digest in made["files"]]
+        if made["key"] != key:
+            return None
+        # (as `rt` notes the sum of a library for the keys of those above)
+        kept.rlibs[crate.name] = hashlib.sha256(repr(files).encode()).hexdigest()
+    return os.path.basename(entry), dict(files)[name]
