@@ -35,14 +35,16 @@ for (const name of names) {
   const bytes = new Uint8Array(readFileSync(name));
   const text = new TextDecoder().decode(bytes);
   const speed = (call) => speedOf(bytes.length, call);
+  const objects = (given) => ({
+    breaks: speed(() => runThrough(table.breaks(given))),
+    chunks: speed(() => runThrough(chunker.chunks(given))),
+    overlap: speed(() => runThrough(chunker.chunks(given, { overlap: 100 }))),
+  });
   const found = {
     columns: { breaks: speed(() => table.breakColumns(bytes)), words: speed(() => words.wordColumns(bytes)) },
-    objects: {
-      breaks: speed(() => runThrough(table.breaks(text))),
-      words: speed(() => runThrough(words.words(text))),
-      chunks: speed(() => runThrough(chunker.chunks(text))),
-      overlap: speed(() => runThrough(chunker.chunks(text, { overlap: 100 }))),
-    },
+    bytes: objects(bytes),
+    // (words are found in strings alone)
+    string: { ...objects(text), words: speed(() => runThrough(words.words(text))) },
   };
   console.log(JSON.stringify(found));
 }

@@ -53,6 +53,16 @@ const covered = seen.filter(([, box], k) => seen.some(([, other], n) => n < k &&
 const name = ([it, box]) => `${it.className}#${it.id} ${it.textContent.slice(0, 5)} ${box.width} x ${box.height}`;
 return [seen.length > 30, small.map(name).slice(0, 5), covered.map(name).slice(0, 5)];
 """
+# Whether the signs of each kind have a ground, but for the chosen one, which always has.
+GROUNDS = """
+const found = {};
+for (const it of document.querySelectorAll(".position:not([aria-selected=true])")) {
+  const kind = ["may", "must"].find((name) => it.classList.contains(name)) ?? "no";
+  const [, , , a = 1] = (getComputedStyle(it).backgroundColor.match(/[\\d.]+/g) ?? []).map(Number);
+  found[kind] = a > 0;
+}
+return found;
+"""
 # Whether the chosen sign and all of the answer are on the screen, with nothing over them, and nothing goes beyond its width.
 OPENING = """
 const isIn = (box) => box.top >= 0 && box.left >= 0 && box.bottom <= innerHeight && box.right <= innerWidth;
@@ -208,10 +218,14 @@ def try_names(count, page):
 
 def try_schemes(count, page):
     papers = set()
+    page.run("const it = document.getElementById('text'); it.value = 'ab cd\\nef gh'; it.dispatchEvent(new Event('input'))")
+    page.point("mouse", (page.find("h1"), 0, 0))
     for scheme in ("light", "dark"):
         page.tools("Emulation.setEmulatedMedia", features=[{"name": "prefers-color-scheme", "value": scheme}])
         papers.add(page.run("return getComputedStyle(document.body).backgroundColor"))
         least = page.run(CONTRASTS)
+        grounds = page.run(GROUNDS)
+        count.equal(f"chromedriver: signs of breaks have a ground in {scheme}, and others none", grounds, {"no": False, "may": True, "must": True})
         count.equal(f"chromedriver: text can be read in {scheme}", {name: round(it, 2) for name, it in least.items() if it < LEAST_CONTRAST}, {})
     count.equal("chromedriver: light and dark differ", len(papers), 2)
 

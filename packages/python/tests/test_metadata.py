@@ -19,7 +19,7 @@ class Metadata(unittest.TestCase):
         self.assertTrue(examples.examples)
         said = []
         with mock.patch.dict(os.environ, {"UNICODE_DATA": str(samples.PUBLISHED)}):
-            doctest.DocTestRunner().run(examples, out=said.append)
+            doctest.DocTestRunner(verbose=False).run(examples, out=said.append)
         self.assertEqual(said, [])
 
     @unittest.skipUnless(samples.HAS_PUBLISHED, "the published files are not there")
