@@ -10,6 +10,7 @@ pub mod KindTrie
 pub mod LetterLemmas
 pub mod LikeLemmas
 pub mod PairLemmas
+pub mod PartLemmas
 pub mod PlaceLemmas
 pub mod ReadLemmas
 pub mod RowLemmas

@@ -1,12 +1,10 @@
 -- Where the parts of a text end, as bits of 64 bytes tell it.
-use Rattle.std.specs.Prelude.{◌≡◌, ◌⊎◌, ℕ, ◌+◌, ◌-◌, ◌<◌, ◌≤◌, Bool, true, false, not, ◌&&◌, ◌||◌, ◌==◌, nat_lt, List}
-use Rattle.std.specs.Prelude.{drop, get_or, length}
+use Rattle.std.specs.Prelude.{◌≡◌, ◌⊎◌, ℕ, ◌+◌, ◌-◌, ◌<◌, ◌≤◌, Bool, true, false, not, ◌&&◌, ◌||◌, ◌==◌, nat_lt, List, [], ◌∷◌}
+use Rattle.std.specs.Prelude.{drop, get_or, length, take}
 use Rattle.lbk_masks.specs.Sets.{is_set}
-use Rattle.lbk_words.specs.declared.ends.PartEnds.{PartEnds}
-use Rattle.lbk_words.specs.declared.parts.First.{First}
 use Rattle.lbk_words.specs.Blocks.{ArePlain, begins_at, runs_at}
-use Rattle.lbk_words.specs.Places.{IsReadAt}
-use Rattle.lbk_words.specs.Rows.{IsFirstRow}
+use Rattle.lbk_words.specs.Filling.{IsInRow}
+use Rattle.lbk_words.specs.Places.{IsFirstPiece}
 
 -- CR LF, and two spaces (rules WB3 and WB3d)
 abbrev pub is_pair : ℕ → ℕ → Bool
@@ -24,18 +22,27 @@ pub record AreEnds (bytes : List ℕ) (first stop ends : ℕ) : Type 0 where
   pub plain : (i : ℕ) → first ≤ i → i < stop → ArePlain bytes i
   pub begins : (i : ℕ) → first ≤ i → i < stop → runs_at bytes i ≡ true → (i ≡ first) ⊎ (runs_at bytes (i - 1) ≡ false) → begins_at bytes i ≡ true
 
--- what was found of a text are the next ends of its parts, from one that begins at the byte `at`
-pub record AreNext (text : List ℕ) (at : ℕ) (found : PartEnds) : Type 0 where
-  pub after : found.base ≤ at
+-- bits tell the ends of the next parts of a text from the byte `base` on
+pub record AreTold (text : List ℕ) (base bits : ℕ) : Type 0 where
   pub stop : ℕ
-  pub within : found.base + stop ≤ length text
-  pub ends : AreEnds (drop found.base text) (at - found.base) stop found.ends
+  pub within : base + stop ≤ length text
+  pub ends : AreEnds (drop base text) 0 stop bits
 
--- what was read, if anything, is the scalar at the byte `at`, and its row that of a part of it alone
-abbrev pub IsRead : List ℕ → ℕ → First → Type 0
-IsRead text at first = 0 < first.end → (code : ℕ) × IsReadAt text at code first.end × IsFirstRow code first.row
+-- the parts of a text from the boundary `from` up to the boundary `to` end at these bytes, in order
+abbrev pub AreParts : List ℕ → ℕ → ℕ → List ℕ → Type 0
+AreParts text from to [] = from ≡ to
+AreParts text from to (end ∷ ends) = ((is_word : Bool) × IsFirstPiece text from end is_word) × AreParts text end to ends
 
--- what was found of a text from a byte on, if anything
-pub record AreFound (text : List ℕ) (at : ℕ) (found : PartEnds) : Type 0 where
-  pub next : 0 < found.ends → AreNext text at found
-  pub read : IsRead text at found.first
+-- the ends from `base` on that bits told so far are in the front of a block, and the others are left
+pub record AreLeft (text : List ℕ) (base left count : ℕ) (out : List ℕ) : Type 0 where
+  pub at : ℕ
+  pub stop : ℕ
+  pub within : base + stop ≤ length text
+  pub parts : AreParts text base (base + at) (take count out)
+  pub ends : AreEnds (drop base text) at stop left
+
+-- the parts that ended are in the front of a block, and the scalars behind them, up to the byte `at`, are of one part
+pub record IsReading (text : List ℕ) (from at row count : ℕ) (out : List ℕ) : Type 0 where
+  pub begin : ℕ
+  pub parts : AreParts text from begin (take count out)
+  pub part : IsInRow text begin at row

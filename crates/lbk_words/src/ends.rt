@@ -1,12 +1,12 @@
 //! Where the parts of a text end: its cutting at word boundaries (UAX #29, section 4).
 
-ghost use Rattle.std.specs.Prelude.{◌≡◌, ℕ, ◌+◌, ◌-◌, ◌<◌, ◌≤◌, ◌++◌, Bool, List, get_or, length, replicate};
+ghost use Rattle.std.specs.Prelude.{◌≡◌, ℕ, ◌+◌, ◌-◌, ◌<◌, ◌≤◌, ◌^◌, ◌++◌, List, get_or, length, replicate, take};
 ghost use Rattle.lbk_masks.specs.Sets.{is_set};
-ghost use Rattle.lbk_words.specs.Ends.{AreEnds, AreFound, is_pair};
-ghost use Rattle.lbk_words.specs.Places.{IsFirstPiece};
+ghost use Rattle.lbk_words.specs.Ends.{AreEnds, AreParts, AreTold, is_pair};
 
 use crate::blocks::{BLOCK, marks_of, wides_of};
-use crate::parts::{First, UNREAD, part_end};
+use crate::scalars::scalar_at;
+use crate::steps::{first_row, step_of};
 use lbk_masks::{HalfSets, first_set, kept_below, kept_from, without_first};
 
 /// Fewer bytes than this are left to steps.
@@ -24,73 +24,86 @@ const FEEDS: u8 = 2;
 
 const SPACES: u8 = 4;
 
-/// The next ends of the parts of a text, as far as they were found.
-#[derive(Clone, Copy)]
-pub struct PartEnds {
-    /// The byte of the first bit.
-    base: usize,
-    /// A bit for each byte at which a part ends.
-    ends: u64,
-    /// The first scalar of the next part, if it was read.
-    first: First,
-}
-
-impl PartEnds {
-    /// None is found yet.
-    pub fn none() -> PartEnds
-        ensures { (text : List ℕ) (at : ℕ) → AreFound text at result }
-    {
-        PartEnds {
-            base: 0,
-            ends: 0,
-            first: UNREAD,
-        }
-    }
-
-    /// The end of the part that begins at a byte.
-    #[inline(always)]
-    pub fn end_of(&mut self, text: &[u8], start: usize) -> usize
-        requires some { start < length text.now }
-        requires found { AreFound text.now start self.old }
-        ensures part { (is_word : Bool) × IsFirstPiece text.now start result is_word }
-        ensures found { AreFound text.now result self.new }
-    {
-        let first = self.first;
-        if self.ends == 0 {
-            *self = ends_from(text, start);
-        }
-        self.first = UNREAD;
-        if self.ends == 0 {
-            let part = part_end(text, start, first);
-            self.first = part.next;
-            return part.end;
-        }
-        let end = first_set(self.ends);
-        self.ends = without_first(self.ends);
-        self.base + end
-    }
-}
-
-/// The ends that bits tell of the parts from a byte on. They tell little where a scalar of three bytes or more comes,
-/// or a few bytes are left.
-fn ends_from(text: &[u8], start: usize) -> PartEnds
-    requires { start < length text.now }
-    ensures { AreFound text.now start result }
+/// Puts where the next parts of a text end, from a boundary on, into the front of a block, and returns how many: one at
+/// least.
+pub fn fill_ends(text: &[u8], start: usize, out: &mut [usize]) -> usize
+    requires some { start < length text.now }
+    requires room { 0 < length out.old }
+    ensures some { 0 < result }
+    ensures within { result ≤ length out.old }
+    ensures parts { (to : ℕ) × AreParts text.now start to (take result out.new) }
 {
+    let ends = ends_from(text, start);
+    if ends == 0 {
+        return ends_by_steps(text, start, out);
+    }
+    put_ends(start, ends, out)
+}
+
+/// Puts where the parts of a text end, from a boundary on, into the front of a block, and returns how many: one at
+/// least, and as many as it holds, unless the text ends or bits are likely to tell the next.
+fn ends_by_steps(text: &[u8], start: usize, out: &mut [usize]) -> usize
+    requires some { start < length text.now }
+    requires room { 0 < length out.old }
+    ensures some { 0 < result }
+    ensures within { result ≤ length out.old }
+    ensures parts { (to : ℕ) × AreParts text.now start to (take result out.new) }
+{
+    let first = scalar_at(text, start);
+    let mut at = first.end;
+    let mut row = first_row(first.code);
+    let mut count = 0;
+    let mut told = false;
+    'scalars: while at < text.len() && count < out.len() && !told {
+        let next = scalar_at(text, at);
+        let step = step_of(row, next.code, next.end, text);
+        // Written whether the part ends there or not, so that no branch depends on it.
+        out[count] = at;
+        count += usize::from(step.cuts);
+        told = step.cuts & may_tell(text, at);
+        at = next.end;
+        row = step.next;
+    }
+    if at < text.len() || count == out.len() {
+        return count;
+    }
+    out[count] = at;
+    count + 1
+}
+
+/// Puts the bytes that bits stand for, of which the first is that of the byte `base`, into the front of a block, as many
+/// as it holds, and returns how many.
+#[inline(always)]
+fn put_ends(base: usize, ends: u64, out: &mut [usize]) -> usize
+    requires { base + 64 < 2 ^ 64 }
+    ensures some { 0 < ends → 0 < length out.old → 0 < result }
+    ensures within { result ≤ length out.old }
+    ensures parts { (text : List ℕ) → AreTold text base ends → (to : ℕ) × AreParts text base to (take result out.new) }
+{
+    let mut left = ends;
+    let mut count = 0;
+    'ends: while 0 < left && count < out.len() {
+        out[count] = base + first_set(left);
+        left = without_first(left);
+        count += 1;
+    }
+    count
+}
+
+/// The ends that bits tell of the parts from a byte on, if any. They tell little where a scalar of three bytes or more
+/// comes, or a few bytes are left.
+fn ends_from(text: &[u8], start: usize) -> u64
+    requires { start < length text.now }
+    ensures { 0 < result → AreTold text.now start result }
+{
+    if !may_tell(text, start) {
+        return 0;
+    }
     let rest = &text[start..];
-    if rest.len() < FEW || !are_told(rest[0], rest[1]) {
-        return PartEnds::none();
+    if rest.len() < BLOCK {
+        return ends_of_few(rest);
     }
-    let ends = if rest.len() < BLOCK {
-        ends_of_few(rest)
-    } else {
-        ends_in(rest)
-    };
-    PartEnds {
-        base: start,
-        ends,
-        first: UNREAD,
-    }
+    ends_in(rest)
 }
 
 /// The ends that bits tell of the parts of a text of fewer than 64 bytes, but for the last.
@@ -112,10 +125,16 @@ fn padded(text: &[u8]) -> [u8; BLOCK]
     bytes
 }
 
-/// Whether bits are likely to tell the end of a part that begins with these two bytes.
+/// Whether bits are likely to tell the end of the part that begins at a byte.
 #[inline(always)]
-fn are_told(first: u8, next: u8) -> bool {
-    is_usual(first) && (0x80 <= first || is_usual(next))
+fn may_tell(text: &[u8], start: usize) -> bool
+    requires { start < length text.now }
+{
+    if text.len() - start < FEW {
+        return false;
+    }
+    let first = text[start];
+    is_usual(first) && (0x80 <= first || is_usual(text[start + 1]))
 }
 
 /// Whether a byte is below 128, or one with which most letters of two bytes begin.

@@ -1,10 +1,9 @@
 //! Words found scalar by scalar.
 
-ghost use Rattle.std.specs.Prelude.{◌≡◌, ◌<◌, ◌≤◌, ◌+◌, ◌⊎◌, ℕ, Bool, List, length, if◌then◌else◌};
+ghost use Rattle.std.specs.Prelude.{◌≡◌, ◌<◌, ◌≤◌, ◌+◌, ◌⊎◌, ℕ, List, length, if◌then◌else◌};
 ghost use Rattle.unicode_segmentation.specs.Word.{significant, value_at};
 ghost use Rattle.lbk_words.specs.Filling.{IsFilled, IsFilling};
-ghost use Rattle.lbk_words.specs.Ends.{IsRead};
-ghost use Rattle.lbk_words.specs.Places.{IsFirstPiece, IsReadAt};
+ghost use Rattle.lbk_words.specs.Places.{IsReadAt};
 ghost use Rattle.lbk_words.specs.Rows.{IsStep};
 ghost use Rattle.lbk_words.specs.Words.{scalars_on};
 
@@ -64,75 +63,6 @@ pub(crate) fn fill_by_scalars(text: &[u8], here: Filled, stop: usize, out: &mut 
     Filled {
         count: part.count,
         at: part.begin,
-    }
-}
-
-/// The first scalar of a part, or nothing where its end is 0.
-#[derive(Clone, Copy)]
-pub(crate) struct First {
-    /// The row of a part of this scalar alone.
-    pub(crate) row: usize,
-    /// The byte after it.
-    pub(crate) end: usize,
-}
-
-/// No scalar.
-pub(crate) const UNREAD: First = First { row: 0, end: 0 };
-
-/// The end of a part, and the first scalar of the next, if there is one.
-#[derive(Clone, Copy)]
-pub(crate) struct PartEnd {
-    pub(crate) end: usize,
-    pub(crate) next: First,
-}
-
-/// The end of the part that begins at a byte, with this scalar if it was read. The scalar that ends the part is read
-/// already, so it need not be read again.
-pub(crate) fn part_end(text: &[u8], start: usize, first: First) -> PartEnd
-    requires start { start < length text.now }
-    requires first { IsRead text.now start first }
-    ensures end { (is_word : Bool) × IsFirstPiece text.now start result.end is_word }
-    ensures next { IsRead text.now result.end result.next }
-{
-    let first = read_first(text, start, first);
-    let mut at = first.end;
-    let mut row = first.row;
-    while at < text.len() {
-        let next = scalar_at(text, at);
-        let step = step_of(row, next.code, next.end, text);
-        if step.cuts {
-            return PartEnd {
-                end: at,
-                next: First {
-                    row: step.next,
-                    end: next.end,
-                },
-            };
-        }
-        at = next.end;
-        row = step.next;
-    }
-    PartEnd {
-        end: at,
-        next: UNREAD,
-    }
-}
-
-/// The first scalar of a part, unless it was read.
-#[inline(always)]
-fn read_first(text: &[u8], start: usize, first: First) -> First
-    requires start { start < length text.now }
-    requires first { IsRead text.now start first }
-    ensures read { IsRead text.now start result }
-    ensures some { 0 < result.end }
-{
-    if first.end != 0 {
-        return first;
-    }
-    let scalar = scalar_at(text, start);
-    First {
-        row: first_row(scalar.code),
-        end: scalar.end,
     }
 }
 

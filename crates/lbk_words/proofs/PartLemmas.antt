@@ -1,0 +1,69 @@
+-- Ends of parts, one behind the other in a block.
+use Rattle.std.proofs.Common.{◌≡◌, ℕ, ◌+◌, ◌-◌, ◌<◌, ◌≤◌, Bool, true, false, ◌&&◌, List, [], ◌∷◌, ◌++◌, drop, length, take, refl, sym, ap, subst, ◌∙◌, arith}
+use Rattle.std.specs.Int.{from_bool}
+use Rattle.std.proofs.Math.ListN.{set}
+use Rattle.std.proofs.lemmas.List.{take-set, take_more_set}
+use Rattle.unicode_segmentation.specs.Word.{significant, value_at}
+use Rattle.lbk_masks.specs.Bits.{AreCleared, IsLowest}
+use Rattle.lbk_words.specs.declared.steps.Step.{Step}
+use Rattle.lbk_words.specs.Ends.{AreLeft, AreParts, AreTold, IsReading}
+use Rattle.lbk_words.specs.Places.{IsFirstPiece, IsReadAt}
+use Rattle.lbk_words.specs.Rows.{IsStep, row_word}
+use Rattle.lbk_words.specs.Words.{scalars_on}
+use Rattle.lbk_words.proofs.EndLemmas.{IsEnd, next-end}
+use Rattle.lbk_words.proofs.StepLemmas.{row-begins, row-ends, row-goes-on}
+
+-- one part more
+parts-more : (text : List ℕ) (from mid end : ℕ) (ends : List ℕ) (is_word : Bool) → AreParts text from mid ends → IsFirstPiece text mid end is_word
+    → AreParts text from end (ends ++ end ∷ [])
+parts-more text from mid end [] is_word parts first = ((is_word, subst (λ m. IsFirstPiece text m end is_word) (sym parts) first), refl)
+parts-more text from mid end (e ∷ es) is_word parts first = (parts.0, parts-more text e mid end es is_word parts.1 first)
+
+-- its end is written behind those before
+pub parts-written : (text : List ℕ) (from mid end count : ℕ) (is_word : Bool) (out : List ℕ) → AreParts text from mid (take count out) → count < length out
+    → IsFirstPiece text mid end is_word → AreParts text from end (take (count + 1) (set out count end))
+parts-written text from mid end count is_word out parts some first =
+    subst (AreParts text from end) (sym (take_more_set out count end some)) (parts-more text from mid end (take count out) is_word parts first)
+
+-- no bit was taken yet
+pub none-taken : (text : List ℕ) (base ends : ℕ) (out : List ℕ) → AreTold text base ends → AreLeft text base ends 0 out
+none-taken text base ends out told = record { at = 0; stop = told.stop; within = told.within; parts = omega arith; ends = told.ends }
+
+-- the lowest bit is taken
+pub bit-taken : (text : List ℕ) (base left count end next : ℕ) (out : List ℕ) → AreLeft text base left count out → 0 < left → count < length out → end < 64
+    → IsLowest left end → AreCleared left end next → AreLeft text base next (count + 1) (set out count (base + end))
+bit-taken text base left count end next out are some room few lowest cleared =
+    let found : IsEnd text base are.at are.stop end next = next-end text base are.at are.stop left end next are.ends are.within some few lowest cleared in
+    record {
+      at = end;
+      stop = are.stop;
+      within = are.within;
+      parts = parts-written text base (base + are.at) (base + end) count found.part.0 out are.parts room found.part.1;
+      ends = found.rest;
+    }
+
+-- one scalar more is read
+reading-by : (text : List ℕ) (from at row count c end : ℕ) (out : List ℕ) (step : Step) (cuts : Bool) → IsReading text from at row count out → count < length out
+    → IsReadAt text at c end → IsStep row c (value_at (significant (scalars_on text end)) 0) step → step.cuts ≡ cuts
+    → IsReading text from end step.next (count + from_bool cuts) (set out count at)
+reading-by text from at row count c end out step true r some read is cuts = record {
+  begin = at;
+  parts = parts-written text from r.begin at count (row_word row) out r.parts some (row-ends text r.begin at row c end step r.part read is cuts);
+  part = row-begins text at row c end step read is cuts;
+}
+reading-by text from at row count c end out step false r some read is cuts = record {
+  begin = r.begin;
+  parts = subst (AreParts text from r.begin)
+      (sym (ap (λ n. take n (set out count at)) (let e : count + 0 ≡ count = omega arith in e) ∙ take-set out count at)) r.parts;
+  part = row-goes-on text r.begin at row c end step r.part read is cuts;
+}
+
+pub reading-taken : (text : List ℕ) (from at row count c end : ℕ) (out : List ℕ) (step : Step) → IsReading text from at row count out → count < length out
+    → IsReadAt text at c end → IsStep row c (value_at (significant (scalars_on text end)) 0) step
+    → IsReading text from end step.next (count + from_bool step.cuts) (set out count at)
+reading-taken text from at row count c end out step r some read is = reading-by text from at row count c end out step step.cuts r some read is refl
+
+-- a part that ended is counted
+pub some-ended : (cuts told : Bool) (count : ℕ) → (cuts && told) ≡ true → 0 < count + from_bool cuts
+some-ended true told count is = omega arith
+some-ended false told count is = absurd (let never : ⊥ = cc in never)

@@ -1,0 +1,49 @@
+use Rattle.std.proofs.Common.{◌≡◌, ℕ, ◌+◌, ◌<◌, ◌≤◌, length, refl, sym, ap, subst, ◌∙◌, arith}
+use Rattle.std.specs.Int.{from_bool}
+use Rattle.std.proofs.Math.ListN.{length-set, set}
+use Rattle.lbk_words.specs.Ends.{IsReading}
+use Rattle.lbk_words.specs.Rows.{row_word}
+use Rattle.lbk_words.proofs.FillLemmas.{from_bool-few}
+use Rattle.lbk_words.proofs.PartLemmas.{parts-written, reading-taken, some-ended}
+use Rattle.lbk_words.proofs.StepLemmas.{first-in_row}
+use Rattle.lbk_words.proofs.WalkLemmas.{walk-end}
+use Rattle.lbk_words.proofs.ends.ends_by_steps.Goals as goal
+
+pub scalars-init : goal.scalars-init
+scalars-init c =
+    let first = c.scalar_at-first in
+    record {
+      few = c.first_row-row.ensures.few;
+      within = first.ensures.read.within;
+      count = omega arith;
+      some = λ told. absurd (let never : ⊥ = cc in never);
+      reads = record {
+        begin = c.args.start;
+        parts = refl;
+        part = first-in_row c.args.text.now c.args.start first.result.code first.result.end c.first_row-row.result first.ensures.read c.first_row-row.ensures;
+      };
+    }
+
+pub scalars-preserved : goal.scalars-preserved
+scalars-preserved c =
+    let l = c.scalars in
+    let next = c.scalar_at-next in
+    let step = c.step_of-step in
+    record {
+      few = step.ensures.next;
+      within = next.ensures.read.within;
+      count = omega (arith, length-set l.out l.count l.at, c.from-count.ensures, from_bool-few step.result.cuts);
+      some = λ told. subst (λ n. 0 < l.count + n) (sym c.from-count.ensures) (some-ended step.result.cuts c.may_tell.result l.count told);
+      reads = subst (λ n. IsReading c.args.text.now c.args.start next.result.end step.result.next (l.count + n) (set l.out l.count l.at)) (sym c.from-count.ensures)
+          (reading-taken c.args.text.now c.args.start l.at l.row l.count next.result.code next.result.end l.out step.result l.invariant.reads (omega arith) next.ensures.read step.ensures);
+    }
+
+pub returns-clause-parts : goal.returns-clause-parts
+returns-clause-parts c =
+    let l = c.scalars in
+    let reads = l.invariant.reads in
+    let part = reads.part in (
+      l.at,
+      parts-written c.args.text.now c.args.start reads.begin l.at l.count (row_word l.row) l.out reads.parts (omega arith)
+          (walk-end c.args.text.now reads.begin l.at part.context (row_word l.row) part.walk (omega arith)),
+    )
