@@ -11,6 +11,7 @@ pub mod Gathered
 pub mod Filling
 pub mod Looking
 pub mod Giving
+pub mod RoomLemmas
 pub mod Running
 pub mod Finding
 pub mod Staying

@@ -1,5 +1,5 @@
 -- The pieces of a text at its word boundaries (UAX #29, section 4), and which of them are words.
-use Rattle.std.specs.Prelude.{ℕ, ◌+◌, Bool, List, [], ◌∷◌, length}
+use Rattle.std.specs.Prelude.{ℕ, ◌+◌, Bool, List, [], ◌∷◌, drop, length}
 use Rattle.std.specs.List.{list_any}
 use Rattle.std.specs.Str.{chars}
 use Rattle.unicode_segmentation.specs.Word.{word_bounds}
@@ -20,3 +20,7 @@ pieces_from cell at (piece ∷ pieces) =
 -- the pieces of a text
 unfoldable pub pieces_of : (ℕ → Cell) → List ℕ → List Piece
 pieces_of cell text = pieces_from cell 0 (word_bounds text)
+
+-- those from the boundary `at` on
+abbrev pub pieces_on : (ℕ → Cell) → List ℕ → ℕ → List Piece
+pieces_on cell text at = pieces_from cell at (word_bounds (drop at text))

@@ -1,5 +1,6 @@
 -- The state of a segmenter.
-use Rattle.std.specs.Prelude.{ℕ, ◌≡◌, ◌⊎◌, ◌<◌, ◌≤◌, List, Option, Some, ◌++◌, length, string_capacity, vec_capacity}
+use Rattle.std.specs.Prelude.{ℕ, ◌≡◌, ◌⊎◌, ◌*◌, ◌<◌, ◌≤◌, List, Option, Some, ◌++◌, length, max, string_capacity}
+use Rattle.std.specs.Prelude.{vec_capacity}
 use Rattle.lbk_rules.specs.declared.Cell.{Cell}
 use Rattle.lbk_rules.specs.Marks.{Marked, text_of}
 use Rattle.lbk_passage.specs.Next.{ComesFirst}
@@ -46,8 +47,11 @@ pub record LacksRoom (found : Found) (s : State) : Type 0 where
   pub comes : ComesFirst s marks behind
   pub full : (found.room_for_segments < length (segments_of marks)) ⊎ (found.room_for_pieces < length (pieces_of s.cell (text_of marks)))
 
--- room that was there stays, and a call is out of memory only where it lacked some; `s` is the state after it
+-- room that was there stays, and it grows to at most twice of what is found; a call is out of memory only where it
+-- lacked some; `s` is the state after it
 pub record KeepsRoom (old new : Found) (s : State) (fault : Option PassageFault) : Type 0 where
   pub for_segments : old.room_for_segments ≤ new.room_for_segments
   pub for_pieces : old.room_for_pieces ≤ new.room_for_pieces
+  pub few_segments : new.room_for_segments ≤ max old.room_for_segments (2 * length new.segments)
+  pub few_pieces : new.room_for_pieces ≤ max old.room_for_pieces (2 * length new.pieces)
   pub memory : fault ≡ Some Memory → LacksRoom old s

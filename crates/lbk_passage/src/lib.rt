@@ -16,6 +16,7 @@ mod passage;
 mod pieces;
 mod putting;
 mod reach;
+mod room;
 mod segmenter;
 mod segments;
 mod walk;

@@ -1,47 +1,92 @@
 //! The pieces of a passage.
 
-ghost use Rattle.std.specs.Prelude.{◌≡◌, ◌<◌, ◌≤◌, ◌^◌, length, vec_capacity, OnOk, OnErr};
+ghost use Rattle.std.specs.Prelude.{◌≡◌, ℕ, ◌+◌, ◌*◌, ◌<◌, ◌≤◌, ◌^◌, ◌++◌, drop, length, max, vec_capacity, vec_len, OnOk, OnErr};
+ghost use Rattle.std.specs.Prelude.{IfOk, IsUtf8};
 ghost use Rattle.lbk_passage.specs.Flags.{AreLetters};
-ghost use Rattle.lbk_passage.specs.Pieces.{is_word, pieces_of};
+ghost use Rattle.lbk_passage.specs.Pieces.{is_word, pieces_of, pieces_on};
+ghost use Rattle.lbk_words.specs.Ends.{AreParts};
 
 use crate::flags::ByteFlags;
 use crate::passage::Piece;
+use crate::room::make_room;
 use lbk_rules::CellSource;
-use lbk_words::PartEnds;
+use lbk_words::fill_ends;
 use std::alloc::AllocError;
 
-/// Writes the pieces of a text in place of what the list held (UAX #29, section 4). Where memory could not grow the
-/// list holds some of them.
+/// How many ends of pieces are found at a time.
+pub(crate) const ENDS: usize = 64;
+
+/// Writes the pieces of a text in place of what the list held (UAX #29, section 4). What the block held does not matter,
+/// and what it holds then is unspecified. Where memory could not grow the list holds some of them.
 pub fn cut_words<C: CellSource>(
     cells: &C,
     flags: &ByteFlags,
     text: &str,
+    block: &mut [usize; ENDS],
     pieces: &mut Vec<Piece>,
 ) -> Result<(), AllocError>
     requires letters { AreLetters (C.cell_of cells.now) flags.now.is_letter }
     requires few { length text.now < 2 ^ 32 }
     ensures cut { OnOk result (pieces.new.items ≡ pieces_of (C.cell_of cells.now) text.now) }
     ensures room { vec_capacity pieces.old ≤ vec_capacity pieces.new }
+    ensures most { vec_capacity pieces.new ≤ max (vec_capacity pieces.old) (2 * vec_len pieces.new) }
     ensures full { OnErr result (vec_capacity pieces.old < length (pieces_of (C.cell_of cells.now) text.now)) }
 {
     pieces.clear();
     let bytes = text.as_bytes();
-    let mut ends = PartEnds::none();
     let mut start = 0;
     while start < bytes.len() {
-        let end = ends.end_of(bytes, start);
-        pieces.push(Piece {
-            start: start as u32,
-            end: end as u32,
-            word: is_word(cells, flags, &text[start..end]),
-        })?;
-        start = end;
+        let count = fill_ends(bytes, start, block);
+        start = cut_block(cells, flags, text, start, &block[..count], pieces)?;
     }
     Ok(())
 }
 
+/// Puts the pieces that end at these bytes after those in the list, the first from `start` on, and returns where the
+/// next begins.
+fn cut_block<C: CellSource>(
+    cells: &C,
+    flags: &ByteFlags,
+    text: &str,
+    start: usize,
+    ends: &[usize],
+    pieces: &mut Vec<Piece>,
+) -> Result<usize, AllocError>
+    requires letters { AreLetters (C.cell_of cells.now) flags.now.is_letter }
+    requires few { length text.now < 2 ^ 32 }
+    requires within { start ≤ length text.now }
+    requires utf8 { IsUtf8 (drop start text.now) }
+    requires parts { (to : ℕ) × AreParts text.now start to ends.now }
+    ensures cut { IfOk result (λ next. pieces.new.items ++ pieces_on (C.cell_of cells.now) text.now next
+        ≡ pieces.old.items ++ pieces_on (C.cell_of cells.now) text.now start) }
+    ensures count { IfOk result (λ next. vec_len pieces.new + length (pieces_on (C.cell_of cells.now) text.now next)
+        ≡ vec_len pieces.old + length (pieces_on (C.cell_of cells.now) text.now start)) }
+    ensures utf8 { IfOk result (λ next. IsUtf8 (drop next text.now)) }
+    ensures within { IfOk result (λ next. next ≤ length text.now) }
+    ensures onward { IfOk result (λ next. start + length ends.now ≤ next) }
+    ensures room { vec_capacity pieces.old ≤ vec_capacity pieces.new }
+    ensures most { vec_capacity pieces.new ≤ max (vec_capacity pieces.old) (2 * vec_len pieces.new) }
+    ensures grows { vec_len pieces.old ≤ vec_len pieces.new }
+    ensures full { OnErr result (vec_capacity pieces.old
+        < vec_len pieces.old + length (pieces_on (C.cell_of cells.now) text.now start)) }
+{
+    make_room(pieces, ends.len())?;
+    let mut start = start;
+    for end in ends {
+        let end = *end;
+        pieces.push_reserved(Piece {
+            start: start as u32,
+            end: end as u32,
+            word: is_word(cells, flags, &text[start..end]),
+        });
+        start = end;
+    }
+    Ok(start)
+}
+
 /// Whether a piece holds a letter or a number. Its first byte tells where it is one, or is all of the piece. One branch
 /// stands for both, since where most scalars have one byte nearly every piece is a word or a single mark.
+#[inline(always)]
 fn is_word<C: CellSource>(cells: &C, flags: &ByteFlags, piece: &str) -> bool
     requires { AreLetters (C.cell_of cells.now) flags.now.is_letter }
     ensures { result ≡ is_word (C.cell_of cells.now) piece.now }

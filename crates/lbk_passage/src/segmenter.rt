@@ -12,7 +12,7 @@ use crate::faults::PassageFault;
 use crate::flags::ByteFlags;
 use crate::paragraph::Paragraph;
 use crate::passage::{Passage, PassageText, Piece, Segment};
-use crate::pieces::cut_words;
+use crate::pieces::{ENDS, cut_words};
 use crate::segments::{BLOCK, NO_BREAKS, cut_lines};
 use lbk_feed::{LIMIT_MAX, Source};
 use lbk_rules::{Break, CellSource, Profile, Verdict};
@@ -38,6 +38,8 @@ pub struct Segmenter<'a, C: CellSource> {
     paragraph: Paragraph,
     /// Where breaks are found into.
     block: [Break; BLOCK],
+    /// Where the ends of pieces are found into.
+    ends: [usize; ENDS],
     segments: Vec<Segment>,
     pieces: Vec<Piece>,
     ghost quiet: { AreQuiet (C.cell_of cells.now) flags.is_quiet },
@@ -79,6 +81,7 @@ impl<'a, C: CellSource> Segmenter<'a, C> {
             flags: ByteFlags::of(cells),
             paragraph,
             block: NO_BREAKS,
+            ends: [0; ENDS],
             segments: Vec::new(alloc),
             pieces: Vec::new(alloc),
         })
@@ -122,7 +125,8 @@ impl<'a, C: CellSource> Segmenter<'a, C> {
         if cut_lines(self.cells, self.profile, text, end, block, segments).is_err() {
             return Err(PassageFault::Memory);
         }
-        if cut_words(self.cells, &self.flags, text, &mut self.pieces).is_err() {
+        let (ends, pieces) = (&mut self.ends, &mut self.pieces);
+        if cut_words(self.cells, &self.flags, text, ends, pieces).is_err() {
             return Err(PassageFault::Memory);
         }
         self.paragraph.release();

@@ -1,6 +1,6 @@
 //! The segments of a passage.
 
-ghost use Rattle.std.specs.Prelude.{◌≡◌, ◌+◌, ◌<◌, ◌≤◌, ◌^◌, ◌++◌, List, false, length, vec_capacity, vec_len, All};
+ghost use Rattle.std.specs.Prelude.{◌≡◌, ◌+◌, ◌*◌, ◌<◌, ◌≤◌, ◌^◌, ◌++◌, List, false, length, max, vec_capacity, vec_len, All};
 ghost use Rattle.std.specs.Prelude.{IfOk, OnOk, OnErr};
 ghost use Rattle.std.specs.Str.{chars};
 ghost use Rattle.lbk_rules.specs.declared.Break.{Break};
@@ -11,6 +11,7 @@ ghost use Rattle.lbk_passage.specs.Segments.{segments_of};
 
 use crate::breaks::Breaks;
 use crate::passage::Segment;
+use crate::room::make_room;
 use lbk_rules::{Break, CellSource, Kind, Profile, Rule, Verdict};
 use std::alloc::AllocError;
 
@@ -40,31 +41,33 @@ pub fn cut_lines<C: CellSource>(
     ensures cut { OnOk result (segments.new.items
         ≡ segments_of (ended end (marks profile (C.cell_of cells.now) (chars text.now)))) }
     ensures room { vec_capacity segments.old ≤ vec_capacity segments.new }
+    ensures most { is_no end.kind ≡ false
+        → vec_capacity segments.new ≤ max (vec_capacity segments.old) (2 * vec_len segments.new) }
     ensures full { is_no end.kind ≡ false → OnErr result (vec_capacity segments.old
         < length (segments_of (ended end (marks profile (C.cell_of cells.now) (chars text.now))))) }
 {
     segments.clear();
     cut_alone(cells, profile, text, block, segments)?;
-    match segments.pop() {
-        None => Ok(()),
-        Some(last) => push_ended(segments, last, end),
+    if let Some(last) = segments.pop() {
+        push_ended(segments, last, end);
     }
+    Ok(())
 }
 
 /// Puts a segment after those in the list, with this verdict at its end, if a line may break there.
-fn push_ended(segments: &mut Vec<Segment>, segment: Segment, end: Verdict) -> Result<(), AllocError>
-    ensures put { OnOk result (segments.new.items ≡ segments.old.items ++ ending_by end segment) }
-    ensures room { vec_capacity segments.old ≤ vec_capacity segments.new }
-    ensures full { OnErr result (vec_capacity segments.old ≤ vec_len segments.old) }
+fn push_ended(segments: &mut Vec<Segment>, segment: Segment, end: Verdict)
+    requires { vec_len segments.old < vec_capacity segments.old }
+    ensures put { segments.new.items ≡ segments.old.items ++ ending_by end segment }
+    ensures room { vec_capacity segments.new ≡ vec_capacity segments.old }
+    ensures len { is_no end.kind ≡ false → vec_len segments.new ≡ vec_len segments.old + 1 }
 {
     if !matches!(end.kind, Kind::No) {
-        segments.push(Segment {
+        segments.push_reserved(Segment {
             kind: end.kind,
             rule: end.rule,
             ..segment
-        })?;
+        });
     }
-    Ok(())
 }
 
 /// Puts the segments of a text by itself, the last with the verdict at its end, after those in the list.
@@ -81,6 +84,8 @@ fn cut_alone<C: CellSource>(
     ensures count { OnOk result (vec_len segments.new
         ≡ vec_len segments.old + length (breaks profile (C.cell_of cells.now) (chars text.now))) }
     ensures room { vec_capacity segments.old ≤ vec_capacity segments.new }
+    ensures most { vec_capacity segments.new ≤ max (vec_capacity segments.old) (2 * vec_len segments.new) }
+    ensures grows { vec_len segments.old ≤ vec_len segments.new }
     ensures full { OnErr result (vec_capacity segments.old
         < vec_len segments.old + length (breaks profile (C.cell_of cells.now) (chars text.now))) }
 {
@@ -103,17 +108,20 @@ fn cut_block(block: &[Break], start: u32, segments: &mut Vec<Segment>) -> Result
         → segments.new.items ++ cut_at next more ≡ segments.old.items ++ cut_at start (block.now ++ more)) }
     ensures count { OnOk result (vec_len segments.new ≡ vec_len segments.old + length block.now) }
     ensures room { vec_capacity segments.old ≤ vec_capacity segments.new }
+    ensures most { vec_capacity segments.new ≤ max (vec_capacity segments.old) (2 * vec_len segments.new) }
+    ensures grows { vec_len segments.old ≤ vec_len segments.new }
     ensures full { OnErr result (vec_capacity segments.old < vec_len segments.old + length block.now) }
 {
+    make_room(segments, block.len())?;
     let mut start = start;
     for one in block {
         let end = one.at as u32;
-        segments.push(Segment {
+        segments.push_reserved(Segment {
             start,
             end,
             kind: one.kind,
             rule: one.rule,
-        })?;
+        });
         start = end;
     }
     Ok(start)

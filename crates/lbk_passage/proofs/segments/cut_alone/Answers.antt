@@ -1,8 +1,10 @@
-use Rattle.std.proofs.Common.{◌<◌, ◌≤◌, [], ◌+◌, ◌++◌, All, length, vec_len, take, append-nil, sym, ap, subst, ◌∙◌, arith}
+use Rattle.std.proofs.Common.{◌<◌, ◌≤◌, [], ◌+◌, ◌*◌, ◌++◌, All, length, vec_capacity, vec_len, take, append-nil, sym, ap, subst, ◌∙◌, arith}
+use Rattle.std.proofs.Math.Nat.{le-max_left}
 use Rattle.std.proofs.lemmas.List.{take_all}
 use Rattle.lbk_rules.specs.declared.Break.{Break}
 use Rattle.lbk_passage.specs.Cuts.{cut_at}
 use Rattle.lbk_passage.proofs.SegmentLemmas.{breaks-within}
+use Rattle.lbk_passage.proofs.RoomLemmas.{room-on}
 use Rattle.lbk_passage.proofs.segments.cut_alone.Goals as goal
 
 pub loop-start-init : goal.loop-start-init
@@ -13,6 +15,8 @@ loop-start-init g c =
       within = subst (All (λ (one : Break). one.at < 4294967296)) (sym same) (breaks-within 4294967296 c.args.profile cell c.args.text.now c.utf8.text c.requires);
       count = ap (λ to_come. vec_len c.args.segments.now + length to_come) same;
       room = omega arith;
+      most = le-max_left (vec_capacity c.args.segments.now) (2 * vec_len c.args.segments.now);
+      grows = omega arith;
     }
 
 pub returns-then-count-lt-BLOCK-clause-cut : goal.returns-then-count-lt-BLOCK-clause-cut
@@ -25,3 +29,17 @@ returns-then-count-lt-BLOCK-clause-cut g c =
     ∙ c.in_ok-start.ensures.cut []
     ∙ ap (λ bs. held ++ cut_at c.loop-start.start bs) (append-nil (take count c.fill-count.new.block) ∙ c.fill-count.ensures.front ∙ take_all count to_come all)
     ∙ c.loop-start.invariant.cut
+
+pub returns-in_err-start-clause-most : goal.returns-in_err-start-clause-most
+returns-in_err-start-clause-most g c =
+    let l = c.loop-start in
+    let cut = c.cut_block.ensures in
+    room-on (vec_capacity c.args.segments.now) (vec_capacity l.segments) (vec_capacity c.cut_block.new.segments) (vec_len l.segments) (vec_len c.cut_block.new.segments)
+    l.invariant.most cut.most cut.grows
+
+pub returns-then-count-lt-BLOCK-clause-most : goal.returns-then-count-lt-BLOCK-clause-most
+returns-then-count-lt-BLOCK-clause-most g c =
+    let l = c.loop-start in
+    let cut = c.cut_block.ensures in
+    room-on (vec_capacity c.args.segments.now) (vec_capacity l.segments) (vec_capacity c.cut_block.new.segments) (vec_len l.segments) (vec_len c.cut_block.new.segments)
+    l.invariant.most cut.most cut.grows

@@ -1,4 +1,4 @@
-use Rattle.std.proofs.Common.{◌≡◌, ◌+◌, ◌<◌, ◌≤◌, ◌^◌, ◌++◌, All, length, vec_capacity, vec_len}
+use Rattle.std.proofs.Common.{◌≡◌, ◌+◌, ◌*◌, ◌<◌, ◌≤◌, ◌^◌, ◌++◌, All, length, max, vec_capacity, vec_len}
 use Rattle.std.specs.Str.{chars}
 use Rattle.lbk_passage.specs.Breaks.{breaks}
 use Rattle.lbk_passage.specs.Cuts.{cut_at}
@@ -12,6 +12,8 @@ invariant-loop-start g l =
       within : All (λ one. one.at < 2 ^ 32) l.breaks;
       count : vec_len l.segments + length l.breaks ≡ vec_len l.fn.segments + length all;
       room : vec_capacity l.fn.segments ≤ vec_capacity l.segments;
+      most : vec_capacity l.segments ≤ max (vec_capacity l.fn.segments) (2 * vec_len l.segments);
+      grows : vec_len l.fn.segments ≤ vec_len l.segments;
     }
 
 abbrev pub decreases-loop-start : goal.decreases-loop-start

@@ -1,4 +1,4 @@
-use Rattle.std.proofs.Common.{◌≡◌, ◌+◌, ◌≤◌, List, ◌++◌, drop, vec_capacity, vec_len}
+use Rattle.std.proofs.Common.{◌≡◌, ◌+◌, List, ◌++◌, drop, vec_capacity, vec_len}
 use Rattle.lbk_rules.specs.declared.Break.{Break}
 use Rattle.lbk_passage.specs.Cuts.{cut_at}
 use Rattle.lbk_passage.proofs.segments.cut_block.Given as goal
@@ -8,5 +8,5 @@ invariant-loop-one l = record {
   cut : (more : List Break) → l.segments.items ++ cut_at l.start (drop l.one-index l.block ++ more)
       ≡ l.fn.segments.items ++ cut_at l.fn.start (l.block ++ more);
   count : vec_len l.segments ≡ vec_len l.fn.segments + l.one-index;
-  room : vec_capacity l.fn.segments ≤ vec_capacity l.segments;
+  room : vec_capacity l.segments ≡ vec_capacity l.initial.segments;
 }

@@ -1,5 +1,4 @@
-use Rattle.std.proofs.Common.{◌-◌, IsCharBoundary, string_len, ap, subst}
-use Rattle.lbk_passage.specs.Gathering.{Reaches}
+use Rattle.std.proofs.Common.{IsCharBoundary, subst}
 use Rattle.lbk_passage.proofs.Taking.{boundary}
 use Rattle.lbk_passage.proofs.paragraph.Paragraph.reach.Goals as goal
 

@@ -1,4 +1,5 @@
-use Rattle.std.proofs.Common.{◌≡◌, ℕ, ◌<◌, not, List, length, chars, Ok, Err, None, Some, string_bytes, vec_capacity, inl, inr, refl, sym, ap, subst, ◌∙◌, ⊎_elim, arith}
+use Rattle.std.proofs.Common.{◌≡◌, ℕ, ◌*◌, ◌<◌, ◌≤◌, not, List, length, max, chars, Ok, Err, None, Some, string_bytes, vec_capacity, inl, inr, refl, sym, ap, subst, ◌∙◌, ⊎_elim, arith}
+use Rattle.std.proofs.Math.Nat.{le-max_left}
 use Rattle.std.proofs.lemmas.Result.{err_from_is_err_and}
 use Rattle.lbk_passage.specs.Marks.{marks, ended}
 use Rattle.lbk_passage.specs.Segments.{segments_of}
@@ -32,6 +33,8 @@ returns-in_err-end g c =
           record {
             for_segments = omega arith;
             for_pieces = omega arith;
+            few_segments = le-max_left (vec_capacity c.args.self.now.segments) (2 * length c.args.self.now.segments.items);
+            few_pieces = le-max_left (vec_capacity c.args.self.now.pieces) (2 * length c.args.self.now.pieces.items);
             memory = λ is. absurd (never_memory (state_with cell profile p) p old.is_spent exit.0 fills.answer (let same : exit.0 ≡ Memory = cc in same));
           },
         ),
@@ -63,7 +66,13 @@ returns-in_default g c =
         (λ _. tt),
         (
           After-none cell profile old p _ _ _ _ _ _ fills,
-          record { for_segments = omega arith; for_pieces = omega arith; memory = λ is. cc },
+          record {
+            for_segments = omega arith;
+            for_pieces = omega arith;
+            few_segments = le-max_left (vec_capacity c.args.self.now.segments) (2 * length c.args.self.now.segments.items);
+            few_pieces = le-max_left (vec_capacity c.args.self.now.pieces) (2 * length c.args.self.now.pieces.items);
+            memory = λ is. cc;
+          },
         ),
       ),
       record {
@@ -101,6 +110,9 @@ returns-then-is_err g c =
           record {
             for_segments = omega (arith, c.cut_lines.ensures.room);
             for_pieces = omega arith;
+            few_segments = subst (λ n. vec_capacity c.cut_lines.new.segments ≤ max (vec_capacity c.args.self.now.segments) (2 * n)) c.cut_lines.new.segments.ok.0
+                (c.cut_lines.ensures.most first.broken);
+            few_pieces = le-max_left (vec_capacity c.args.self.now.pieces) (2 * length c.args.self.now.pieces.items);
             memory = λ is. lacks_room cell profile old p _ _ _ _ _ _ c.in-Some.end fills (found_by c.args.self.now) (inl lines);
           },
         ),
@@ -126,6 +138,7 @@ returns-then-is_err-2 g c =
     let p = c.fill.new.self in
     let was = c.in_ok-end.was ∙ ap Ok c.in-Some.is in
     let fills = rw was at (c.fill.ensures.fills profile) in
+    let first : IsFirst (state_with cell profile p) p c.in-Some.end = fills.answer in
     let words : vec_capacity c.args.self.now.pieces < length (pieces_of cell (string_bytes p.text)) =
     subst (λ l. vec_capacity c.args.self.now.pieces < length (pieces_of cell l)) c.text-text.ensures.text
     (on_err (vec_capacity c.args.self.now.pieces < length (pieces_of cell c.text-text.result.now)) c.cut_words.result
@@ -138,6 +151,9 @@ returns-then-is_err-2 g c =
           record {
             for_segments = omega (arith, c.cut_lines.ensures.room);
             for_pieces = omega (arith, c.cut_words.ensures.room);
+            few_segments = subst (λ n. vec_capacity c.cut_lines.new.segments ≤ max (vec_capacity c.args.self.now.segments) (2 * n)) c.cut_lines.new.segments.ok.0
+                (c.cut_lines.ensures.most first.broken);
+            few_pieces = subst (λ n. vec_capacity c.cut_words.new.pieces ≤ max (vec_capacity c.args.self.now.pieces) (2 * n)) c.cut_words.new.pieces.ok.0 c.cut_words.ensures.most;
             memory = λ is. lacks_room cell profile old p _ _ _ _ _ _ c.in-Some.end fills (found_by c.args.self.now) (inr words);
           },
         ),
@@ -163,6 +179,7 @@ returns g c =
     let p = c.fill.new.self in
     let was = c.in_ok-end.was ∙ ap Ok c.in-Some.is in
     let fills = rw was at (c.fill.ensures.fills profile) in
+    let first : IsFirst (state_with cell profile p) p c.in-Some.end = fills.answer in
     let lines : c.cut_lines.new.segments.items ≡ segments_of (ended c.in-Some.end (marks profile cell (chars c.text-text.result.now))) =
     on_ok (c.cut_lines.new.segments.items ≡ segments_of (ended c.in-Some.end (marks profile cell (chars c.text-text.result.now))))
     c.cut_lines.result (c.is_err.ensures.negation ∙ ap not c.if-is_err.false) c.cut_lines.ensures.cut in
@@ -188,7 +205,14 @@ returns g c =
         (λ _. tt),
         (
           given.0,
-          record { for_segments = omega (arith, c.cut_lines.ensures.room); for_pieces = omega (arith, c.cut_words.ensures.room); memory = λ is. no_fault _ is },
+          record {
+            for_segments = omega (arith, c.cut_lines.ensures.room);
+            for_pieces = omega (arith, c.cut_words.ensures.room);
+            few_segments = subst (λ n. vec_capacity c.cut_lines.new.segments ≤ max (vec_capacity c.args.self.now.segments) (2 * n)) c.cut_lines.new.segments.ok.0
+                (c.cut_lines.ensures.most first.broken);
+            few_pieces = subst (λ n. vec_capacity c.cut_words.new.pieces ≤ max (vec_capacity c.args.self.now.pieces) (2 * n)) c.cut_words.new.pieces.ok.0 c.cut_words.ensures.most;
+            memory = λ is. no_fault _ is;
+          },
         ),
       ),
       record {

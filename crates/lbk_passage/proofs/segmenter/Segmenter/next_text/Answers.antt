@@ -1,4 +1,4 @@
-use Rattle.std.proofs.Common.{◌≡◌, ℕ, ◌-◌, [], length, chars, Bool, Ok, Err, None, Some, refl, sym, ap, ◌∙◌, ⊎_elim, arith, string_bytes, string_len}
+use Rattle.std.proofs.Common.{◌≡◌, ℕ, length, chars, Ok, Err, None, Some, refl, sym, ap, ◌∙◌, ⊎_elim, arith}
 use Rattle.std.proofs.lemmas.Result.{err_from_is_err_and}
 use Rattle.lbk_rules.specs.declared.Cell.{Cell}
 use Rattle.lbk_values.specs.declared.profile.Profile.{Profile}
