@@ -16,6 +16,9 @@ use std::alloc::AllocError;
 /// How many ends of pieces are found at a time.
 pub(crate) const ENDS: usize = 64;
 
+/// More bytes than a piece has.
+const ANY_LENGTH: usize = 1 << 32;
+
 /// Writes the pieces of a text in place of what the list held (UAX #29, section 4). What the block held does not matter,
 /// and what it holds then is unspecified. Where memory could not grow the list holds some of them.
 pub fn cut_words<C: CellSource>(
@@ -43,7 +46,8 @@ pub fn cut_words<C: CellSource>(
 }
 
 /// Puts the pieces that end at these bytes after those in the list, the first from `start` on, and returns where the
-/// next begins.
+/// next begins. It stands apart, so that all that its loop has stays in registers.
+#[inline(never)]
 fn cut_block<C: CellSource>(
     cells: &C,
     flags: &ByteFlags,
@@ -84,19 +88,18 @@ fn cut_block<C: CellSource>(
     Ok(start)
 }
 
-/// Whether a piece holds a letter or a number. Its first byte tells where it is one, or is all of the piece. One branch
-/// stands for both, since where most scalars have one byte nearly every piece is a word or a single mark.
+/// Whether a piece holds a letter or a number. Its first byte tells where it is one, or is all of the piece. One
+/// comparison stands for both, since where most scalars have one byte nearly every piece is a word or a single mark.
 #[inline(always)]
 fn is_word<C: CellSource>(cells: &C, flags: &ByteFlags, piece: &str) -> bool
-    requires { AreLetters (C.cell_of cells.now) flags.now.is_letter }
+    requires letters { AreLetters (C.cell_of cells.now) flags.now.is_letter }
+    requires some { 0 < length piece.now }
     ensures { result ≡ is_word (C.cell_of cells.now) piece.now }
 {
     let bytes = piece.as_bytes();
-    if !bytes.is_empty() {
-        let letter = flags.is_letter(bytes[0]);
-        if letter | (bytes.len() == 1) {
-            return letter;
-        }
+    let letter = flags.is_letter(bytes[0]);
+    if bytes.len() <= 1 + usize::from(letter) * ANY_LENGTH {
+        return letter;
     }
     piece.chars().any(|c| cells.cell(c).letter)
 }

@@ -102,6 +102,7 @@ fn cut_alone<C: CellSource>(
 
 /// Puts the segments that end at these breaks after those in the list, the first from `start` on, and returns where
 /// the next begins.
+#[inline(never)]
 fn cut_block(block: &[Break], start: u32, segments: &mut Vec<Segment>) -> Result<u32, AllocError>
     requires { All (λ one. one.at < 2 ^ 32) block.now }
     ensures cut { IfOk result (λ next. (more : List Break)

@@ -33,12 +33,12 @@ abbrev pub AreParts : List ℕ → ℕ → ℕ → List ℕ → Type 0
 AreParts text from to [] = from ≡ to
 AreParts text from to (end ∷ ends) = ((is_word : Bool) × IsFirstPiece text from end is_word) × AreParts text end to ends
 
--- the ends from `base` on that bits told so far are in the front of a block, and the others are left
-pub record AreLeft (text : List ℕ) (base left count : ℕ) (out : List ℕ) : Type 0 where
+-- ends from the boundary `from` on are in the front of a block, up to the byte `at` behind `base`, and bits tell others
+pub record AreLeft (text : List ℕ) (from base left count : ℕ) (out : List ℕ) : Type 0 where
   pub at : ℕ
   pub stop : ℕ
   pub within : base + stop ≤ length text
-  pub parts : AreParts text base (base + at) (take count out)
+  pub parts : AreParts text from (base + at) (take count out)
   pub ends : AreEnds (drop base text) at stop left
 
 -- the parts that ended are in the front of a block, and the scalars behind them, up to the byte `at`, are of one part

@@ -12,6 +12,9 @@ use lbk_masks::{HalfSets, first_set, kept_below, kept_from, without_first};
 /// Fewer bytes than this are left to steps.
 const FEW: usize = 16;
 
+/// The first byte value with which few letters of two bytes begin, or longer ones do.
+const LONG: u8 = 0xDC;
+
 /// The sets of the bytes of which two are one part.
 const PAIRS: HalfSets = HalfSets {
     low: [4, 0, 0, 0, 0, 0, 0, 0, 0, 0, 2, 0, 0, 1, 0, 0],
@@ -24,35 +27,58 @@ const FEEDS: u8 = 2;
 
 const SPACES: u8 = 4;
 
-/// Puts where the next parts of a text end, from a boundary on, into the front of a block, and returns how many: one at
-/// least.
+/// Puts where the next parts of a text end, from a boundary on, into the front of a block, as many as it holds or all,
+/// and returns how many.
 pub fn fill_ends(text: &[u8], start: usize, out: &mut [usize]) -> usize
-    requires some { start < length text.now }
-    requires room { 0 < length out.old }
-    ensures some { 0 < result }
+    ensures some { start < length text.now → 0 < length out.old → 0 < result }
     ensures within { result ≤ length out.old }
     ensures parts { (to : ℕ) × AreParts text.now start to (take result out.new) }
 {
-    let ends = ends_from(text, start);
-    if ends == 0 {
-        return ends_by_steps(text, start, out);
+    let mut count = 0;
+    let mut at = start;
+    'rounds: while at < text.len() && count < out.len() {
+        count = fill_further(text, at, count, out);
+        at = out[count - 1];
     }
-    put_ends(start, ends, out)
+    count
 }
 
-/// Puts where the parts of a text end, from a boundary on, into the front of a block, and returns how many: one at
-/// least, and as many as it holds, unless the text ends or bits are likely to tell the next.
-fn ends_by_steps(text: &[u8], start: usize, out: &mut [usize]) -> usize
+/// Puts where the next parts end after the ends in the front of the block, and returns how many ends these are now.
+#[inline(always)]
+fn fill_further(text: &[u8], start: usize, count: usize, out: &mut [usize]) -> usize
     requires some { start < length text.now }
-    requires room { 0 < length out.old }
-    ensures some { 0 < result }
+    requires room { count < length out.old }
+    ensures more { count < result }
     ensures within { result ≤ length out.old }
-    ensures parts { (to : ℕ) × AreParts text.now start to (take result out.new) }
+    ensures parts { (from : ℕ) → AreParts text.now from start (take count out.old)
+        → (to : ℕ) × AreParts text.now from to (take result out.new) }
+{
+    // Most lines end with a part of one byte.
+    if text.len() - start == 1 && text[start] < 0x80 {
+        out[count] = start + 1;
+        return count + 1;
+    }
+    let ends = ends_from(text, start);
+    if ends == 0 {
+        return put_by_steps(text, start, count, out);
+    }
+    put_ends(start, ends, count, out)
+}
+
+/// The same scalar by scalar, until the block is full, the text ends, or bits are likely to tell the next end.
+#[inline(never)]
+fn put_by_steps(text: &[u8], start: usize, count: usize, out: &mut [usize]) -> usize
+    requires some { start < length text.now }
+    requires room { count < length out.old }
+    ensures more { count < result }
+    ensures within { result ≤ length out.old }
+    ensures parts { (from : ℕ) → AreParts text.now from start (take count out.old)
+        → (to : ℕ) × AreParts text.now from to (take result out.new) }
 {
     let first = scalar_at(text, start);
     let mut at = first.end;
     let mut row = first_row(first.code);
-    let mut count = 0;
+    let mut count = count;
     let mut told = false;
     'scalars: while at < text.len() && count < out.len() && !told {
         let next = scalar_at(text, at);
@@ -71,17 +97,20 @@ fn ends_by_steps(text: &[u8], start: usize, out: &mut [usize]) -> usize
     count + 1
 }
 
-/// Puts the bytes that bits stand for, of which the first is that of the byte `base`, into the front of a block, as many
-/// as it holds, and returns how many.
+/// Puts the bytes that bits stand for, of which the first is that of the byte `base`, after the ends in the front of the
+/// block, as many as it holds, and returns how many ends these are now.
 #[inline(always)]
-fn put_ends(base: usize, ends: u64, out: &mut [usize]) -> usize
-    requires { base + 64 < 2 ^ 64 }
-    ensures some { 0 < ends → 0 < length out.old → 0 < result }
+fn put_ends(base: usize, ends: u64, count: usize, out: &mut [usize]) -> usize
+    requires base { base + 64 < 2 ^ 64 }
+    requires some { 0 < ends }
+    requires room { count < length out.old }
+    ensures more { count < result }
     ensures within { result ≤ length out.old }
-    ensures parts { (text : List ℕ) → AreTold text base ends → (to : ℕ) × AreParts text base to (take result out.new) }
+    ensures parts { (text : List ℕ) (from : ℕ) → AreTold text base ends → AreParts text from base (take count out.old)
+        → (to : ℕ) × AreParts text from to (take result out.new) }
 {
     let mut left = ends;
-    let mut count = 0;
+    let mut count = count;
     'ends: while 0 < left && count < out.len() {
         out[count] = base + first_set(left);
         left = without_first(left);
@@ -130,17 +159,17 @@ fn padded(text: &[u8]) -> [u8; BLOCK]
 fn may_tell(text: &[u8], start: usize) -> bool
     requires { start < length text.now }
 {
-    if text.len() - start < FEW {
+    let first = text[start];
+    if LONG <= first || text.len() - start < FEW {
         return false;
     }
-    let first = text[start];
     is_usual(first) && (0x80 <= first || is_usual(text[start + 1]))
 }
 
 /// Whether a byte is below 128, or one with which most letters of two bytes begin.
 #[inline(always)]
 fn is_usual(byte: u8) -> bool {
-    byte < 0x80 || (0xC3 <= byte && byte <= 0xDB && byte != 0xD7)
+    byte < 0x80 || (0xC3 <= byte && byte < LONG && byte != 0xD7)
 }
 
 /// Where parts end among the first 64 bytes, at the first of which one begins.
