@@ -117,6 +117,14 @@ module _ (cell : ℕ → Cell) (table : FlatTable) (text : List ℕ) (cuts : Lis
   block-first block k at is safe below after past before =
       first-in cuts block.before.at block.count block.cuts is.rest rising is.joined k at below (omega (arith, safe.few, safe.room, safe.size)) after past before
 
+  -- and the first past one of them is the next
+  pub block-next : (block : CutBlock) (k : ℕ) (last : Cut) → IsBlock cell table text cuts block → IsSafe text block → 0 < k → k < block.count
+      → (slice_index_or block.cuts (k - 1) no_cut).at ≡ last.at → last.at < (slice_index_or block.cuts k no_cut).at
+      → cuts_past last.at cuts ≡ slice_index_or block.cuts k no_cut ∷ cuts_past (slice_index_or block.cuts k no_cut).at cuts
+  block-next block k last is safe some below same past =
+      let s = split-at cuts block.before.at block.count block.cuts is.rest rising is.joined (k - 1) (omega arith) (omega (arith, safe.few, safe.room, safe.size)) in
+      block-first block k last.at is safe below (omega (arith, s.past, same)) past (inr (omega arith))
+
   -- the text has no cut behind a block that is not full
   none-by : (block : CutBlock) (at : ℕ) (b : Bool) → (block.count == 0) ≡ b → IsBlock cell table text cuts block → IsSafe text block
       → block.count < block.room → block.behind.at ≤ at → cuts_past at cuts ≡ []
@@ -170,3 +178,9 @@ reach-some text block at safe before behind = reach-by text block at (block.coun
 
 pub reach-le : (from to at : ℕ) → (nat_le from at && nat_lt at to) ≡ true → (from ≤ at) × (at < to)
 reach-le from to at is = (let below : from ≤ at = grind (arith, nat_tests) in below, let before : at < to = grind (arith, nat_tests) in before)
+
+-- a place in a block is behind a cut, if it is not the end
+pub was-found : (block : CutBlock) (k at : ℕ) → (k ≡ block.count) ⊎ ((0 < k) × ((slice_index_or block.cuts (k - 1) no_cut).at ≡ at)) → k < block.count
+    → (0 < k) × ((slice_index_or block.cuts (k - 1) no_cut).at ≡ at)
+was-found block k at (inl all) below = absurd (omega arith)
+was-found block k at (inr found) below = found

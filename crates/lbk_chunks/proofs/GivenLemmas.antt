@@ -44,13 +44,13 @@ chunk-same limits h end words alone same_words same_alone =
 pub record IsFirstChunk (limits : Limits) (cuts : List Cut) (given : Given) (chunks : List Chunk) : Type 0 where
   pub rest : List Chunk
   pub joined : chunks ≡ given.chunk ∷ rest
-  pub onward : AreChunks limits cuts (here_of given.state) rest
+  pub onward : AreChunks limits cuts given.next rest
 
-pub first-chunk : (limits : Limits) (cuts : List Cut) (state : ChunkState) (given : Given) (chunks : List Chunk)
-    → IsGiven limits cuts state given → AreChunks limits cuts (here_of state) chunks → IsFirstChunk limits cuts given chunks
-first-chunk limits cuts state given [] g are = absurd (let joined = g.ends.joined in let no : ⊥ = cc in no)
-first-chunk limits cuts state given (chunk ∷ chunks) g are =
-    let h = here_of state in
+pub first-chunk : (limits : Limits) (cuts : List Cut) (here : Here) (given : Given) (chunks : List Chunk)
+    → IsGiven limits cuts here given → AreChunks limits cuts here chunks → IsFirstChunk limits cuts given chunks
+first-chunk limits cuts here given [] g are = absurd (let joined = g.ends.joined in let no : ⊥ = cc in no)
+first-chunk limits cuts here given (chunk ∷ chunks) g are =
+    let h = here in
     let joined : are.0 ∷ are.1 ≡ g.ends.first ∷ cuts_past g.ends.first.at cuts = sym are.2 ∙ g.ends.joined in
     let same_first : are.0 ≡ g.ends.first = cc in
     let same_more : are.1 ≡ cuts_past g.ends.first.at cuts = cc in
@@ -79,9 +79,9 @@ none-left (suc n) [] few none = absurd (omega arith)
 none-left (suc n) (x ∷ xs) few none = (let more = none-left n xs (omega arith) none in omega arith)
 
 module _ (cell : ℕ → Cell) (table : FlatTable) (text : List ℕ) (limits : Limits) (cuts : List Cut) (to_come : List Chunk) where
-  pub give-none : (out : List Chunk) (window : Window) (state : ChunkState) → Knows cell table text cuts window state → AreChunks limits cuts (here_of state) to_come
-      → AreGiven cell table text limits cuts to_come 0 out window state
-  give-none out window state knows are = record {
+  pub give-none : (out : List Chunk) (window : Window) (here : Here) → Knows cell table text cuts window here → AreChunks limits cuts here to_come
+      → AreGiven cell table text limits cuts to_come 0 out window here
+  give-none out window here knows are = record {
     few = omega arith;
     front = refl;
     rest = are;
@@ -89,31 +89,31 @@ module _ (cell : ℕ → Cell) (table : FlatTable) (text : List ℕ) (limits : L
     stands = λ no. absurd (omega arith);
   }
 
-  pub give-more : (count : ℕ) (before out : List Chunk) (old new : Window) (state : ChunkState) (given : Given)
-      → AreGiven cell table text limits cuts to_come count before old state → IsGiven limits cuts state given
-      → take (count + 1) out ≡ take count before ++ given.chunk ∷ [] → Knows cell table text cuts new given.state
-      → AreGiven cell table text limits cuts to_come (count + 1) out new given.state
-  give-more count before out old new state given were g more knows =
-      let first = first-chunk limits cuts state given (drop count to_come) g were.rest in
+  pub give-more : (count : ℕ) (before out : List Chunk) (old new : Window) (here : Here) (given : Given)
+      → AreGiven cell table text limits cuts to_come count before old here → IsGiven limits cuts here given
+      → take (count + 1) out ≡ take count before ++ given.chunk ∷ [] → Knows cell table text cuts new given.next
+      → AreGiven cell table text limits cuts to_come (count + 1) out new given.next
+  give-more count before out old new here given were g more knows =
+      let first = first-chunk limits cuts here given (drop count to_come) g were.rest in
       let one = one-more count to_come given.chunk first.rest first.joined in
       record {
         few = one.2;
         front = more ∙ ap (λ l. l ++ given.chunk ∷ []) were.front ∙ sym one.0;
-        rest = subst (AreChunks limits cuts (here_of given.state)) (sym one.1) first.onward;
+        rest = subst (AreChunks limits cuts given.next) (sym one.1) first.onward;
         knows = knows;
         stands = λ _. g.stands;
       }
 
-  pub none-more : (count : ℕ) (out : List Chunk) (window : Window) (state : ChunkState) → AreGiven cell table text limits cuts to_come count out window state
-      → cuts_past state.told cuts ≡ [] → count ≡ length to_come
-  none-more count out window state were none =
-      none-left count to_come were.few (no-chunk limits cuts (here_of state) (drop count to_come) none were.rest)
+  pub none-more : (count : ℕ) (out : List Chunk) (window : Window) (here : Here) → AreGiven cell table text limits cuts to_come count out window here
+      → cuts_past here.told cuts ≡ [] → count ≡ length to_come
+  none-more count out window here were none =
+      none-left count to_come were.few (no-chunk limits cuts here (drop count to_come) none were.rest)
 
 -- what is to come of a text from a state that stands at a cut
-pub come-on : (cell : ℕ → Cell) (table : FlatTable) (text : List ℕ) (limits : Limits) (cuts : List Cut) (here : ChunkState) (place : Place) (to_come : List Chunk)
-    → are_limits limits ≡ true → AreCutsPast 0 cuts → here.start ≤ here.told → IsStanding cuts here.start here.place.words
-    → IsAhead cell table text place (cuts_past here.start cuts) → place.words ≡ here.place.words → AreChunks limits cuts (here_of here) to_come
-    → ChunksCome cell table text limits (record here { place = place }) to_come
+pub come-on : (cell : ℕ → Cell) (table : FlatTable) (text : List ℕ) (limits : Limits) (cuts : List Cut) (here : Here) (place : Place) (to_come : List Chunk)
+    → are_limits limits ≡ true → AreCutsPast 0 cuts → here.start ≤ here.told → IsStanding cuts here.start here.words
+    → IsAhead cell table text place (cuts_past here.start cuts) → place.words ≡ here.words → AreChunks limits cuts here to_come
+    → ChunksCome cell table text limits (record { place = place; start = here.start; told = here.told }) to_come
 come-on cell table text limits cuts here place to_come in_range rising order stands ahead words are = record {
   in_range = in_range;
   cuts = cuts;
@@ -127,9 +127,9 @@ come-on cell table text limits cuts here place to_come in_range rising order sta
 }
 
 -- the window still has the cuts, and those from a later start on
-pub knows-on : (cell : ℕ → Cell) (table : FlatTable) (text : List ℕ) (cuts : List Cut) (old new : Window) (state here : ChunkState) → Knows cell table text cuts old state
+pub knows-on : (cell : ℕ → Cell) (table : FlatTable) (text : List ℕ) (cuts : List Cut) (old new : Window) (was here : Here) → Knows cell table text cuts old was
     → AreKept cell table text cuts new → new.home.at ≤ here.start → here.start ≤ here.told → Knows cell table text cuts new here
-knows-on cell table text cuts old new state here knows kept home told = record { rising = knows.rising; kept = kept; home = home; told = told }
+knows-on cell table text cuts old new was here knows kept home told = record { rising = knows.rising; kept = kept; home = home; told = told }
 
 pub home-same : (old new : Window) (at : ℕ) → new.home ≡ old.home → old.home.at ≤ at → new.home.at ≤ at
 home-same old new at same before = subst (λ (m : Mark). m.at ≤ at) (sym same) before
@@ -138,7 +138,7 @@ home-same old new at same before = subst (λ (m : Mark). m.at ≤ at) (sym same)
 pub knows-first : (cell : ℕ → Cell) (table : FlatTable) (text : List ℕ) (limits : Limits) (state : ChunkState) (to_come : List Chunk) (window : Window)
     → (come : ChunksCome cell table text limits state to_come) → window.home ≡ record { place = state.place; at = state.start }
     → ((cuts : List Cut) → AreCutsPast 0 cuts → IsMark cell table text cuts (record { place = state.place; at = state.start }) → AreKept cell table text cuts window)
-    → Knows cell table text come.cuts window state
+    → Knows cell table text come.cuts window (here_of state)
 knows-first cell table text limits state to_come window come same are =
     let s = come.stands in
     record {

@@ -3,12 +3,10 @@ use Rattle.std.proofs.Common.{◌≡◌, ℕ, ◌-◌, ◌*◌, ◌/◌, ◌<◌
 use Rattle.std.specs.Prelude.{find}
 use Rattle.std.proofs.lemmas.Bool.{cases_lt}
 use Rattle.std.proofs.lemmas.Bool.Decides.{nat_tests}
-use Rattle.lbk_chunks.specs.declared.chunk.ChunkState.{ChunkState}
 use Rattle.lbk_chunks.specs.declared.chunk.Limits.{Limits}
 use Rattle.lbk_chunks.specs.declared.cut.Cut.{Cut}
-use Rattle.lbk_chunks.specs.declared.cut.Place.{Place}
 use Rattle.lbk_chunks.specs.Chunks.{Here, after, cuts_past, fits, may_start, start_among, start_at, start_before}
-use Rattle.lbk_chunks.specs.Coming.{AreCutsPast, IsCutOf, IsStanding, here_of}
+use Rattle.lbk_chunks.specs.Coming.{AreCutsPast, IsCutOf, IsStanding}
 use Rattle.lbk_chunks.proofs.CutLemmas.{past-past, past-rising}
 
 and-false : (a : Bool) → (a && false) ≡ false
@@ -100,11 +98,6 @@ pub find-later : (p : Cut → Bool) (start at : ℕ) (cuts : List Cut) → ((c :
 find-later p start at cuts none rising below =
     find-skip p start at (cuts_past start cuts) none (past-rising 0 start cuts rising) ∙ ap (find p) (past-past start at cuts below)
 
--- a state at a cut
-pub stands : (cuts : List Cut) (state : ChunkState) (place : Place) (c : Cut) (told : ℕ)
-    → state ≡ record { place = record place { words = c.words }; start = c.at; told = told } → IsCutOf cuts c
-    → (here_of state ≡ start_at c told) × IsStanding cuts state.start state.place.words
-stands cuts state place c told is cut = (
-  ap here_of is,
-  (c, sym (ap (λ (s : ChunkState). s.start) is), sym (ap (λ (s : ChunkState). s.place.words) is), cut),
-)
+-- a start at a cut
+pub stands : (cuts : List Cut) (here : Here) (c : Cut) (told : ℕ) → here ≡ start_at c told → IsCutOf cuts c → IsStanding cuts here.start here.words
+stands cuts here c told is cut = (c, sym (ap (λ (h : Here). h.start) is), sym (ap (λ (h : Here). h.words) is), cut)

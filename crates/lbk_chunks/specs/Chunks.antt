@@ -4,18 +4,13 @@ use Rattle.std.specs.Prelude.{◌∷◌, Option, Some, None, find, if◌then◌e
 use Rattle.std.specs.List.{list_all}
 use Rattle.std.specs.Option.{unwrap_or}
 use Rattle.lbk_chunks.specs.declared.chunk.Chunk.{Chunk}
+pub use Rattle.lbk_chunks.specs.declared.chunk.Here.{Here}
 use Rattle.lbk_chunks.specs.declared.chunk.Limits.{Limits}
 use Rattle.lbk_chunks.specs.declared.cut.Cut.{Cut}
 
 -- limits that can be met: at least one byte, an early end within that, and at most half of it said twice
 abbrev pub are_limits : Limits → Bool
 are_limits l = nat_lt 0 l.most && (nat_le l.least l.most && nat_le l.overlap (l.most / 2))
-
--- where a chunk starts, how many words are before that, and up to where the text was told by the chunks before it
-pub record Here : Type 0 where
-  pub start : ℕ
-  pub words : ℕ
-  pub told : ℕ
 
 -- the cuts behind a place
 abbrev pub cuts_past : ℕ → List Cut → List Cut

@@ -24,6 +24,7 @@ use Rattle.lbk_chunks.specs.declared.cut_block.CutBlock.{CutBlock}
 use Rattle.lbk_chunks.specs.declared.cut_block.Mark.{Mark}
 use Rattle.lbk_chunks.specs.declared.word_block.WordBlock.{WordBlock}
 use Rattle.lbk_chunks.specs.declared.window.Window.{Window}
+use Rattle.lbk_chunks.specs.declared.chunking.Fitting.{Fitting}
 use Rattle.lbk_chunks.specs.declared.chunking.Given.{Given}
 use Rattle.lbk_chunks.specs.Chunks.{AreChunks, Here, after, are_limits, chunk_to, cuts_past, end_of, fits, fitting}
 use Rattle.lbk_chunks.specs.Chunks.{last_early, last_of}
@@ -164,11 +165,11 @@ pub record AreKept (cell : ℕ → Cell) (table : FlatTable) (text : List ℕ) (
   pub home : IsMark cell table text cuts window.home
 
 -- the window has the cuts of a text from the start of a chunk on
-pub record Knows (cell : ℕ → Cell) (table : FlatTable) (text : List ℕ) (cuts : List Cut) (window : Window) (state : ChunkState) : Type 0 where
+pub record Knows (cell : ℕ → Cell) (table : FlatTable) (text : List ℕ) (cuts : List Cut) (window : Window) (here : Here) : Type 0 where
   pub rising : AreCutsPast 0 cuts
   pub kept : AreKept cell table text cuts window
-  pub home : window.home.at ≤ state.start
-  pub told : state.start ≤ state.told
+  pub home : window.home.at ≤ here.start
+  pub told : here.start ≤ here.told
 
 -- a state stands at a cut of a text with these cuts, or at its start
 pub record IsAt (cell : ℕ → Cell) (table : FlatTable) (text : List ℕ) (cuts : List Cut) (state : ChunkState) : Type 0 where
@@ -180,19 +181,19 @@ pub record IsAt (cell : ℕ → Cell) (table : FlatTable) (text : List ℕ) (cut
 abbrev pub here_of : ChunkState → Here
 here_of state = record { start = state.start; words = state.place.words; told = state.told }
 
--- the chunk from a state on ends at this cut
-pub record IsEnd (limits : Limits) (cuts : List Cut) (state : ChunkState) (end : Cut) : Type 0 where
+-- the chunk from here on ends at this cut
+pub record IsEnd (limits : Limits) (cuts : List Cut) (here : Here) (end : Cut) : Type 0 where
   pub first : Cut
-  pub joined : cuts_past state.told cuts ≡ first ∷ cuts_past first.at cuts
-  pub is : end ≡ end_of limits (here_of state) first (cuts_past first.at cuts)
+  pub joined : cuts_past here.told cuts ≡ first ∷ cuts_past first.at cuts
+  pub is : end ≡ end_of limits here first (cuts_past first.at cuts)
 
--- the chunk from a state on, and the state behind it
-pub record IsGiven (limits : Limits) (cuts : List Cut) (state : ChunkState) (given : Given) : Type 0 where
+-- the chunk from here on, and where the next one starts
+pub record IsGiven (limits : Limits) (cuts : List Cut) (here : Here) (given : Given) : Type 0 where
   pub end : Cut
-  pub ends : IsEnd limits cuts state end
-  pub chunk : given.chunk ≡ chunk_to limits (here_of state) end
-  pub next : here_of given.state ≡ after limits cuts (here_of state) end
-  pub stands : IsStanding cuts given.state.start given.state.place.words
+  pub ends : IsEnd limits cuts here end
+  pub chunk : given.chunk ≡ chunk_to limits here end
+  pub next : given.next ≡ after limits cuts here end
+  pub stands : IsStanding cuts given.next.start given.next.words
 
 -- the state at the start of a text
 abbrev pub state_start : Profile → ChunkState
@@ -210,22 +211,29 @@ pub record ChunksCome (cell : ℕ → Cell) (table : FlatTable) (text : List ℕ
   pub chunks : AreChunks limits cuts (here_of state) to_come
 
 -- what was given of the chunks to come, and what the others come from
-pub record AreGiven (cell : ℕ → Cell) (table : FlatTable) (text : List ℕ) (limits : Limits) (cuts : List Cut) (to_come : List Chunk) (count : ℕ) (out : List Chunk) (window : Window) (state : ChunkState) : Type 0 where
+pub record AreGiven (cell : ℕ → Cell) (table : FlatTable) (text : List ℕ) (limits : Limits) (cuts : List Cut) (to_come : List Chunk) (count : ℕ) (out : List Chunk) (window : Window) (here : Here) : Type 0 where
   pub few : count ≤ length to_come
   pub front : take count out ≡ take count to_come
-  pub rest : AreChunks limits cuts (here_of state) (drop count to_come)
-  pub knows : Knows cell table text cuts window state
-  pub stands : 0 < count → IsStanding cuts state.start state.place.words
+  pub rest : AreChunks limits cuts here (drop count to_come)
+  pub knows : Knows cell table text cuts window here
+  pub stands : 0 < count → IsStanding cuts here.start here.words
 
--- the cuts ahead of a state fit up to the last one, and a chunk may end early at that which was found
-pub record IsEnding (limits : Limits) (cuts : List Cut) (state : ChunkState) (last : Cut) (early : Option Cut) : Type 0 where
+-- a cut stands past one byte, at another or before it; the last that fits, and that at which the chunk may end early, do
+abbrev pub StandsIn : ℕ → ℕ → Cut → Type 0
+StandsIn from to c = (from < c.at) × (c.at ≤ to)
+
+abbrev pub ArePlaced : ℕ → ℕ → Fitting → Type 0
+ArePlaced from to f = StandsIn from to f.last × ((c : Cut) → f.early ≡ Some c → StandsIn from to c)
+
+-- the cuts ahead fit up to the last one, and a chunk may end early at that which was found
+pub record IsEnding (limits : Limits) (cuts : List Cut) (here : Here) (last : Cut) (early : Option Cut) : Type 0 where
   pub first : Cut
-  pub joined : cuts_past state.told cuts ≡ first ∷ cuts_past first.at cuts
-  pub fits_first : fits limits (here_of state) first ≡ true
-  pub all : list_all (fits limits (here_of state)) (cuts_past first.at cuts) ≡ list_all (fits limits (here_of state)) (cuts_past last.at cuts)
+  pub joined : cuts_past here.told cuts ≡ first ∷ cuts_past first.at cuts
+  pub fits_first : fits limits here first ≡ true
+  pub all : list_all (fits limits here) (cuts_past first.at cuts) ≡ list_all (fits limits here) (cuts_past last.at cuts)
   pub whole : last_of first (cuts_past first.at cuts) ≡ last_of last (cuts_past last.at cuts)
-  pub full : last_of first (fitting limits (here_of state) (cuts_past first.at cuts)) ≡ last_of last (fitting limits (here_of state) (cuts_past last.at cuts))
-  pub early_end : last_early limits (here_of state) None (first ∷ fitting limits (here_of state) (cuts_past first.at cuts))
-      ≡ last_early limits (here_of state) early (fitting limits (here_of state) (cuts_past last.at cuts))
+  pub full : last_of first (fitting limits here (cuts_past first.at cuts)) ≡ last_of last (fitting limits here (cuts_past last.at cuts))
+  pub early_end : last_early limits here None (first ∷ fitting limits here (cuts_past first.at cuts))
+      ≡ last_early limits here early (fitting limits here (cuts_past last.at cuts))
   pub cut : IsCutOf cuts last
   pub early_cut : (c : Cut) → early ≡ Some c → IsCutOf cuts c

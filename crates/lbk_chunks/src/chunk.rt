@@ -34,6 +34,17 @@ pub struct Chunk {
     pub alone: bool,
 }
 
+/// Where a chunk starts.
+#[derive(Clone, Copy)]
+pub struct Here {
+    /// The byte that it begins with, counted from the text's start.
+    pub start: usize,
+    /// How many words are before that.
+    pub words: usize,
+    /// Up to where the text is in the chunks before it.
+    pub told: usize,
+}
+
 /// How far a text was cut into chunks. One of zeros stands at the start of a text, in the first profile.
 #[repr(C)]
 #[derive(Clone, Copy)]

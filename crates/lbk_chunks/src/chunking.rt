@@ -1,20 +1,22 @@
 //! Chunks, a block at a time.
 
-ghost use Rattle.std.specs.Prelude.{◌≡◌, ℕ, ◌<◌, ◌≤◌, [], false, true, List, IfSome, MatchOption, drop, length, min};
-ghost use Rattle.std.specs.Prelude.{take, if◌then◌else◌};
+ghost use Rattle.std.specs.Prelude.{◌≡◌, ℕ, ◌<◌, ◌≤◌, [], false, true, List, IfSome, MatchOption, Some, drop, length};
+ghost use Rattle.std.specs.Prelude.{min, take, if◌then◌else◌};
 ghost use Rattle.lbk_rules.specs.declared.Cell.{Cell};
 ghost use Rattle.lbk_values.specs.declared.profile.Profile.{Profile};
 ghost use Rattle.lbk_rules.specs.FlatTable.{IsFlatOf};
 ghost use Rattle.lbk_chunks.specs.declared.chunk.Chunk.{Chunk};
 ghost use Rattle.lbk_chunks.specs.declared.cut.Cut.{Cut};
-ghost use Rattle.lbk_chunks.specs.Chunks.{AreChunks, AreTold, after, are_limits, cuts_past, fits, is_early};
-ghost use Rattle.lbk_chunks.specs.Chunks.{may_start, text_start};
-ghost use Rattle.lbk_chunks.specs.Coming.{AreGiven, AreKept, ChunksCome, IsCutOf, IsEnd, IsGiven, IsKept, IsStanding};
-ghost use Rattle.lbk_chunks.specs.Coming.{Knows, here_of, state_start};
+ghost use Rattle.lbk_rules.specs.declared.flat_table.FlatTable.{FlatTable};
+ghost use Rattle.lbk_chunks.specs.Chunks.{AreChunks, AreTold, after, are_limits, cuts_past, is_early};
+ghost use Rattle.lbk_chunks.specs.Chunks.{may_start, start_at, text_start};
+ghost use Rattle.lbk_chunks.specs.Coming.{AreGiven, AreKept, ArePlaced, ChunksCome, IsCutOf, IsEnd, IsEnding};
+ghost use Rattle.lbk_chunks.specs.Coming.{IsGiven, IsKept, IsStanding, Knows, state_start};
 ghost use Rattle.lbk_chunks.specs.Cuts.{AreCutsPast, cuts_of};
 
-use crate::chunk::{Chunk, ChunkState, Limits};
-use crate::cut::{Cut, Place};
+use crate::choosing::{are_limits, early_or, fits, may_start};
+use crate::chunk::{Chunk, ChunkState, Here, Limits};
+use crate::cut::Cut;
 use crate::cut_block::Mark;
 use crate::window::Window;
 use lbk_rules::FlatTable;
@@ -60,63 +62,69 @@ pub fn chunks(
         at: state.start,
     };
     let mut window = Window::new(table, text, home);
-    let mut here = *state;
+    let mut here = Here {
+        start: state.start,
+        words: state.place.words,
+        told: state.told,
+    };
     let count = give_chunks(table, limits, &mut here, text, &mut window, out);
     if count == 0 {
         return 0;
     }
-    let place = window.place_of(table, text, here.start);
-    *state = ChunkState { place, ..here };
+    *state = ChunkState {
+        place: window.place_of(table, text, here.start),
+        start: here.start,
+        told: here.told,
+    };
     count
 }
 
-/// Puts the next chunks into the front of the block. Of the state's place only the number of words is kept.
+/// Puts the chunks from here on into the front of the block.
 fn give_chunks(
     table: &FlatTable,
     limits: &Limits,
-    state: &mut ChunkState,
+    here: &mut Here,
     text: &[u8],
     window: &mut Window,
     out: &mut [Chunk],
 ) -> usize
     requires kept { IsKept text.now window.old }
-    requires order { state.old.start ≤ state.old.told }
+    requires order { here.old.start ≤ here.old.told }
     ensures kept { IsKept text.now window.new }
     ensures within { result ≤ length out.old }
-    ensures told { AreTold state.old.told state.new.told (length text.now) (take result out.new) }
-    ensures none { result ≡ 0 → state.new ≡ state.old }
-    ensures order { state.new.start ≤ state.new.told }
+    ensures told { AreTold here.old.told here.new.told (length text.now) (take result out.new) }
+    ensures order { here.new.start ≤ here.new.told }
     ensures given { (cell : ℕ → Cell) (cuts : List Cut) (to_come : List Chunk)
-        → Knows cell table.now text.now cuts window.old state.old
-        → AreChunks limits.now cuts (here_of state.old) to_come
-        → AreGiven cell table.now text.now limits.now cuts to_come result out.new window.new state.new
+        → Knows cell table.now text.now cuts window.old here.old
+        → AreChunks limits.now cuts here.old to_come
+        → AreGiven cell table.now text.now limits.now cuts to_come result out.new window.new here.new
         × (result ≡ min (length out.old) (length to_come)) }
 {
     let mut count = 0;
     while count < out.len() {
-        let Some(given) = next_chunk(table, limits, state, text, window) else {
+        let Some(given) = next_chunk(table, limits, here, text, window) else {
             return count;
         };
-        window.settle(given.state.start);
+        window.settle(given.next.start);
         out[count] = given.chunk;
-        *state = given.state;
+        *here = given.next;
         count += 1;
     }
     count
 }
 
-/// A chunk, and the state behind it.
+/// A chunk, and where the next one starts.
 #[derive(Clone, Copy)]
 struct Given {
     chunk: Chunk,
-    state: ChunkState,
+    next: Here,
 }
 
-/// The next chunk from a state on.
+/// The chunk from here on.
 fn next_chunk(
     table: &FlatTable,
     limits: &Limits,
-    state: &ChunkState,
+    here: &Here,
     text: &[u8],
     window: &mut Window,
 ) -> Option<Given>
@@ -125,35 +133,46 @@ fn next_chunk(
     ensures home { window.new.home ≡ window.old.home }
     ensures are { (cell : ℕ → Cell) (cuts : List Cut) → AreCutsPast 0 cuts
         → AreKept cell table.now text.now cuts window.old → AreKept cell table.now text.now cuts window.new }
-    ensures given { (cell : ℕ → Cell) (cuts : List Cut) → Knows cell table.now text.now cuts window.old state.now
-        → MatchOption result (cuts_past state.now.told cuts ≡ []) (IsGiven limits.now cuts state.now) }
-    ensures places { IfSome result (λ given. (given.chunk.start ≡ state.now.start)
-        × (state.now.told < given.chunk.end) × (given.chunk.end ≤ length text.now)
-        × (given.state.told ≡ given.chunk.end) × (given.state.start ≤ given.state.told)) }
-    ensures onward { state.now.start ≤ state.now.told → IfSome result (λ given. state.now.start ≤ given.state.start) }
+    ensures given { (cell : ℕ → Cell) (cuts : List Cut) → Knows cell table.now text.now cuts window.old here.now
+        → MatchOption result (cuts_past here.now.told cuts ≡ []) (IsGiven limits.now cuts here.now) }
+    ensures places { IfSome result (λ given. (given.chunk.start ≡ here.now.start)
+        × (here.now.told < given.chunk.end) × (given.chunk.end ≤ length text.now)
+        × (given.next.told ≡ given.chunk.end) × (given.next.start ≤ given.next.told)) }
+    ensures onward { here.now.start ≤ here.now.told → IfSome result (λ given. here.now.start ≤ given.next.start) }
 {
-    let Some(end) = chunk_end(table, limits, state, text, window) else {
+    let Some(end) = chunk_end(table, limits, here, text, window) else {
         return None;
     };
     let chunk = Chunk {
-        start: state.start,
+        start: here.start,
         end: end.at,
-        words: end.words.saturating_sub(state.place.words),
+        words: end.words.saturating_sub(here.words),
         kind: end.kind,
         rule: end.rule,
-        alone: !fits(limits, state, &end),
+        alone: !fits(limits, here, end.at, end.words),
     };
     Some(Given {
         chunk,
-        state: next_start(table, limits, state, &end, text, window),
+        next: next_start(table, limits, here, &end, text, window),
     })
+}
+
+/// How far the cuts ahead fit.
+#[derive(Clone, Copy)]
+struct Fitting {
+    /// The last cut up to which all fit.
+    last: Cut,
+    /// The last of them at which the chunk may end early.
+    early: Option<Cut>,
+    /// Where the search in the newer block goes on.
+    next: usize,
 }
 
 /// The cut at which the chunk ends.
 fn chunk_end(
     table: &FlatTable,
     limits: &Limits,
-    state: &ChunkState,
+    here: &Here,
     text: &[u8],
     window: &mut Window,
 ) -> Option<Cut>
@@ -162,75 +181,101 @@ fn chunk_end(
     ensures home { window.new.home ≡ window.old.home }
     ensures are { (cell : ℕ → Cell) (cuts : List Cut) → AreCutsPast 0 cuts
         → AreKept cell table.now text.now cuts window.old → AreKept cell table.now text.now cuts window.new }
-    ensures end { (cell : ℕ → Cell) (cuts : List Cut) → Knows cell table.now text.now cuts window.old state.now
-        → MatchOption result (cuts_past state.now.told cuts ≡ [])
-        (λ end. IsEnd limits.now cuts state.now end × IsCutOf cuts end) }
-    ensures places { IfSome result (λ end. (state.now.told < end.at) × (end.at ≤ length text.now)) }
+    ensures end { (cell : ℕ → Cell) (cuts : List Cut) → Knows cell table.now text.now cuts window.old here.now
+        → MatchOption result (cuts_past here.now.told cuts ≡ [])
+        (λ end. IsEnd limits.now cuts here.now end × IsCutOf cuts end) }
+    ensures places { IfSome result (λ end. (here.now.told < end.at) × (end.at ≤ length text.now)) }
 {
-    let Some(first) = window.first_past(table, text, state.told) else {
+    let Some(first) = window.first_past(table, text, here.told) else {
         return None;
     };
-    if !fits(limits, state, &first) {
+    if !fits(limits, here, first.at, first.words) {
         return Some(first);
     }
-    let mut last = first;
-    let mut early = early_or(limits, state, first, None);
-    while let Some(next) = window.first_past(table, text, last.at) {
-        if !fits(limits, state, &next) {
-            return Some(early.unwrap_or(last));
+    let mut so_far = fit_on(limits, here, window, fit_up_to(limits, here, first, None));
+    window.next = so_far.next;
+    while let Some(next) = window.first_past(table, text, so_far.last.at) {
+        if !fits(limits, here, next.at, next.words) {
+            return Some(so_far.early.unwrap_or(so_far.last));
         }
-        last = next;
-        early = early_or(limits, state, next, early);
+        so_far = fit_on(limits, here, window, fit_up_to(limits, here, next, so_far.early));
+        window.next = so_far.next;
     }
-    Some(last)
+    Some(so_far.last)
 }
 
-/// A cut at which the chunk may end early, or else what was found so far.
+/// All up to a cut fit, and the chunk may end early there or where it was found before.
 #[inline(always)]
-fn early_or(limits: &Limits, state: &ChunkState, cut: Cut, early: Option<Cut>) -> Option<Cut>
-    ensures { result ≡ (if is_early limits.now (here_of state.now) cut then Some cut else early) }
+fn fit_up_to(limits: &Limits, here: &Here, last: Cut, early: Option<Cut>) -> Fitting
+    ensures last { result.last ≡ last }
+    ensures early { result.early ≡ (if is_early limits.now here.now last then Some last else early) }
 {
-    if cut.kind == MUST && limits.least <= cut.at.saturating_sub(state.told) {
-        return Some(cut);
+    Fitting {
+        last,
+        early: early_or(limits, here, last, last.at, last.kind == MUST, early),
+        next: 0,
     }
-    early
 }
 
-/// The state behind a chunk that ends at a cut.
+/// Goes on over those cuts of the newer block that fit, if the last one was found there.
+#[inline(always)]
+fn fit_on(limits: &Limits, here: &Here, window: &Window, start: Fitting) -> Fitting
+    requires kept { (text : List ℕ) × IsKept text window.now }
+    ensures ending { (cell : ℕ → Cell) (table : FlatTable) (text : List ℕ) (cuts : List Cut)
+        → Knows cell table text cuts window.now here.now → IsKept text window.now
+        → IsEnding limits.now cuts here.now start.last start.early
+        → IsEnding limits.now cuts here.now result.last result.early }
+    ensures placed { (text : List ℕ) → IsKept text window.now → ArePlaced here.now.told (length text) start
+        → ArePlaced here.now.told (length text) result }
+    ensures onward { start.last.at ≤ result.last.at }
+{
+    let mut so_far = start;
+    let mut k = window.next_behind(start.last.at);
+    while k < window.newer.count {
+        let next = window.newer.cuts[k];
+        if next.at <= so_far.last.at || !fits(limits, here, next.at, next.words) {
+            break;
+        }
+        so_far = fit_up_to(limits, here, next, so_far.early);
+        k += 1;
+    }
+    Fitting { next: k, ..so_far }
+}
+
+/// Where the next chunk starts, behind one that ends at a cut.
 fn next_start(
     table: &FlatTable,
     limits: &Limits,
-    state: &ChunkState,
+    here: &Here,
     end: &Cut,
     text: &[u8],
     window: &mut Window,
-) -> ChunkState
+) -> Here
     requires { IsKept text.now window.old }
     ensures kept { IsKept text.now window.new }
     ensures home { window.new.home ≡ window.old.home }
     ensures are { (cell : ℕ → Cell) (cuts : List Cut) → AreCutsPast 0 cuts
         → AreKept cell table.now text.now cuts window.old → AreKept cell table.now text.now cuts window.new }
-    ensures next { (cell : ℕ → Cell) (cuts : List Cut) → Knows cell table.now text.now cuts window.old state.now
-        → state.now.told < end.now.at → IsCutOf cuts end.now
-        → (here_of result ≡ after limits.now cuts (here_of state.now) end.now)
-        × IsStanding cuts result.start result.place.words }
+    ensures next { (cell : ℕ → Cell) (cuts : List Cut) → Knows cell table.now text.now cuts window.old here.now
+        → here.now.told < end.now.at → IsCutOf cuts end.now
+        → (result ≡ after limits.now cuts here.now end.now) × IsStanding cuts result.start result.words }
     ensures told { (result.told ≡ end.now.at) × (result.start ≤ result.told) }
-    ensures onward { state.now.start ≤ end.now.at → state.now.start ≤ result.start }
+    ensures onward { here.now.start ≤ end.now.at → here.now.start ≤ result.start }
 {
-    let fresh = started(state, end, end.at);
+    let fresh = start_at(end, end.at);
     if limits.overlap == 0 {
         return fresh;
     }
     let Some(next) = window.first_past(table, text, end.at) else {
         return fresh;
     };
-    let mut at = start_from(limits, state, end.at);
+    let mut at = start_from(limits, here, end.at);
     while let Some(found) = window.first_past(table, text, at) {
         if end.at <= found.at {
             return fresh;
         }
-        let again = started(state, &found, end.at);
-        if may_start(limits, state, &again, &next) {
+        let again = start_at(&found, end.at);
+        if may_start(limits, here, &again, next.at, next.words) {
             return again;
         }
         at = found.at;
@@ -239,69 +284,31 @@ fn next_start(
 }
 
 /// A byte up to which no cut starts the next chunk, since too much would be said twice.
-fn start_from(limits: &Limits, state: &ChunkState, end: usize) -> usize
-    ensures start { state.now.start ≤ result }
-    ensures none { (last next cut : Cut) → last.at ≡ end → state.now.start < end → state.now.start < cut.at
+fn start_from(limits: &Limits, here: &Here, end: usize) -> usize
+    ensures start { here.now.start ≤ result }
+    ensures none { (last next cut : Cut) → last.at ≡ end → here.now.start < end → here.now.start < cut.at
         → cut.at ≤ result
-        → may_start limits.now (here_of state.now) last next cut ≡ false }
+        → may_start limits.now here.now last next cut ≡ false }
 {
-    let half = end.saturating_sub(state.start) / 2;
+    let half = end.saturating_sub(here.start) / 2;
     let twice = limits.overlap.min(half);
     let from = end.saturating_sub(twice).saturating_sub(1);
-    if from < state.start {
-        return state.start;
+    if from < here.start {
+        return here.start;
     }
     from
 }
 
-/// The state at a cut. Of its place only the number of words is right.
+/// The start at a cut.
 #[inline(always)]
-fn started(state: &ChunkState, cut: &Cut, told: usize) -> ChunkState
-    ensures { result ≡ record {
-      place = record state.now.place { words = cut.now.words };
-      start = cut.now.at;
-      told =
-          told;
-    } }
+fn start_at(cut: &Cut, told: usize) -> Here
+    ensures { result ≡ start_at cut.now told }
 {
-    ChunkState {
-        place: Place {
-            words: cut.words,
-            ..state.place
-        },
+    Here {
         start: cut.at,
+        words: cut.words,
         told,
     }
-}
-
-/// Whether the next chunk may start there, before the end of this one.
-#[inline(always)]
-fn may_start(limits: &Limits, state: &ChunkState, again: &ChunkState, next: &Cut) -> bool
-    ensures { (end cut : Cut) → end.at ≡ again.now.told → cut.at ≡ again.now.start → cut.words ≡ again.now.place.words
-        → result ≡ may_start limits.now (here_of state.now) end next.now cut }
-{
-    let twice = again.told.saturating_sub(again.start);
-    let size = again.told.saturating_sub(state.start);
-    again.start < again.told
-        && twice <= limits.overlap
-        && twice <= size.saturating_sub(twice)
-        && fits(limits, again, next)
-}
-
-/// Whether a chunk from a state on that ends at a cut is within the limits.
-#[inline(always)]
-fn fits(limits: &Limits, state: &ChunkState, cut: &Cut) -> bool
-    ensures { result ≡ fits limits.now (here_of state.now) cut.now }
-{
-    cut.at.saturating_sub(state.start) <= limits.most
-        && (limits.words == 0 || cut.words.saturating_sub(state.place.words) <= limits.words)
-}
-
-/// Whether the limits are in range.
-fn are_limits(limits: &Limits) -> bool
-    ensures { result ≡ are_limits limits.now }
-{
-    0 < limits.most && limits.least <= limits.most && limits.overlap <= limits.most / 2
 }
 
 /// The kind of a break at which a line must end.

@@ -1,6 +1,7 @@
 //! Chunks: a text cut for search and retrieval, where a line may end and no word does not.
 #![tactic(auto)]
 
+mod choosing;
 mod chunk;
 mod chunking;
 mod cursor;
@@ -11,7 +12,8 @@ mod window;
 mod word_block;
 mod words_behind;
 
-pub use chunk::{Chunk, ChunkState, Limits};
+pub use choosing::{are_limits, early_or, fits, may_start};
+pub use chunk::{Chunk, ChunkState, Here, Limits};
 pub use chunking::chunks;
 pub use cut::{Cut, Place};
 pub use laws::chunks_of_cuts;

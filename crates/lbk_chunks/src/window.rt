@@ -1,10 +1,11 @@
 //! The cuts of a text around a place, so that few are read twice.
 
-ghost use Rattle.std.specs.Prelude.{◌≡◌, ◌⊎◌, ℕ, ◌<◌, ◌≤◌, [], ◌∷◌, false, true, List, IfSome, MatchOption, length};
+ghost use Rattle.std.specs.Prelude.{◌≡◌, ◌⊎◌, ℕ, ◌-◌, ◌<◌, ◌≤◌, [], ◌∷◌, false, true, List, IfSome, MatchOption};
+ghost use Rattle.std.specs.Prelude.{length, slice_index_or};
 ghost use Rattle.lbk_rules.specs.declared.Cell.{Cell};
 ghost use Rattle.lbk_chunks.specs.declared.cut.Cut.{Cut};
 ghost use Rattle.lbk_chunks.specs.Chunks.{cuts_past};
-ghost use Rattle.lbk_chunks.specs.Coming.{AreKept, IsAhead, IsKept, IsMark, IsStanding, breaks_left};
+ghost use Rattle.lbk_chunks.specs.Coming.{AreKept, IsAhead, IsKept, IsMark, IsStanding, breaks_left, no_cut};
 ghost use Rattle.lbk_chunks.specs.Cuts.{AreCutsPast};
 
 use crate::cursor::fill_cuts;
@@ -24,9 +25,9 @@ pub(crate) struct Window {
     /// The cuts that were read before the newer ones.
     older: CutBlock,
     /// The cuts that were read last.
-    newer: CutBlock,
+    pub(crate) newer: CutBlock,
     /// Where the search among the newer begins.
-    next: usize,
+    pub(crate) next: usize,
     /// The words behind the newer, as far as they were read.
     words: WordBlock,
 }
@@ -79,6 +80,21 @@ impl Window {
         let k = self.newer.first_past(at, 0);
         self.next = k + 1;
         Some(self.newer.cuts[k])
+    }
+
+    /// The place in the newer block behind the cut at a byte, if that was found last, or else its end.
+    #[inline(always)]
+    pub(crate) fn next_behind(&self, at: usize) -> usize
+        requires kept { (text : List ℕ) × IsKept text self.now }
+        ensures few { result ≤ self.now.newer.count }
+        ensures found { (result ≡ self.now.newer.count) ⊎ ((0 < result)
+            × ((slice_index_or self.now.newer.cuts (result - 1) no_cut).at ≡ at)) }
+    {
+        let k = self.next;
+        if 0 < k && k <= self.newer.count && self.newer.cuts[k - 1].at == at {
+            return k;
+        }
+        self.newer.count
     }
 
     /// Reads the cuts again from the place that is kept, if the newer are behind a byte.

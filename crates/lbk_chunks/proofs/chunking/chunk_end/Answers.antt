@@ -1,18 +1,18 @@
-use Rattle.std.proofs.Common.{◌<◌, ◌≤◌, length, None, subst, sym, ◌∙◌, arith}
+use Rattle.std.proofs.Common.{◌<◌, ◌≤◌, length, None, refl, subst, sym, ◌∙◌, arith}
 use Rattle.lbk_chunks.specs.declared.cut.Cut.{Cut}
 use Rattle.lbk_chunks.specs.Chunks.{is_early}
-use Rattle.lbk_chunks.specs.Coming.{IsCutOf, IsEnd, here_of}
+use Rattle.lbk_chunks.specs.Coming.{IsCutOf, IsEnd}
 use Rattle.lbk_chunks.proofs.CutLemmas.{cut-past}
-use Rattle.lbk_chunks.proofs.EndLemmas.{early-placed, end-alone, end-begins, end-full, end-goes, end-whole, or-placed}
-use Rattle.lbk_chunks.proofs.GivenLemmas.{home-same}
+use Rattle.lbk_chunks.proofs.EndLemmas.{end-alone, end-begins, end-full, end-goes, end-whole, or-placed, placed-on}
+use Rattle.lbk_chunks.proofs.GivenLemmas.{home-same, knows-on}
 use Rattle.lbk_chunks.proofs.chunking.chunk_end.Goals as goal
 
 pub returns-then-not-fits-clause-end : goal.returns-then-not-fits-clause-end
 returns-then-not-fits-clause-end c = λ cell cuts knows.
     let first = c.in-Some.first in
     let joined = c.in-Some.ensures.first cell cuts knows.rising knows.kept (omega (arith, knows.home, knows.told)) in (
-      end-alone c.args.limits.now cuts c.args.state.now first joined (sym c.fits.ensures ∙ c.if-not-fits.true),
-      cut-past cuts c.args.state.now.told first _ knows.rising joined,
+      end-alone c.args.limits.now cuts c.args.here.now first joined (sym (c.fits.ensures first refl refl) ∙ c.if-not-fits.true),
+      cut-past cuts c.args.here.now.told first _ knows.rising joined,
     )
 
 pub returns-in_default-clause-end : goal.returns-in_default-clause-end
@@ -20,70 +20,86 @@ returns-in_default-clause-end c = λ cell cuts knows. c.in_default.ensures.first
 
 pub loop-next-init : goal.loop-next-init
 loop-next-init c =
+    let here = c.args.here.now in
     let first = c.in-Some.first in
-    let places = c.in-Some.ensures.places in
+    let f = c.in-Some.ensures in
+    let u = c.fit_up_to in
+    let on = c.fit_on-so_far.ensures in
     record {
-      kept = c.in-Some.ensures.kept;
-      home = c.in-Some.ensures.home;
-      are = c.in-Some.ensures.are;
+      kept = record { older = f.kept.older; newer = f.kept.newer; words = f.kept.words };
+      home = f.home;
+      are = λ cell cuts rising kept. (let k = f.are cell cuts rising kept in record { older = k.older; newer = k.newer; home = k.home });
       ending = λ cell cuts knows. (
-          let joined = c.in-Some.ensures.first cell cuts knows.rising knows.kept (omega (arith, knows.home, knows.told)) in
-          end-begins c.args.limits.now cuts c.args.state.now first c.early_or-early.result joined (cut-past cuts c.args.state.now.told first _ knows.rising joined)
-          (sym c.fits.ensures ∙ c.if-not-fits.false) c.early_or-early.ensures);
-      last = (places.0, places.1);
-      early = λ d same.
-          early-placed c.args.state.now.told _ (is_early c.args.limits.now (here_of c.args.state.now) first) first None (places.0, places.1) (λ g no. absurd (let wrong : ⊥ = cc in wrong))
-          d (sym c.early_or-early.ensures ∙ same);
+          let joined = f.first cell cuts knows.rising knows.kept (omega (arith, knows.home, knows.told)) in
+          on.ending cell c.args.table.now c.args.text.now cuts
+          (knows-on cell c.args.table.now c.args.text.now cuts c.args.window.now c.first_past.new.self here here knows (f.are cell cuts knows.rising knows.kept)
+          (home-same c.args.window.now c.first_past.new.self here.start f.home knows.home) knows.told)
+          f.kept
+          (end-begins c.args.limits.now cuts here first u.result joined (cut-past cuts here.told first _ knows.rising joined)
+          (sym (c.fits.ensures first refl refl) ∙ c.if-not-fits.false) u.ensures.last u.ensures.early));
+      placed = on.placed c.args.text.now f.kept
+          (placed-on here.told _ (is_early c.args.limits.now here first) first None u.result (f.places.0, f.places.1)
+          (λ g no. absurd (let wrong : ⊥ = cc in wrong)) u.ensures.last u.ensures.early);
     }
 
 pub loop-next-preserved : goal.loop-next-preserved
 loop-next-preserved c =
-    let last = c.loop-next.last in
+    let here = c.args.here.now in
+    let last = c.loop-next.so_far.last in
     let next = c.in-Some-first_past.next in
     let f = c.in-Some-first_past.ensures in
-    let told = c.args.state.now.told in
     let i = c.loop-next.invariant in
+    let u = c.fit_up_to-in-Some-first_past in
+    let on = c.fit_on-so_far-in-Some-first_past.ensures in
+    let window = c.first_past-in-loop-next.new.self in
     record {
-      kept = f.kept;
+      kept = record { older = f.kept.older; newer = f.kept.newer; words = f.kept.words };
       home = f.home ∙ i.home;
-      are = λ cell cuts rising kept. f.are cell cuts rising (i.are cell cuts rising kept);
+      are = λ cell cuts rising kept. (let k = f.are cell cuts rising (i.are cell cuts rising kept) in record { older = k.older; newer = k.newer; home = k.home });
       ending = λ cell cuts knows. (
-          let joined = f.first cell cuts knows.rising (i.are cell cuts knows.rising knows.kept)
-          (home-same c.args.window.now c.loop-next.window last.at i.home (omega (arith, knows.home, knows.told, i.last.0))) in
-          end-goes c.args.limits.now cuts c.args.state.now last next c.loop-next.early c.early_or-early-in-Some-first_past.result
-          (i.ending cell cuts knows) joined (cut-past cuts last.at next _ knows.rising joined)
-          (sym c.fits-in-Some-first_past.ensures ∙ c.if-not-fits-2.false) c.early_or-early-in-Some-first_past.ensures);
-      last = (omega (arith, i.last.0, f.places.0), f.places.1);
-      early = λ d same.
-          early-placed told _ (is_early c.args.limits.now (here_of c.args.state.now) next) next c.loop-next.early (omega (arith, i.last.0, f.places.0), f.places.1) i.early
-          d (sym c.early_or-early-in-Some-first_past.ensures ∙ same);
+          let were = i.are cell cuts knows.rising knows.kept in
+          let joined = f.first cell cuts knows.rising were
+          (home-same c.args.window.now c.loop-next.window last.at i.home (omega (arith, knows.home, knows.told, i.placed.0.0))) in
+          on.ending cell c.args.table.now c.args.text.now cuts
+          (knows-on cell c.args.table.now c.args.text.now cuts c.args.window.now window here here knows (f.are cell cuts knows.rising were)
+          (home-same c.args.window.now window here.start (f.home ∙ i.home) knows.home) knows.told)
+          f.kept
+          (end-goes c.args.limits.now cuts here last next c.loop-next.so_far.early u.result (i.ending cell cuts knows) joined
+          (cut-past cuts last.at next _ knows.rising joined)
+          (sym (c.fits-in-Some-first_past.ensures next refl refl) ∙ c.if-not-fits-2.false) u.ensures.last u.ensures.early));
+      placed = on.placed c.args.text.now f.kept
+          (placed-on here.told _ (is_early c.args.limits.now here next) next c.loop-next.so_far.early u.result (omega (arith, i.placed.0.0, f.places.0), f.places.1)
+          i.placed.1 u.ensures.last u.ensures.early);
     }
 
 pub returns-then-not-fits-2-clause-end : goal.returns-then-not-fits-2-clause-end
 returns-then-not-fits-2-clause-end c = λ cell cuts knows.
-    let last = c.loop-next.last in
+    let last = c.loop-next.so_far.last in
     let next = c.in-Some-first_past.next in
     let f = c.in-Some-first_past.ensures in
     let i = c.loop-next.invariant in
     let joined = f.first cell cuts knows.rising (i.are cell cuts knows.rising knows.kept)
-    (home-same c.args.window.now c.loop-next.window last.at i.home (omega (arith, knows.home, knows.told, i.last.0))) in
-    subst (λ (d : Cut). IsEnd c.args.limits.now cuts c.args.state.now d × IsCutOf cuts d) (sym c.unwrap_or.ensures)
-    (end-full c.args.limits.now cuts c.args.state.now last next c.loop-next.early (i.ending cell cuts knows) joined (sym c.fits-in-Some-first_past.ensures ∙ c.if-not-fits-2.true))
+    (home-same c.args.window.now c.loop-next.window last.at i.home (omega (arith, knows.home, knows.told, i.placed.0.0))) in
+    subst (λ (d : Cut). IsEnd c.args.limits.now cuts c.args.here.now d × IsCutOf cuts d) (sym c.unwrap_or.ensures)
+    (end-full c.args.limits.now cuts c.args.here.now last next c.loop-next.so_far.early (i.ending cell cuts knows) joined
+    (sym (c.fits-in-Some-first_past.ensures next refl refl) ∙ c.if-not-fits-2.true))
 
 pub returns-then-not-fits-2-clause-places : goal.returns-then-not-fits-2-clause-places
 returns-then-not-fits-2-clause-places c =
-    let i = c.loop-next.invariant in
-    subst (λ (d : Cut). (c.args.state.now.told < d.at) × (d.at ≤ length c.args.text.now)) (sym c.unwrap_or.ensures)
-    (or-placed c.args.state.now.told _ c.loop-next.early c.loop-next.last i.last i.early)
+    let placed = c.loop-next.invariant.placed in
+    let so_far = c.loop-next.so_far in
+    let told = c.args.here.now.told in
+    let end = or-placed told _ so_far.early so_far.last placed.0 placed.1 in
+    (let same = c.unwrap_or.ensures in subst (λ (d : Cut). (told < d.at) × (d.at ≤ length c.args.text.now)) (sym same) end)
 
 pub returns-clause-end : goal.returns-clause-end
 returns-clause-end c = λ cell cuts knows.
-    let last = c.loop-next.last in
+    let last = c.loop-next.so_far.last in
     let i = c.loop-next.invariant in
     let e = i.ending cell cuts knows in (
-      end-whole c.args.limits.now cuts c.args.state.now last c.loop-next.early e
+      end-whole c.args.limits.now cuts c.args.here.now last c.loop-next.so_far.early e
           (c.in_default-first_past.ensures.first cell cuts knows.rising (i.are cell cuts knows.rising knows.kept)
-          (home-same c.args.window.now c.loop-next.window last.at i.home (omega (arith, knows.home, knows.told, i.last.0)))),
+          (home-same c.args.window.now c.loop-next.window last.at i.home (omega (arith, knows.home, knows.told, i.placed.0.0)))),
       e.cut,
     )
 

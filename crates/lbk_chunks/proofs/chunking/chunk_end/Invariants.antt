@@ -1,7 +1,7 @@
-use Rattle.std.proofs.Common.{ℕ, ◌≡◌, ◌-◌, ◌<◌, ◌≤◌, List, Some, length}
+use Rattle.std.proofs.Common.{ℕ, ◌≡◌, ◌-◌, List, length}
 use Rattle.lbk_rules.specs.declared.Cell.{Cell}
 use Rattle.lbk_chunks.specs.declared.cut.Cut.{Cut}
-use Rattle.lbk_chunks.specs.Coming.{AreCutsPast, AreKept, IsEnding, IsKept, Knows}
+use Rattle.lbk_chunks.specs.Coming.{AreCutsPast, AreKept, ArePlaced, IsEnding, IsKept, Knows}
 use Rattle.lbk_chunks.proofs.chunking.chunk_end.Given as goal
 
 abbrev pub invariant-loop-next : goal.invariant-loop-next
@@ -9,10 +9,9 @@ invariant-loop-next l = record {
   kept : IsKept l.text l.window;
   home : l.window.home ≡ l.fn.window.home;
   are : (cell : ℕ → Cell) (cuts : List Cut) → AreCutsPast 0 cuts → AreKept cell l.table l.text cuts l.fn.window → AreKept cell l.table l.text cuts l.window;
-  ending : (cell : ℕ → Cell) (cuts : List Cut) → Knows cell l.table l.text cuts l.fn.window l.state → IsEnding l.limits cuts l.state l.last l.early;
-  last : (l.state.told < l.last.at) × (l.last.at ≤ length l.text);
-  early : (c : Cut) → l.early ≡ Some c → (l.state.told < c.at) × (c.at ≤ length l.text);
+  ending : (cell : ℕ → Cell) (cuts : List Cut) → Knows cell l.table l.text cuts l.fn.window l.here → IsEnding l.limits cuts l.here l.so_far.last l.so_far.early;
+  placed : ArePlaced l.here.told (length l.text) l.so_far;
 }
 
 abbrev pub decreases-loop-next : goal.decreases-loop-next
-decreases-loop-next l = length l.text - l.last.at
+decreases-loop-next l = length l.text - l.so_far.last.at

@@ -39,8 +39,8 @@ returns-clause-rest c = λ cell to_come come.
     let k = knows-first cell c.args.table.now c.args.text.now c.args.limits.now c.args.state.now to_come c.new-window.result come c.new-window.ensures.home
     (λ cuts rising is. c.new-window.ensures.are cell cuts rising is) in
     let g = (c.give_chunks-count.ensures.given cell come.cuts to_come k come.chunks).0 in
-    let here = c.give_chunks-count.new.state in
+    let here = c.give_chunks-count.new.here in
     let stands = g.stands (omega (arith, c.if-count-eq0.false)) in
-    let p = c.place_of-place.ensures cell come.cuts here.place.words g.knows.rising g.knows.kept g.knows.home stands in
-    come-on cell c.args.table.now c.args.text.now c.args.limits.now come.cuts here c.place_of-place.result (drop c.give_chunks-count.result to_come)
+    let p = c.place_of.ensures cell come.cuts here.words g.knows.rising g.knows.kept g.knows.home stands in
+    come-on cell c.args.table.now c.args.text.now c.args.limits.now come.cuts here c.place_of.result (drop c.give_chunks-count.result to_come)
     come.in_range g.knows.rising g.knows.told stands p.0 p.1 g.rest

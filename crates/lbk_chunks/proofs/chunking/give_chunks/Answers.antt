@@ -11,9 +11,8 @@ loop-count-init c = record {
   kept = c.requires.kept;
   room = omega arith;
   told = refl;
-  none = λ _. refl;
   order = c.requires.order;
-  given = λ cell cuts to_come knows are. give-none cell c.args.table.now c.args.text.now c.args.limits.now cuts to_come c.args.out.now c.args.window.now c.args.state.now knows are;
+  given = λ cell cuts to_come knows are. give-none cell c.args.table.now c.args.text.now c.args.limits.now cuts to_come c.args.out.now c.args.window.now c.args.here.now knows are;
 }
 
 pub loop-count-preserved : goal.loop-count-preserved
@@ -28,21 +27,20 @@ loop-count-preserved c =
     record {
       kept = c.settle.ensures.kept text g.kept;
       room = omega (arith, length-set {A = Chunk}, c.loop-count-test.true);
-      told = subst (AreTold c.args.state.now.told given.state.told (length text)) (sym more)
-          (subst (λ n. AreTold c.args.state.now.told n (length text) (take count c.loop-count.out ++ given.chunk ∷ [])) (sym places.3)
-          (told-more c.args.state.now.told c.loop-count.state.told (length text) (take count c.loop-count.out) given.chunk i.told
+      told = subst (AreTold c.args.here.now.told given.next.told (length text)) (sym more)
+          (subst (λ n. AreTold c.args.here.now.told n (length text) (take count c.loop-count.out ++ given.chunk ∷ [])) (sym places.3)
+          (told-more c.args.here.now.told c.loop-count.here.told (length text) (take count c.loop-count.out) given.chunk i.told
           (omega (arith, places.0, i.order)) places.1 places.2));
-      none = λ no. absurd (omega arith);
       order = places.4;
       given = λ cell cuts to_come knows are. (
           let were = i.given cell cuts to_come knows are in
           let k = were.knows in
           let now = g.given cell cuts k in
           let onward = g.onward i.order in
-          let on = knows-on cell c.args.table.now text cuts c.loop-count.window c.settle.new.self c.loop-count.state given.state k
+          let on = knows-on cell c.args.table.now text cuts c.loop-count.window c.settle.new.self c.loop-count.here given.next k
           (c.settle.ensures.are cell c.args.table.now text cuts (g.are cell cuts k.rising k.kept))
-          (c.settle.ensures.home (home-same c.loop-count.window c.next_chunk.new.window given.state.start g.home (omega (arith, k.home, onward)))) places.4 in
-          give-more cell c.args.table.now text c.args.limits.now cuts to_come count c.loop-count.out _ c.loop-count.window c.settle.new.self c.loop-count.state given were now more on);
+          (c.settle.ensures.home (home-same c.loop-count.window c.next_chunk.new.window given.next.start g.home (omega (arith, k.home, onward)))) places.4 in
+          give-more cell c.args.table.now text c.args.limits.now cuts to_come count c.loop-count.out _ c.loop-count.window c.settle.new.self c.loop-count.here given were now more on);
     }
 
 pub returns-in_default-clause-given : goal.returns-in_default-clause-given
@@ -51,14 +49,14 @@ returns-in_default-clause-given c = λ cell cuts to_come knows are.
     let were = i.given cell cuts to_come knows are in
     let k = were.knows in
     let g = c.in_default.ensures in
-    let none = none-more cell c.args.table.now c.args.text.now c.args.limits.now cuts to_come c.loop-count.count c.loop-count.out c.loop-count.window c.loop-count.state were
+    let none = none-more cell c.args.table.now c.args.text.now c.args.limits.now cuts to_come c.loop-count.count c.loop-count.out c.loop-count.window c.loop-count.here were
     (g.given cell cuts k) in (
       record {
         few = were.few;
         front = were.front;
         rest = were.rest;
-        knows = knows-on cell c.args.table.now c.args.text.now cuts c.loop-count.window c.next_chunk.new.window c.loop-count.state c.loop-count.state k (g.are cell cuts k.rising k.kept)
-            (home-same c.loop-count.window c.next_chunk.new.window c.loop-count.state.start g.home k.home) k.told;
+        knows = knows-on cell c.args.table.now c.args.text.now cuts c.loop-count.window c.next_chunk.new.window c.loop-count.here c.loop-count.here k (g.are cell cuts k.rising k.kept)
+            (home-same c.loop-count.window c.next_chunk.new.window c.loop-count.here.start g.home k.home) k.told;
         stands = were.stands;
       },
       omega (arith, none, i.room, c.loop-count.auto.out),

@@ -1,8 +1,6 @@
 use Rattle.std.proofs.Common.{Some, None, ap, refl, sym, ◌∙◌, arith}
 use Rattle.std.specs.Prelude.{find}
-use Rattle.lbk_chunks.specs.declared.chunk.ChunkState.{ChunkState}
 use Rattle.lbk_chunks.specs.Chunks.{cuts_past, may_start}
-use Rattle.lbk_chunks.specs.Coming.{here_of}
 use Rattle.lbk_chunks.proofs.CutLemmas.{cut-past, past-rising}
 use Rattle.lbk_chunks.proofs.GivenLemmas.{home-same}
 use Rattle.lbk_chunks.proofs.StartLemmas.{after-apart, after-found, after-last, find-all_past, find-here, find-later, find-on, stands}
@@ -11,15 +9,15 @@ use Rattle.lbk_chunks.proofs.chunking.next_start.Goals as goal
 pub returns-then-limits-eq0-clause-next : goal.returns-then-limits-eq0-clause-next
 returns-then-limits-eq0-clause-next c = λ cell cuts knows told cut.
     let end = c.args.end.now in
-    let s = stands cuts c.started-fresh.result c.args.state.now.place end end.at c.started-fresh.ensures cut in
-    (s.0 ∙ sym (after-apart c.args.limits.now cuts (here_of c.args.state.now) end (cuts_past end.at cuts) c.if-limits-eq0.true), s.1)
+    let s = stands cuts c.start_at-fresh.result end end.at c.start_at-fresh.ensures cut in
+    (c.start_at-fresh.ensures ∙ sym (after-apart c.args.limits.now cuts c.args.here.now end (cuts_past end.at cuts) c.if-limits-eq0.true), s)
 
 pub returns-in_default-clause-next : goal.returns-in_default-clause-next
 returns-in_default-clause-next c = λ cell cuts knows told cut.
     let end = c.args.end.now in
-    let s = stands cuts c.started-fresh.result c.args.state.now.place end end.at c.started-fresh.ensures cut in
+    let s = stands cuts c.start_at-fresh.result end end.at c.start_at-fresh.ensures cut in
     let none = c.in_default.ensures.first cell cuts knows.rising knows.kept (omega (arith, knows.home, knows.told, told)) in
-    (s.0 ∙ sym (after-last c.args.limits.now cuts (here_of c.args.state.now) end none), s.1)
+    (c.start_at-fresh.ensures ∙ sym (after-last c.args.limits.now cuts c.args.here.now end none), s)
 
 pub loop-found-init : goal.loop-found-init
 loop-found-init c = record {
@@ -28,7 +26,7 @@ loop-found-init c = record {
   are = c.in-Some.ensures.are;
   onward = c.start_from-at.ensures.start;
   find = λ cell cuts knows told.
-      find-later (may_start c.args.limits.now (here_of c.args.state.now) c.args.end.now c.in-Some.next) c.args.state.now.start c.start_from-at.result cuts
+      find-later (may_start c.args.limits.now c.args.here.now c.args.end.now c.in-Some.next) c.args.here.now.start c.start_from-at.result cuts
       (λ d after before. c.start_from-at.ensures.none c.args.end.now c.in-Some.next d refl (omega (arith, knows.told, told)) after before)
       knows.rising c.start_from-at.ensures.start;
 }
@@ -36,12 +34,12 @@ loop-found-init c = record {
 pub loop-found-preserved : goal.loop-found-preserved
 loop-found-preserved c =
     let end = c.args.end.now in
-    let h = here_of c.args.state.now in
+    let h = c.args.here.now in
     let next = c.in-Some.next in
     let found = c.in-Some-first_past.found in
     let f = c.in-Some-first_past.ensures in
     let i = c.loop-found.invariant in
-    let again = c.started-again.ensures in
+    let again = c.start_at-again.ensures in
     record {
       kept = f.kept;
       home = f.home ∙ i.home;
@@ -50,16 +48,15 @@ loop-found-preserved c =
       find = λ cell cuts knows told. (
           let joined = f.first cell cuts knows.rising (i.are cell cuts knows.rising knows.kept)
           (home-same c.args.window.now c.loop-found.window c.loop-found.at i.home (omega (arith, knows.home, i.onward))) in
-          let may = c.may_start.ensures end found (sym (ap (λ (s : ChunkState). s.told) again)) (sym (ap (λ (s : ChunkState). s.start) again))
-          (sym (ap (λ (s : ChunkState). s.place.words) again)) in
-          find-on c.args.limits.now h end next found (cuts_past found.at cuts) (cuts_past c.args.state.now.start cuts) (sym may ∙ c.if-may_start.false)
+          let may = c.may_start.ensures end next found again refl refl in
+          find-on c.args.limits.now h end next found (cuts_past found.at cuts) (cuts_past c.args.here.now.start cuts) (sym may ∙ c.if-may_start.false)
           (i.find cell cuts knows told ∙ ap (find (may_start c.args.limits.now h end next)) joined));
     }
 
 pub returns-then-end-found-clause-next : goal.returns-then-end-found-clause-next
 returns-then-end-found-clause-next c = λ cell cuts knows told cut.
     let end = c.args.end.now in
-    let h = here_of c.args.state.now in
+    let h = c.args.here.now in
     let next = c.in-Some.next in
     let found = c.in-Some-first_past.found in
     let i = c.loop-found.invariant in
@@ -68,39 +65,38 @@ returns-then-end-found-clause-next c = λ cell cuts knows told cut.
     (home-same c.args.window.now c.loop-found.window c.loop-found.at i.home (omega (arith, knows.home, i.onward))) in
     let none = i.find cell cuts knows told ∙ find-all_past c.args.limits.now h end next c.loop-found.at (cuts_past c.loop-found.at cuts) found (cuts_past found.at cuts)
     (past-rising 0 c.loop-found.at cuts knows.rising) joined c.if-end-found.true in
-    let s = stands cuts c.started-fresh.result c.args.state.now.place end end.at c.started-fresh.ensures cut in
-    (s.0 ∙ sym (after-found c.args.limits.now cuts (cuts_past next.at cuts) h end next None n none), s.1)
+    let s = stands cuts c.start_at-fresh.result end end.at c.start_at-fresh.ensures cut in
+    (c.start_at-fresh.ensures ∙ sym (after-found c.args.limits.now cuts (cuts_past next.at cuts) h end next None n none), s)
 
 pub returns-then-may_start-clause-next : goal.returns-then-may_start-clause-next
 returns-then-may_start-clause-next c = λ cell cuts knows told cut.
     let end = c.args.end.now in
-    let h = here_of c.args.state.now in
+    let h = c.args.here.now in
     let next = c.in-Some.next in
     let found = c.in-Some-first_past.found in
     let i = c.loop-found.invariant in
     let n = c.in-Some.ensures.first cell cuts knows.rising knows.kept (omega (arith, knows.home, knows.told, told)) in
     let joined = c.in-Some-first_past.ensures.first cell cuts knows.rising (i.are cell cuts knows.rising knows.kept)
     (home-same c.args.window.now c.loop-found.window c.loop-found.at i.home (omega (arith, knows.home, i.onward))) in
-    let again = c.started-again.ensures in
-    let may = c.may_start.ensures end found (sym (ap (λ (s : ChunkState). s.told) again)) (sym (ap (λ (s : ChunkState). s.start) again))
-    (sym (ap (λ (s : ChunkState). s.place.words) again)) in
+    let again = c.start_at-again.ensures in
+    let may = c.may_start.ensures end next found again refl refl in
     let here = i.find cell cuts knows told ∙ ap (find (may_start c.args.limits.now h end next)) joined
     ∙ find-here (may_start c.args.limits.now h end next) found (cuts_past found.at cuts) (sym may ∙ c.if-may_start.true) in
-    let s = stands cuts c.started-again.result c.args.state.now.place found end.at again (cut-past cuts c.loop-found.at found _ knows.rising joined) in
-    (s.0 ∙ sym (after-found c.args.limits.now cuts (cuts_past next.at cuts) h end next (Some found) n here), s.1)
+    let s = stands cuts c.start_at-again.result found end.at again (cut-past cuts c.loop-found.at found _ knows.rising joined) in
+    (again ∙ sym (after-found c.args.limits.now cuts (cuts_past next.at cuts) h end next (Some found) n here), s)
 
 pub returns-clause-next : goal.returns-clause-next
 returns-clause-next c = λ cell cuts knows told cut.
     let end = c.args.end.now in
-    let h = here_of c.args.state.now in
+    let h = c.args.here.now in
     let next = c.in-Some.next in
     let i = c.loop-found.invariant in
     let n = c.in-Some.ensures.first cell cuts knows.rising knows.kept (omega (arith, knows.home, knows.told, told)) in
     let none = i.find cell cuts knows told ∙ ap (find (may_start c.args.limits.now h end next))
     (c.in_default-first_past.ensures.first cell cuts knows.rising (i.are cell cuts knows.rising knows.kept)
     (home-same c.args.window.now c.loop-found.window c.loop-found.at i.home (omega (arith, knows.home, i.onward)))) in
-    let s = stands cuts c.started-fresh.result c.args.state.now.place end end.at c.started-fresh.ensures cut in
-    (s.0 ∙ sym (after-found c.args.limits.now cuts (cuts_past next.at cuts) h end next None n none), s.1)
+    let s = stands cuts c.start_at-fresh.result end end.at c.start_at-fresh.ensures cut in
+    (c.start_at-fresh.ensures ∙ sym (after-found c.args.limits.now cuts (cuts_past next.at cuts) h end next None n none), s)
 
 pub returns-then-end-found-clause-are : goal.returns-then-end-found-clause-are
 returns-then-end-found-clause-are c = λ cell cuts rising kept. c.in-Some-first_past.ensures.are cell cuts rising (c.loop-found.invariant.are cell cuts rising kept)
