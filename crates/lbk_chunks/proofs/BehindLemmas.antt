@@ -1,5 +1,5 @@
 -- Behind a word of a text come the others.
-use Rattle.std.proofs.Common.{◌≡◌, ℕ, zero, suc, ◌+◌, ◌<◌, ◌≤◌, Bool, true, false, cond, min, nat_le, slice_index_or, List, [], ◌∷◌, ◌++◌, drop, length, take, refl, sym, ap, ap₂, subst, ◌∙◌, arith}
+use Rattle.std.proofs.Common.{drop_of_length-le, ◌≡◌, ℕ, zero, suc, ◌+◌, ◌<◌, ◌≤◌, Bool, true, false, cond, min, nat_le, slice_index_or, List, [], ◌∷◌, ◌++◌, drop, length, take, refl, sym, ap, ap₂, subst, ◌∙◌, arith}
 use Rattle.std.proofs.lemmas.Bool.Decides.{nat_tests}
 use Rattle.std.proofs.lemmas.List.{drop-drop, drop-map, get_or-take, length-take-le, take-append-drop}
 use Rattle.std.proofs.Math.Seq.{drop-cons}
@@ -146,7 +146,7 @@ module _ (text : List ℕ) (block : WordBlock) (read : AreRead text block) (some
   ends-here : block.rest ≤ length text
   ends-here = read.within (from-within (nat_le block.from (length text)) text block.from word (more ++ words_on text block.rest) refl all-here)
 
-  pub read-on : AreRead text (record { from = word.end; next = block.next + 1; count = block.count; rest = block.rest; words = block.words })
+  pub read-on : AreRead text (record { from = word.end; next = block.next + 1; count = block.count; rest = block.rest; room = block.room; words = block.words })
   read-on = record {
     size = read.size;
     few = omega (arith, some);
@@ -154,6 +154,8 @@ module _ (text : List ℕ) (block : WordBlock) (read : AreRead text block) (some
     joined = others-here;
     rising = rising-here.2;
     within = λ _. ends-here;
+    some = read.some;
+    most = read.most;
   }
 
   pub is-first : (from : ℕ) → block.from ≡ from → IsFirstWord text from word
@@ -165,21 +167,32 @@ module _ (text : List ℕ) (block : WordBlock) (read : AreRead text block) (some
   })
 
 -- where the block has no more
-pub none-from : (text : List ℕ) (from rest count : ℕ) (words : List Word) → length words ≡ 64 → count ≡ min 64 (length (words_on text from)) → words_on text rest ≡ drop count (words_on text from)
+pub none-from : (text : List ℕ) (from rest count room next_room : ℕ) (words : List Word) → length words ≡ 64 → room ≤ 64 → count ≡ min room (length (words_on text from))
+    → words_on text rest ≡ drop count (words_on text from)
     → take count words ≡ take count (words_on text from) → AreRising from rest (take count words) → (from ≤ length text → rest ≤ length text)
-    → AreRead text (record { from = from; next = 0; count = count; rest = rest; words = words })
-none-from text from rest count words size counted behind front rising within = record {
+    → 0 < next_room → next_room ≤ 64
+    → AreRead text (record { from = from; next = 0; count = count; rest = rest; room = next_room; words = words })
+none-from text from rest count room next_room words size most counted behind front rising within some few = record {
   size = size;
   few = omega arith;
   room = omega arith;
   joined = sym (take-append-drop count (words_on text from)) ∙ ap₂ (λ (a b : List Word). a ++ b) (sym front) (sym behind);
   rising = rising;
   within = within;
+  some = some;
+  most = few;
 }
 
-nothing : (ws : List Word) → min 64 (length ws) ≡ 0 → ws ≡ []
-nothing [] none = refl
-nothing (w ∷ ws) none = absurd (omega arith)
+nothing : (ws : List Word) (room : ℕ) → 0 < room → min room (length ws) ≡ 0 → ws ≡ []
+nothing [] room some none = refl
+nothing (w ∷ ws) room some none = absurd (omega arith)
 
-pub none-come : (text : List ℕ) (from count : ℕ) → count ≡ min 64 (length (words_on text from)) → count ≡ 0 → words_on text from ≡ []
-none-come text from count counted none = nothing (words_on text from) (omega arith)
+pub none-come : (text : List ℕ) (from count room : ℕ) → 0 < room → count ≡ min room (length (words_on text from)) → count ≡ 0 → words_on text from ≡ []
+none-come text from count room some counted none = nothing (words_on text from) room some (omega arith)
+
+-- nor has the text
+pub none-left : (text : List ℕ) (block : WordBlock) → AreRead text block → block.next ≡ block.count → length text ≤ block.rest → words_on text block.from ≡ []
+none-left text block read all past =
+    let size = length-take-le block.count block.words (omega (arith, read.room, read.size)) in
+    let none : drop block.next (take block.count block.words) ≡ [] = drop_of_length-le (take block.count block.words) (omega (arith, all, size)) in
+    read.joined ∙ ap₂ (λ (a b : List Word). a ++ b) none (words-end text block.rest past)

@@ -1,5 +1,5 @@
 -- Blocks of cuts.
-use Rattle.std.proofs.Common.{◌≡◌, ℕ, zero, suc, ◌+◌, ◌-◌, ◌++◌, ◌==◌, ◌&&◌, nat_le, nat_lt, ◌<◌, ◌≤◌, ◌⊎◌, ⊎_elim, inl, inr, append_assoc, Bool, true, false, cond, List, [], ◌∷◌, drop, length, take, slice_index_or, refl, sym, ap, ap₂, subst, ◌∙◌, arith}
+use Rattle.std.proofs.Common.{◌≡◌, ℕ, zero, suc, ◌+◌, ◌-◌, ◌++◌, ◌==◌, ◌&&◌, nat_le, nat_lt, ◌<◌, ◌≤◌, ◌⊎◌, ⊎_elim, inl, inr, append_assoc, Bool, true, false, cond, List, [], ◌∷◌, Option, Some, drop, length, take, slice_index_or, refl, sym, ap, ap₂, subst, ◌∙◌, arith}
 use Rattle.std.proofs.lemmas.Bool.{cases_lt}
 use Rattle.std.proofs.lemmas.Bool.Decides.{nat_tests}
 use Rattle.std.proofs.lemmas.List.{get_or-take, length-take-le, take-append-drop}
@@ -13,7 +13,7 @@ use Rattle.lbk_chunks.specs.declared.cut_block.CutBlock.{CutBlock}
 use Rattle.lbk_chunks.specs.declared.cut_block.Mark.{Mark}
 use Rattle.lbk_chunks.specs.declared.window.Window.{Window}
 use Rattle.lbk_chunks.specs.Chunks.{cuts_past}
-use Rattle.lbk_chunks.specs.Coming.{AreCutsPast, AreFirst, AreKept, IsAhead, IsBlock, IsMark, IsSafe, no_cut}
+use Rattle.lbk_chunks.specs.Coming.{AreCutsPast, AreFirst, AreKept, IsAhead, IsBlock, IsMark, IsSafe, early_in, last_in, no_cut}
 use Rattle.lbk_chunks.proofs.CutLemmas.{IsSplit, cut-one, first-later, none-past, split}
 
 -- some elements up to one of them
@@ -184,3 +184,32 @@ pub was-found : (block : CutBlock) (k at : ℕ) → (k ≡ block.count) ⊎ ((0 
     → (0 < k) × ((slice_index_or block.cuts (k - 1) no_cut).at ≡ at)
 was-found block k at (inl all) below = absurd (omega arith)
 was-found block k at (inr found) below = found
+
+-- the cut in front of a place, and of the next one
+pub last-first : (out : List Cut) (from : ℕ) (first : Cut) → last_in out from first from ≡ first
+last-first out from first = let same : (from == from) ≡ true = grind (arith, nat_tests) in ap (λ b. cond b first (slice_index_or out (from - 1) no_cut)) same
+
+pub last-next : (out : List Cut) (from k : ℕ) (first : Cut) → from ≤ k → last_in out from first (k + 1) ≡ slice_index_or out k no_cut
+last-next out from k first below =
+    let other : (from == (k + 1)) ≡ false = grind (arith, nat_tests) in
+    let e : k + 1 - 1 ≡ k = omega arith in
+    ap (λ b. cond b first (slice_index_or out (k + 1 - 1) no_cut)) other ∙ ap (λ n. slice_index_or out n no_cut) e
+
+pub early-next : (out : List Cut) (early : Option Cut) (k e : ℕ) (b : Bool) → early_in out early (cond b (k + 1) e) ≡ cond b (Some (slice_index_or out k no_cut)) (early_in out early e)
+early-next out early k e true =
+    let other : ((k + 1) == 0) ≡ false = grind (arith, nat_tests) in
+    let one : k + 1 - 1 ≡ k = omega arith in
+    ap (λ b. cond b early (Some (slice_index_or out (k + 1 - 1) no_cut))) other ∙ ap (λ n. Some (slice_index_or out n no_cut)) one
+early-next out early k e false = refl
+
+behind-by : (block : CutBlock) (from k : ℕ) (first : Cut) (b : Bool) → (from == k) ≡ b → (0 < from) × ((slice_index_or block.cuts (from - 1) no_cut).at ≡ first.at)
+    → from ≤ k → (0 < k) × ((slice_index_or block.cuts (k - 1) no_cut).at ≡ (cond b first (slice_index_or block.cuts (k - 1) no_cut)).at)
+behind-by block from k first true is found below =
+    let same : from ≡ k = grind (arith, nat_tests) in
+    (omega (arith, same, found.0), ap (λ n. (slice_index_or block.cuts (n - 1) no_cut).at) (sym same) ∙ found.1)
+behind-by block from k first false is found below = (omega (arith, found.0, below), refl)
+
+-- a search that began behind a cut stands behind one
+pub stands-behind : (block : CutBlock) (from k : ℕ) (first : Cut) → (from ≡ block.count) ⊎ ((0 < from) × ((slice_index_or block.cuts (from - 1) no_cut).at ≡ first.at))
+    → from ≤ k → k < block.count → (0 < k) × ((slice_index_or block.cuts (k - 1) no_cut).at ≡ (last_in block.cuts from first k).at)
+stands-behind block from k first found below within = behind-by block from k first (from == k) refl (was-found block from first.at found (omega arith)) below

@@ -63,6 +63,10 @@ module _ (text : List ℕ) (cuts : List Cut) (b : Break) (bs : List Break) (foun
   rising-on : AreBreaksPast 0 bs
   rising-on = breaks-past 0 b.at bs (omega arith) a.rising.1
 
+  -- the words before the break are passed
+  pub pass-before : AreAmong text cuts (b ∷ bs) (record { count = start.count; place = new }) out
+  pass-before = record { counted = counted-on; rising = a.rising; joined = joined-on }
+
   -- the break is a cut
   pub take-cut : start.count < length out → (new.word.end ≡ 0 → words_ahead text new ≡ []) → (new.word.end ≡ 0) ⊎ (found.at < new.word.end)
       → (new.word.end ≡ 0) ⊎ (found.at ≤ new.word.start)

@@ -1,12 +1,11 @@
 -- Where a chunk ends.
-use Rattle.std.proofs.Common.{◌≡◌, ℕ, ◌<◌, ◌≤◌, ◌&&◌, not, Bool, true, false, cond, List, [], ◌∷◌, Option, Some, None, refl, sym, ap, ap₂, subst, ◌∙◌}
+use Rattle.std.proofs.Common.{◌≡◌, ℕ, ◌&&◌, not, Bool, true, false, cond, List, [], ◌∷◌, Option, Some, None, refl, sym, ap, ap₂, subst, ◌∙◌}
 use Rattle.std.specs.List.{list_all}
 use Rattle.std.specs.Option.{unwrap_or}
 use Rattle.lbk_chunks.specs.declared.chunk.Limits.{Limits}
-use Rattle.lbk_chunks.specs.declared.chunking.Fitting.{Fitting}
 use Rattle.lbk_chunks.specs.declared.cut.Cut.{Cut}
 use Rattle.lbk_chunks.specs.Chunks.{Here, cuts_past, end_of, fits, fitting, is_early, last_early, last_of}
-use Rattle.lbk_chunks.specs.Coming.{ArePlaced, IsCutOf, IsEnd, IsEnding, StandsIn}
+use Rattle.lbk_chunks.specs.Coming.{IsCutOf, IsEnd, IsEnding, StandsIn}
 
 -- a cut that fits, and one that does not, before others
 all-more : (l : Limits) (h : Here) (c : Cut) (cs : List Cut) → fits l h c ≡ true → list_all (fits l h) (c ∷ cs) ≡ list_all (fits l h) cs
@@ -29,14 +28,9 @@ early-placed at size true next early placed before c is =
     subst (StandsIn at size) same placed
 early-placed at size false next early placed before c is = before c is
 
-pub or-placed : (at size : ℕ) (early : Option Cut) (last : Cut) → StandsIn at size last → ((c : Cut) → early ≡ Some c → StandsIn at size c)
-    → StandsIn at size (unwrap_or early last)
-or-placed at size None last placed before = placed
-or-placed at size (Some c) last placed before = before c refl
-
-pub placed-on : (at size : ℕ) (b : Bool) (next : Cut) (early : Option Cut) (new : Fitting) → StandsIn at size next → ((c : Cut) → early ≡ Some c → StandsIn at size c)
-    → new.last ≡ next → new.early ≡ cond b (Some next) early → ArePlaced at size new
-placed-on at size b next early new placed before same is =
+pub placed-on : (at size : ℕ) (b : Bool) (next last : Cut) (early new : Option Cut) → StandsIn at size next → ((c : Cut) → early ≡ Some c → StandsIn at size c)
+    → last ≡ next → new ≡ cond b (Some next) early → StandsIn at size last × ((c : Cut) → new ≡ Some c → StandsIn at size c)
+placed-on at size b next last early new placed before same is =
     (subst (StandsIn at size) (sym same) placed, λ c found. early-placed at size b next early placed before c (sym is ∙ found))
 
 module _ (limits : Limits) (cuts : List Cut) (here : Here) where
@@ -46,11 +40,11 @@ module _ (limits : Limits) (cuts : List Cut) (here : Here) where
   early-cut false next early cut before c is = before c is
 
   -- the first cut that was not told fits
-  pub end-begins : (first : Cut) (new : Fitting) → cuts_past here.told cuts ≡ first ∷ cuts_past first.at cuts → IsCutOf cuts first
-      → fits limits here first ≡ true → new.last ≡ first
-      → new.early ≡ cond (is_early limits here first) (Some first) None
-      → IsEnding limits cuts here new.last new.early
-  end-begins first new joined cut fit same is = subst (λ d. IsEnding limits cuts here d new.early) (sym same) (record {
+  pub end-begins : (first now : Cut) (new : Option Cut) → cuts_past here.told cuts ≡ first ∷ cuts_past first.at cuts → IsCutOf cuts first
+      → fits limits here first ≡ true → now ≡ first
+      → new ≡ cond (is_early limits here first) (Some first) None
+      → IsEnding limits cuts here now new
+  end-begins first now new joined cut fit same is = subst (λ d. IsEnding limits cuts here d new) (sym same) (record {
     first = first;
     joined = joined;
     fits_first = fit;
@@ -63,14 +57,14 @@ module _ (limits : Limits) (cuts : List Cut) (here : Here) where
   })
 
   -- and so does the next one
-  pub end-goes : (last next : Cut) (early : Option Cut) (new : Fitting) → IsEnding limits cuts here last early
+  pub end-goes : (last next now : Cut) (early new : Option Cut) → IsEnding limits cuts here last early
       → cuts_past last.at cuts ≡ next ∷ cuts_past next.at cuts → IsCutOf cuts next → fits limits here next ≡ true
-      → new.last ≡ next → new.early ≡ cond (is_early limits here next) (Some next) early
-      → IsEnding limits cuts here new.last new.early
-  end-goes last next early new e joined cut fit same is =
+      → now ≡ next → new ≡ cond (is_early limits here next) (Some next) early
+      → IsEnding limits cuts here now new
+  end-goes last next now early new e joined cut fit same is =
       let more = cuts_past next.at cuts in
       let fitted = ap (fitting limits here) joined ∙ fitting-more limits here next more fit in
-      subst (λ d. IsEnding limits cuts here d new.early) (sym same) (record {
+      subst (λ d. IsEnding limits cuts here d new) (sym same) (record {
         first = e.first;
         joined = e.joined;
         fits_first = e.fits_first;
@@ -112,10 +106,10 @@ module _ (limits : Limits) (cuts : List Cut) (here : Here) where
   or-cut last (Some c) cut before = before c refl
 
   -- the next cut does not fit
-  pub end-full : (last next : Cut) (early : Option Cut) → IsEnding limits cuts here last early
+  pub end-full : (last next end : Cut) (early : Option Cut) → IsEnding limits cuts here last early
       → cuts_past last.at cuts ≡ next ∷ cuts_past next.at cuts → fits limits here next ≡ false
-      → IsEnd limits cuts here (unwrap_or early last) × IsCutOf cuts (unwrap_or early last)
-  end-full last next early e joined fit =
+      → unwrap_or early last ≡ end → IsEnd limits cuts here end × IsCutOf cuts end
+  end-full last next end early e joined fit is =
       let more = cuts_past e.first.at cuts in
       let fitted = ap (fitting limits here) joined ∙ fitting-not limits here next (cuts_past next.at cuts) fit in
       let every = e.all ∙ ap (list_all (fits limits here)) joined ∙ all-not limits here next (cuts_past next.at cuts) fit in (
@@ -123,7 +117,7 @@ module _ (limits : Limits) (cuts : List Cut) (here : Here) where
           first = e.first;
           joined = e.joined;
           is = sym (end-by e.first more true false e.fits_first every
-              ∙ ap₂ unwrap_or (e.early_end ∙ ap (last_early limits here early) fitted) (e.full ∙ ap (last_of last) fitted));
+              ∙ ap₂ unwrap_or (e.early_end ∙ ap (last_early limits here early) fitted) (e.full ∙ ap (last_of last) fitted) ∙ is);
         },
-        or-cut last early e.cut e.early_cut,
+        subst (IsCutOf cuts) is (or-cut last early e.cut e.early_cut),
       )

@@ -88,6 +88,8 @@ pub record AreRead (text : List ℕ) (block : WordBlock) : Type 0 where
   pub joined : words_on text block.from ≡ drop block.next (take block.count block.words) ++ words_on text block.rest
   pub rising : AreRising block.from block.rest (drop block.next (take block.count block.words))
   pub within : block.from ≤ length text → block.rest ≤ length text
+  pub some : 0 < block.room
+  pub most : block.room ≤ 64
 
 -- the first word from a byte on
 pub record IsFirstWord (text : List ℕ) (from : ℕ) (word : Word) : Type 0 where
@@ -103,6 +105,14 @@ no_cut = record { at = 0; words = 0; kind = 0; rule = 0 }
 -- the cuts in front of a block stand within a text of this size
 abbrev pub StandWithin : ℕ → ℕ → List Cut → Type 0
 StandWithin size count out = (k : ℕ) → k < count → (slice_index_or out k no_cut).at ≤ size
+
+-- the cut in front of a place of a block, if that is past the place from which a search began, and the one at which it began
+-- else; and the cut in front of a place that is not 0
+abbrev pub last_in : List Cut → ℕ → Cut → ℕ → Cut
+last_in out from first k = if from == k then first else slice_index_or out (k - 1) no_cut
+
+abbrev pub early_in : List Cut → Option Cut → ℕ → Option Cut
+early_in out early k = if k == 0 then early else Some (slice_index_or out (k - 1) no_cut)
 
 -- of some breaks as many are in front of a block as it holds, and the others come from a state on
 pub record AreNext (cell : ℕ → Cell) (table : FlatTable) (text : List ℕ) (breaks : List Break) (room : ℕ) (block : List RawBreak) (next : NextBreaks) : Type 0 where

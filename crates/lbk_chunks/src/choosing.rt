@@ -1,6 +1,6 @@
 //! Whether limits are in range, and which cuts they allow.
 
-ghost use Rattle.std.specs.Prelude.{◌≡◌, ◌==◌, Some, if◌then◌else◌};
+ghost use Rattle.std.specs.Prelude.{◌≡◌, ◌==◌};
 ghost use Rattle.lbk_chunks.specs.declared.cut.Cut.{Cut};
 ghost use Rattle.lbk_chunks.specs.Chunks.{are_limits, fits, is_early, may_start, start_at};
 
@@ -22,23 +22,12 @@ pub fn fits(limits: &Limits, here: &Here, at: usize, words: usize) -> bool
         && (limits.words == 0 || words.saturating_sub(here.words) <= limits.words)
 }
 
-/// A cut at a byte if the chunk from here on may end there early, or else what was found so far.
+/// Whether the chunk from here on may end early at a byte, where a line must end or not.
 #[inline(always)]
-pub fn early_or<C: Copy>(
-    limits: &Limits,
-    here: &Here,
-    cut: C,
-    at: usize,
-    is_must: bool,
-    early: Option<C>,
-) -> Option<C>
-    ensures { (known : Cut) → known.at ≡ at → (known.kind == 2) ≡ is_must
-        → result ≡ (if is_early limits.now here.now known then Some cut else early) }
+pub fn is_early(limits: &Limits, here: &Here, at: usize, is_must: bool) -> bool
+    ensures { (cut : Cut) → cut.at ≡ at → (cut.kind == 2) ≡ is_must → result ≡ is_early limits.now here.now cut }
 {
-    if is_must && limits.least <= at.saturating_sub(here.told) {
-        return Some(cut);
-    }
-    early
+    is_must && limits.least <= at.saturating_sub(here.told)
 }
 
 /// Whether the next chunk may start at a place before the end of the one from here on, where the cut behind that end

@@ -14,7 +14,7 @@ ghost use Rattle.lbk_chunks.specs.Coming.{AreGiven, AreKept, ArePlaced, ChunksCo
 ghost use Rattle.lbk_chunks.specs.Coming.{IsGiven, IsKept, IsStanding, Knows, state_start};
 ghost use Rattle.lbk_chunks.specs.Cuts.{AreCutsPast, cuts_of};
 
-use crate::choosing::{are_limits, early_or, fits, may_start};
+use crate::choosing::{are_limits, fits, is_early, may_start};
 use crate::chunk::{Chunk, ChunkState, Here, Limits};
 use crate::cut::Cut;
 use crate::cut_block::Mark;
@@ -164,8 +164,10 @@ struct Fitting {
     last: Cut,
     /// The last of them at which the chunk may end early.
     early: Option<Cut>,
-    /// Where the search in the newer block goes on.
+    /// The place behind the last in its block.
     next: usize,
+    /// The place behind the early one in its block.
+    next_early: usize,
 }
 
 /// The cut at which the chunk ends.
@@ -192,32 +194,61 @@ fn chunk_end(
     if !fits(limits, here, first.at, first.words) {
         return Some(first);
     }
-    let mut so_far = fit_on(limits, here, window, fit_up_to(limits, here, first, None));
+    let begun = fit_up_to(limits, here, first, window.next, None, 0);
+    let mut so_far = fit_on(limits, here, window, begun);
     window.next = so_far.next;
     while let Some(next) = window.first_past(table, text, so_far.last.at) {
         if !fits(limits, here, next.at, next.words) {
-            return Some(so_far.early.unwrap_or(so_far.last));
+            if let Some(early) = so_far.early {
+                window.next = so_far.next_early;
+                return Some(early);
+            }
+            return Some(so_far.last);
         }
-        so_far = fit_on(limits, here, window, fit_up_to(limits, here, next, so_far.early));
+        let begun = fit_up_to(
+            limits,
+            here,
+            next,
+            window.next,
+            so_far.early,
+            so_far.next_early,
+        );
+        so_far = fit_on(limits, here, window, begun);
         window.next = so_far.next;
     }
     Some(so_far.last)
 }
 
-/// All up to a cut fit, and the chunk may end early there or where it was found before.
+/// All up to a cut fit, which is before a place of its block.
 #[inline(always)]
-fn fit_up_to(limits: &Limits, here: &Here, last: Cut, early: Option<Cut>) -> Fitting
+fn fit_up_to(
+    limits: &Limits,
+    here: &Here,
+    last: Cut,
+    next: usize,
+    early: Option<Cut>,
+    next_early: usize,
+) -> Fitting
     ensures last { result.last ≡ last }
     ensures early { result.early ≡ (if is_early limits.now here.now last then Some last else early) }
 {
+    if is_early(limits, here, last.at, last.kind == MUST) {
+        return Fitting {
+            last,
+            early: Some(last),
+            next,
+            next_early: next,
+        };
+    }
     Fitting {
         last,
-        early: early_or(limits, here, last, last.at, last.kind == MUST, early),
-        next: 0,
+        early,
+        next,
+        next_early,
     }
 }
 
-/// Goes on over those cuts of the newer block that fit, if the last one was found there.
+/// Goes on over those cuts of a block that fit.
 #[inline(always)]
 fn fit_on(limits: &Limits, here: &Here, window: &Window, start: Fitting) -> Fitting
     requires kept { (text : List ℕ) × IsKept text window.now }
@@ -229,17 +260,38 @@ fn fit_on(limits: &Limits, here: &Here, window: &Window, start: Fitting) -> Fitt
         → ArePlaced here.now.told (length text) result }
     ensures onward { start.last.at ≤ result.last.at }
 {
-    let mut so_far = start;
-    let mut k = window.next_behind(start.last.at);
-    while k < window.newer.count {
-        let next = window.newer.cuts[k];
-        if next.at <= so_far.last.at || !fits(limits, here, next.at, next.words) {
+    let block = window.block_past(start.last.at);
+    let from = block.behind_cut(start.last.at, window.next);
+    let mut last = start.last.at;
+    let mut early = 0;
+    let mut k = from;
+    while k < block.count {
+        let next = &block.cuts[k];
+        if next.at <= last || !fits(limits, here, next.at, next.words) {
             break;
         }
-        so_far = fit_up_to(limits, here, next, so_far.early);
+        last = next.at;
         k += 1;
+        early = early_place(limits, here, next, k, early);
     }
-    Fitting { next: k, ..so_far }
+    Fitting {
+        last: block.cut_before(k, from, start.last),
+        early: block.cut_or(early, start.early),
+        next: k,
+        next_early: if early == 0 { start.next_early } else { early },
+    }
+}
+
+/// The place behind a cut at which the chunk may end early, or else what was found so far.
+#[inline(always)]
+fn early_place(limits: &Limits, here: &Here, cut: &Cut, place: usize, early: usize) -> usize
+    ensures early { result ≡ (if is_early limits.now here.now cut.now then place else early) }
+    ensures few { early ≤ place → result ≤ place }
+{
+    if is_early(limits, here, cut.at, cut.kind == MUST) {
+        return place;
+    }
+    early
 }
 
 /// Where the next chunk starts, behind one that ends at a cut.

@@ -1,19 +1,20 @@
 //! The cuts of a text, a block at a time.
 
-ghost use Rattle.std.specs.Prelude.{◌≡◌, ◌⊎◌, ℕ, ◌+◌, ◌-◌, ◌<◌, ◌≤◌, List, ◌∷◌, ◌++◌, length, map, slice_index_or};
-ghost use Rattle.std.specs.Prelude.{take};
+ghost use Rattle.std.specs.Prelude.{◌≡◌, ◌⊎◌, ℕ, ◌+◌, ◌-◌, ◌<◌, ◌≤◌, List, [], ◌∷◌, ◌++◌, drop, length, map};
+ghost use Rattle.std.specs.Prelude.{slice_index_or, take};
 ghost use Rattle.lbk_bytes.specs.Order.{no_break};
 ghost use Rattle.lbk_bytes.specs.Shown.{raw_of};
 ghost use Rattle.lbk_rules.specs.declared.Break.{Break};
 ghost use Rattle.lbk_rules.specs.declared.Cell.{Cell};
 ghost use Rattle.lbk_calls.specs.Coming.{Comes};
 ghost use Rattle.lbk_chunks.specs.declared.cut.Cut.{Cut};
-ghost use Rattle.lbk_chunks.specs.Coming.{AreAmong, AreFirst, AreNext, AreRead, StandWithin, IsAhead, breaks_left};
-ghost use Rattle.lbk_chunks.specs.Coming.{no_cut};
+ghost use Rattle.lbk_chunks.specs.declared.cut.Place.{Place};
+ghost use Rattle.lbk_chunks.specs.Coming.{AreAmong, AreFirst, AreNext, AreRead, IsAhead, IsPassed, StandWithin};
+ghost use Rattle.lbk_chunks.specs.Coming.{breaks_left, no_cut, words_ahead};
 
 use crate::cut::{Cut, Place};
 use crate::word_block::WordBlock;
-use crate::words_behind::pass_words;
+use crate::words_behind::{pass_known, pass_words};
 use lbk_bytes::RawBreak;
 use lbk_calls::{State, give_breaks};
 use lbk_rules::FlatTable;
@@ -57,8 +58,8 @@ pub(crate) fn fill_cuts(
     ensures onward { breaks_left text.now result.place.breaks ≤ breaks_left text.now place.breaks }
 {
     let mut here = Filled { count: 0, place };
+    let mut breaks = NO_BREAKS;
     while here.count < room {
-        let mut breaks = NO_BREAKS;
         let block = &mut breaks[..room - here.count];
         let next = next_breaks(table, text, here.place.breaks, block);
         if next.count == 0 {
@@ -131,20 +132,72 @@ fn add_cuts(
     let mut here = start;
     let mut k = 0;
     while k < count {
-        let next = add_cut(text, breaks[k], here, words, out);
-        // The state is that of the start, and stays out of the loop.
-        let place = Place {
-            breaks: start.place.breaks,
-            ..next.place
-        };
-        here = Filled { place, ..next };
-        k += 1;
+        let first = add_cut(text, breaks[k], here, words, out);
+        let more = add_known(breaks, k + 1, count, first, words, out);
+        here = more.filled;
+        k = more.next;
     }
     here
 }
 
+/// How far a block is filled with cuts, and the place of the break that comes next.
+#[derive(Clone, Copy)]
+pub(crate) struct Added {
+    pub(crate) filled: Filled,
+    pub(crate) next: usize,
+}
+
+/// Adds the cuts among breaks from a place on, as far as the words suffice that were read: without a call, the loop
+/// keeps its numbers in registers.
+fn add_known(
+    breaks: &[RawBreak],
+    from: usize,
+    count: usize,
+    start: Filled,
+    words: &mut WordBlock,
+    out: &mut [Cut; 64],
+) -> Added
+    requires count { (from ≤ count) × (count ≤ length breaks.now) }
+    requires room { start.count + count ≤ 64 + from }
+    requires read { (text : List ℕ) × AreRead text words.old }
+    ensures read { (text : List ℕ) → AreRead text words.old → AreRead text words.new }
+    ensures among { (text : List ℕ) (cuts : List Cut) (found rest : List Break) → AreRead text words.old
+        → map raw_of found ≡ take count breaks.now
+        → AreAmong text cuts (drop from found ++ rest) start out.old
+        → AreAmong text cuts (drop result.next found ++ rest) result.filled out.new }
+    ensures same { result.filled.place.breaks ≡ start.place.breaks }
+    ensures next { (from ≤ result.next) × (result.next ≤ count) }
+    ensures few { (start.count ≤ result.filled.count) × (result.filled.count + from ≤ start.count + result.next) }
+    ensures within { (size : ℕ) → ((k : ℕ) → k < count → (slice_index_or breaks.now k no_break).at ≤ size)
+        → StandWithin size start.count out.old
+        → StandWithin size result.filled.count out.new }
+    ensures counted { result.next ≡ count → result.filled.count + from ≡ start.count + count
+        → start.place.words ≡ (slice_index_or out.old (start.count - 1) no_cut).words
+        → result.filled.place.words ≡ (slice_index_or out.new (result.filled.count - 1) no_cut).words }
+{
+    let mut here = start;
+    let mut k = from;
+    while k < count {
+        let found = breaks[k];
+        let place = pass_known(found.at, here.place, words);
+        let passed = Filled { place, ..here };
+        if place.word.end <= found.at {
+            return Added {
+                filled: passed,
+                next: k,
+            };
+        }
+        here = put_cut(found, passed, out);
+        k += 1;
+    }
+    Added {
+        filled: here,
+        next: k,
+    }
+}
+
 /// Adds the cut at a break to those in the front of a block, if the break is within no word.
-#[inline(always)]
+#[inline(never)]
 fn add_cut(
     text: &[u8],
     found: RawBreak,
@@ -165,19 +218,39 @@ fn add_cut(
     ensures counted { result.count ≡ start.count + 1 → result.place.words
         ≡ (slice_index_or out.new (result.count - 1) no_cut).words }
 {
-    let at = found.at;
-    let place = pass_words(text, at, start.place, words);
-    if place.word.end == 0 || at <= place.word.start {
-        out[start.count] = Cut {
-            at,
-            words: place.words,
+    let place = pass_words(text, found.at, start.place, words);
+    put_cut(found, Filled { place, ..start }, out)
+}
+
+/// Adds the cut at a break to those in the front of a block, if the break is not within the first word that ends past
+/// it.
+#[inline(always)]
+fn put_cut(found: RawBreak, here: Filled, out: &mut [Cut; 64]) -> Filled
+    requires room { here.count < 64 }
+    ensures among { (text : List ℕ) (cuts : List Cut) (first : Break) (rest : List Break) (start : Place)
+        → raw_of first ≡ found
+        → AreAmong text cuts (first ∷ rest) (record { count = here.count; place = start }) out.old
+        → IsPassed text found.at start here.place
+        → (here.place.word.end ≡ 0 → words_ahead text here.place ≡ [])
+        → (here.place.word.end ≡ 0) ⊎ (found.at < here.place.word.end) → AreAmong text cuts rest result out.new }
+    ensures same { result.place ≡ here.place }
+    ensures few { (here.count ≤ result.count) × (result.count ≤ here.count + 1) }
+    ensures within { (size : ℕ) → found.at ≤ size → StandWithin size here.count out.old
+        → StandWithin size result.count out.new }
+    ensures counted { result.count ≡ here.count + 1 → here.place.words
+        ≡ (slice_index_or out.new (result.count - 1) no_cut).words }
+{
+    if here.place.word.end == 0 || found.at <= here.place.word.start {
+        out[here.count] = Cut {
+            at: found.at,
+            words: here.place.words,
             kind: found.kind,
             rule: found.rule,
         };
         return Filled {
-            count: start.count + 1,
-            place,
+            count: here.count + 1,
+            ..here
         };
     }
-    Filled { place, ..start }
+    here
 }

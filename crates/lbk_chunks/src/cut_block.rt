@@ -4,7 +4,8 @@ ghost use Rattle.std.specs.Prelude.{◌≡◌, ◌⊎◌, ℕ, ◌-◌, ◌<◌,
 ghost use Rattle.std.specs.Prelude.{slice_index_or, if◌then◌else◌};
 ghost use Rattle.lbk_rules.specs.declared.Cell.{Cell};
 ghost use Rattle.lbk_chunks.specs.declared.cut.Cut.{Cut};
-ghost use Rattle.lbk_chunks.specs.Coming.{AreCutsPast, AreRead, IsBlock, IsMark, IsSafe, breaks_left, no_cut};
+ghost use Rattle.lbk_chunks.specs.Coming.{AreCutsPast, AreRead, IsBlock, IsMark, IsSafe, breaks_left, early_in};
+ghost use Rattle.lbk_chunks.specs.Coming.{last_in, no_cut};
 
 use crate::cursor::fill_cuts;
 use crate::cut::{Cut, NO_CUTS, Place};
@@ -97,6 +98,44 @@ impl CutBlock {
             return from;
         }
         0
+    }
+
+    /// This place, if the cut before it is at a byte, or else the end.
+    #[inline(always)]
+    pub(crate) fn behind_cut(&self, at: usize, place: usize) -> usize
+        requires { self.now.count ≤ 64 }
+        ensures few { result ≤ self.now.count }
+        ensures found { (result ≡ self.now.count) ⊎ ((0 < result)
+            × ((slice_index_or self.now.cuts (result - 1) no_cut).at ≡ at)) }
+    {
+        if 0 < place && place <= self.count && self.cuts[place - 1].at == at {
+            return place;
+        }
+        self.count
+    }
+
+    /// The cut before a place, if that is past the one from which a search began, or else this.
+    #[inline(always)]
+    pub(crate) fn cut_before(&self, place: usize, from: usize, first: Cut) -> Cut
+        requires { (place ≤ 64) × (from ≤ place) }
+        ensures { result ≡ last_in self.now.cuts from first place }
+    {
+        if from == place {
+            return first;
+        }
+        self.cuts[place - 1]
+    }
+
+    /// The cut before a place, if that is not 0, or else this.
+    #[inline(always)]
+    pub(crate) fn cut_or(&self, place: usize, early: Option<Cut>) -> Option<Cut>
+        requires { place ≤ 64 }
+        ensures { result ≡ early_in self.now.cuts early place }
+    {
+        if place == 0 {
+            return early;
+        }
+        Some(self.cuts[place - 1])
     }
 
     /// Which of them is the first past a byte. The search begins at one of them if that is not past the first.

@@ -12,7 +12,7 @@ mod window;
 mod word_block;
 mod words_behind;
 
-pub use choosing::{are_limits, early_or, fits, may_start};
+pub use choosing::{are_limits, fits, is_early, may_start};
 pub use chunk::{Chunk, ChunkState, Here, Limits};
 pub use chunking::chunks;
 pub use cut::{Cut, Place};

@@ -1,11 +1,10 @@
 //! The cuts of a text around a place, so that few are read twice.
 
-ghost use Rattle.std.specs.Prelude.{◌≡◌, ◌⊎◌, ℕ, ◌-◌, ◌<◌, ◌≤◌, [], ◌∷◌, false, true, List, IfSome, MatchOption};
-ghost use Rattle.std.specs.Prelude.{length, slice_index_or};
+ghost use Rattle.std.specs.Prelude.{◌≡◌, ◌⊎◌, ℕ, ◌<◌, ◌≤◌, [], ◌∷◌, false, true, List, IfSome, MatchOption, length};
 ghost use Rattle.lbk_rules.specs.declared.Cell.{Cell};
 ghost use Rattle.lbk_chunks.specs.declared.cut.Cut.{Cut};
 ghost use Rattle.lbk_chunks.specs.Chunks.{cuts_past};
-ghost use Rattle.lbk_chunks.specs.Coming.{AreKept, IsAhead, IsKept, IsMark, IsStanding, breaks_left, no_cut};
+ghost use Rattle.lbk_chunks.specs.Coming.{AreKept, IsAhead, IsBlock, IsKept, IsMark, IsSafe, IsStanding, breaks_left};
 ghost use Rattle.lbk_chunks.specs.Cuts.{AreCutsPast};
 
 use crate::cursor::fill_cuts;
@@ -14,8 +13,8 @@ use crate::cut_block::{BLOCK, CutBlock, Mark};
 use crate::word_block::WordBlock;
 use lbk_rules::FlatTable;
 
-/// How many cuts are read first. Each further block has twice as many, up to the most that a block holds.
-const FIRST: usize = 16;
+/// How many cuts are read first. Each further block has four times as many, up to the most that a block holds.
+const FIRST: usize = 4;
 
 /// Two blocks of cuts, and a place from which others are read again.
 #[derive(Drop)]
@@ -25,8 +24,8 @@ pub(crate) struct Window {
     /// The cuts that were read before the newer ones.
     older: CutBlock,
     /// The cuts that were read last.
-    pub(crate) newer: CutBlock,
-    /// Where the search among the newer begins.
+    newer: CutBlock,
+    /// Where the search in a block begins.
     pub(crate) next: usize,
     /// The words behind the newer, as far as they were read.
     words: WordBlock,
@@ -71,7 +70,8 @@ impl Window {
             return Some(self.newer.cuts[k]);
         }
         if self.older.reaches(at) {
-            let k = self.older.first_past(at, 0);
+            let k = self.older.first_past(at, self.next);
+            self.next = k + 1;
             return Some(self.older.cuts[k]);
         }
         if !self.read_past(table, text, at) {
@@ -82,19 +82,17 @@ impl Window {
         Some(self.newer.cuts[k])
     }
 
-    /// The place in the newer block behind the cut at a byte, if that was found last, or else its end.
+    /// The block that has the cut behind one at a byte, if either has.
     #[inline(always)]
-    pub(crate) fn next_behind(&self, at: usize) -> usize
-        requires kept { (text : List ℕ) × IsKept text self.now }
-        ensures few { result ≤ self.now.newer.count }
-        ensures found { (result ≡ self.now.newer.count) ⊎ ((0 < result)
-            × ((slice_index_or self.now.newer.cuts (result - 1) no_cut).at ≡ at)) }
+    pub(crate) fn block_past(&self, at: usize) -> &CutBlock
+        ensures safe { (text : List ℕ) → IsKept text self.now → IsSafe text result.now }
+        ensures block { (cell : ℕ → Cell) (table : FlatTable) (text : List ℕ) (cuts : List Cut)
+            → AreKept cell table text cuts self.now → IsBlock cell table text cuts result.now }
     {
-        let k = self.next;
-        if 0 < k && k <= self.newer.count && self.newer.cuts[k - 1].at == at {
-            return k;
+        if self.older.reaches(at) {
+            return &self.older;
         }
-        self.newer.count
+        &self.newer
     }
 
     /// Reads the cuts again from the place that is kept, if the newer are behind a byte.
@@ -130,7 +128,7 @@ impl Window {
     {
         self.older = self.newer;
         let behind = self.older.behind;
-        let room = (self.older.room * 2).min(BLOCK);
+        let room = (self.older.room * 4).min(BLOCK);
         self.newer.read(table, text, behind, room, &mut self.words);
     }
 

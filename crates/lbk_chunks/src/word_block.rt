@@ -1,10 +1,16 @@
 //! The words of a text, read a block at a time.
 
-ghost use Rattle.std.specs.Prelude.{◌≡◌, ℕ, List, [], MatchOption};
+ghost use Rattle.std.specs.Prelude.{◌≡◌, ℕ, ◌-◌, ◌<◌, List, [], IfSome, MatchOption};
 ghost use Rattle.lbk_words.specs.Words.{words_on};
 ghost use Rattle.lbk_chunks.specs.Coming.{AreRead, IsFirstWord};
 
 use lbk_words::{Word, fill};
+
+/// How many words are read first. Each further block has four times as many, up to the most that a block holds.
+const FIRST: usize = 4;
+
+/// How many words a block holds.
+const BLOCK: usize = 64;
 
 /// The words from a byte on, as far as they were read.
 #[derive(Clone, Copy)]
@@ -17,6 +23,8 @@ pub(crate) struct WordBlock {
     count: usize,
     /// The byte from which the words behind the block come.
     rest: usize,
+    /// How many words are read next.
+    room: usize,
     /// The block.
     words: [Word; 64],
 }
@@ -31,11 +39,12 @@ impl WordBlock {
             next: 0,
             count: 0,
             rest: 0,
+            room: FIRST,
             words: [Word { start: 0, end: 0 }; 64],
         }
     }
 
-    /// Reads the words from a byte on, if they are not there.
+    /// Reads the words from a byte on, if they are not there and the text may have some.
     #[inline(always)]
     fn load(&mut self, text: &[u8], from: usize)
         requires { AreRead text.now self.old }
@@ -43,9 +52,43 @@ impl WordBlock {
         ensures from { self.new.from ≡ from }
         ensures none { self.new.next ≡ self.new.count → words_on text.now from ≡ [] }
     {
-        if self.from != from || self.next == self.count {
-            *self = words_from(text, from);
+        if self.from == from && self.next < self.count {
+            return;
         }
+        if self.from == from && text.len() <= self.rest {
+            return;
+        }
+        self.read(text, from);
+    }
+
+    /// Reads the words from a byte on.
+    #[inline(never)]
+    fn read(&mut self, text: &[u8], from: usize)
+        requires { AreRead text.now self.old }
+        ensures read { AreRead text.now self.new }
+        ensures from { self.new.from ≡ from }
+        ensures none { self.new.next ≡ self.new.count → words_on text.now from ≡ [] }
+    {
+        let filled = fill::<true>(text, from, &mut self.words[..self.room]);
+        self.from = from;
+        self.next = 0;
+        self.count = filled.count;
+        self.rest = filled.at;
+        self.room = (self.room * 4).min(BLOCK);
+    }
+
+    /// The first word of those that were read.
+    #[inline(always)]
+    fn take(&mut self) -> Word
+        requires { (text : List ℕ) × AreRead text self.old × (self.old.next < self.old.count) }
+        ensures read { (text : List ℕ) → AreRead text self.old → AreRead text self.new }
+        ensures first { (text : List ℕ) → AreRead text self.old → IsFirstWord text self.old.from result }
+        ensures fewer { self.new.count - self.new.next < self.old.count - self.old.next }
+    {
+        let word = self.words[self.next];
+        self.next += 1;
+        self.from = word.end;
+        word
     }
 
     /// The first word from a byte on.
@@ -59,27 +102,20 @@ impl WordBlock {
         if self.next == self.count {
             return None;
         }
-        let word = self.words[self.next];
-        self.next += 1;
-        self.from = word.end;
-        Some(word)
+        Some(self.take())
     }
-}
 
-/// The words from a byte on, as many as a block holds.
-fn words_from(text: &[u8], from: usize) -> WordBlock
-    ensures read { AreRead text.now result }
-    ensures from { result.from ≡ from }
-    ensures next { result.next ≡ 0 }
-    ensures none { result.count ≡ 0 → words_on text.now from ≡ [] }
-{
-    let mut words = [Word { start: 0, end: 0 }; 64];
-    let filled = fill::<true>(text, from, &mut words);
-    WordBlock {
-        from,
-        next: 0,
-        count: filled.count,
-        rest: filled.at,
-        words,
+    /// The first word from a byte on, if it was read.
+    #[inline(always)]
+    pub(crate) fn known_from(&mut self, from: usize) -> Option<Word>
+        requires { (text : List ℕ) × AreRead text self.old }
+        ensures read { (text : List ℕ) → AreRead text self.old → AreRead text self.new }
+        ensures first { (text : List ℕ) → AreRead text self.old → IfSome result (IsFirstWord text from) }
+        ensures fewer { IfSome result (λ _. self.new.count - self.new.next < self.old.count - self.old.next) }
+    {
+        if self.from != from || self.count <= self.next {
+            return None;
+        }
+        Some(self.take())
     }
 }

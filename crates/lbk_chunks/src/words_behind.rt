@@ -1,7 +1,7 @@
 //! The words before a place.
 
-ghost use Rattle.std.specs.Prelude.{◌≡◌, ◌⊎◌, [], ◌+◌, ◌-◌, ◌<◌, ◌≤◌, length};
-ghost use Rattle.lbk_chunks.specs.Coming.{AreRead, IsPassed, held, left, words_ahead};
+ghost use Rattle.std.specs.Prelude.{◌≡◌, ◌⊎◌, ℕ, [], ◌+◌, ◌-◌, ◌<◌, ◌≤◌, List, length};
+ghost use Rattle.lbk_chunks.specs.Coming.{AreRead, IsFirstWord, IsPassed, held, left, words_ahead};
 
 use crate::cut::Place;
 use crate::word_block::WordBlock;
@@ -23,6 +23,23 @@ pub(crate) fn pass_words(text: &[u8], at: usize, place: Place, words: &mut WordB
     here
 }
 
+/// Passes the words that end before a byte or at it, as far as they were read.
+#[inline(always)]
+pub(crate) fn pass_known(at: usize, place: Place, words: &mut WordBlock) -> Place
+    requires { (text : List ℕ) × AreRead text words.old }
+    ensures read { (text : List ℕ) → AreRead text words.old → AreRead text words.new }
+    ensures passed { (text : List ℕ) → AreRead text words.old → IsPassed text at place result }
+{
+    let mut here = place;
+    while here.word.end != 0 && here.word.end <= at {
+        let Some(word) = words.known_from(here.from) else {
+            return here;
+        };
+        here = with_word(without_word(here), word);
+    }
+    here
+}
+
 /// Reads a word, if none was read and one is left.
 #[inline(always)]
 fn loaded(text: &[u8], place: Place, words: &mut WordBlock) -> Place
@@ -40,6 +57,21 @@ fn loaded(text: &[u8], place: Place, words: &mut WordBlock) -> Place
     let Some(word) = words.first_from(text, place.from) else {
         return place;
     };
+    with_word(place, word)
+}
+
+/// Reads the first word that is left.
+#[inline(always)]
+fn with_word(place: Place, word: Word) -> Place
+    requires { place.word.end ≡ 0 }
+    ensures same { (result.breaks ≡ place.breaks) × (result.words ≡ place.words) }
+    ensures ahead { (text : List ℕ) → IsFirstWord text place.from word
+        → words_ahead text result ≡ words_ahead text place }
+    ensures counted { (text : List ℕ) → IsFirstWord text place.from word
+        → place.words + held place.word ≤ place.from → result.words + held result.word ≤ result.from }
+    ensures shorter { (text : List ℕ) → IsFirstWord text place.from word → left text result ≤ left text place }
+    ensures some { result.word ≡ word }
+{
     Place {
         from: word.end,
         word,

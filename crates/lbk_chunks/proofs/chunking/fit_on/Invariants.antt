@@ -1,19 +1,23 @@
-use Rattle.std.proofs.Common.{◌≡◌, ◌⊎◌, ℕ, ◌-◌, ◌<◌, ◌≤◌, List, length, slice_index_or}
+use Rattle.std.proofs.Common.{◌≡◌, ◌-◌, ◌≤◌, ℕ, List, Some, length}
 use Rattle.lbk_rules.specs.declared.Cell.{Cell}
 use Rattle.lbk_rules.specs.declared.flat_table.FlatTable.{FlatTable}
 use Rattle.lbk_chunks.specs.declared.cut.Cut.{Cut}
-use Rattle.lbk_chunks.specs.Coming.{ArePlaced, IsEnding, IsKept, Knows, no_cut}
+use Rattle.lbk_chunks.specs.Coming.{ArePlaced, IsEnding, IsKept, Knows, StandsIn, early_in, last_in}
 use Rattle.lbk_chunks.proofs.chunking.fit_on.Given as goal
 
 abbrev pub invariant-loop-k : goal.invariant-loop-k
 invariant-loop-k l = record {
-  few : l.k ≤ l.window.newer.count;
-  found : (l.k ≡ l.window.newer.count) ⊎ ((0 < l.k) × ((slice_index_or l.window.newer.cuts (l.k - 1) no_cut).at ≡ l.so_far.last.at));
+  few : (l.from ≤ l.k) × (l.k ≤ l.block.count);
+  early : l.early ≤ l.k;
+  last : l.last ≡ (last_in l.block.cuts l.from l.fn.start.last l.k).at;
   ending : (cell : ℕ → Cell) (table : FlatTable) (text : List ℕ) (cuts : List Cut) → Knows cell table text cuts l.window l.here → IsKept text l.window
-      → IsEnding l.limits cuts l.here l.fn.start.last l.fn.start.early → IsEnding l.limits cuts l.here l.so_far.last l.so_far.early;
-  placed : (text : List ℕ) → IsKept text l.window → ArePlaced l.here.told (length text) l.fn.start → ArePlaced l.here.told (length text) l.so_far;
-  onward : l.fn.start.last.at ≤ l.so_far.last.at;
+      → IsEnding l.limits cuts l.here l.fn.start.last l.fn.start.early
+      → IsEnding l.limits cuts l.here (last_in l.block.cuts l.from l.fn.start.last l.k) (early_in l.block.cuts l.fn.start.early l.early);
+  placed : (text : List ℕ) → IsKept text l.window → ArePlaced l.here.told (length text) l.fn.start
+      → StandsIn l.here.told (length text) (last_in l.block.cuts l.from l.fn.start.last l.k)
+      × ((c : Cut) → early_in l.block.cuts l.fn.start.early l.early ≡ Some c → StandsIn l.here.told (length text) c);
+  onward : l.fn.start.last.at ≤ l.last;
 }
 
 abbrev pub decreases-loop-k : goal.decreases-loop-k
-decreases-loop-k l = l.window.newer.count - l.k
+decreases-loop-k l = l.block.count - l.k

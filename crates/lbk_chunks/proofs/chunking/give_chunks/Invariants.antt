@@ -1,4 +1,4 @@
-use Rattle.std.proofs.Common.{ℕ, ◌≡◌, ◌-◌, ◌≤◌, List, length, take}
+use Rattle.std.proofs.Common.{ℕ, ◌-◌, ◌≤◌, List, length, take}
 use Rattle.lbk_rules.specs.declared.Cell.{Cell}
 use Rattle.lbk_chunks.specs.declared.chunk.Chunk.{Chunk}
 use Rattle.lbk_chunks.specs.declared.cut.Cut.{Cut}

@@ -16,7 +16,7 @@ invariant-loop-k l = record {
   counts : (l.fn.start.count ≤ l.here.count) × (l.here.count ≤ l.fn.start.count + l.k);
   within : (size : ℕ) → ((k : ℕ) → k < l.fn.count → (slice_index_or l.breaks k no_break).at ≤ size) → StandWithin size l.fn.start.count l.fn.out
       → StandWithin size l.here.count l.out;
-  counted : 0 < l.k → l.here.count ≡ l.fn.start.count + l.k → l.here.place.words ≡ (slice_index_or l.out (l.here.count - 1) no_cut).words;
+  counted : 0 < l.k → l.k ≡ l.fn.count → l.here.count ≡ l.fn.start.count + l.k → l.here.place.words ≡ (slice_index_or l.out (l.here.count - 1) no_cut).words;
 }
 
 abbrev pub decreases-loop-k : goal.decreases-loop-k
