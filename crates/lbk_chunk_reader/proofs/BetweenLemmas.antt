@@ -18,7 +18,8 @@ use Rattle.lbk_chunk_reader.specs.PassageWords.{words_in_pieces}
 use Rattle.lbk_words.specs.declared.word.Word.{Word}
 use Rattle.lbk_chunks.specs.declared.chunk.Limits.{Limits}
 use Rattle.lbk_chunks.specs.declared.cut.Cut.{Cut}
-use Rattle.lbk_chunks.specs.Chunks.{Here, cuts_past, end_of, fits, fitting, is_early, last_early, last_of}
+use Rattle.lbk_chunks.specs.declared.chunk.Here.{Here}
+use Rattle.lbk_chunks.specs.Chunks.{cuts_past, end_of, fits, fitting, is_early, last_early, last_of}
 use Rattle.lbk_chunks.specs.Coming.{AreBreaksPast, AreCutsPast}
 use Rattle.lbk_chunks.specs.Cuts.{cuts_among, is_within, words_before}
 use Rattle.lbk_chunk_reader.specs.Between.{AreBreaksBetween, AreCutsBetween}

@@ -4,7 +4,8 @@ use Rattle.std.specs.List.{list_all}
 use Rattle.std.specs.Option.{option_map, unwrap_or}
 use Rattle.lbk_chunks.specs.declared.chunk.Limits.{Limits}
 use Rattle.lbk_chunks.specs.declared.cut.Cut.{Cut}
-use Rattle.lbk_chunks.specs.Chunks.{Here, end_of, fits, fitting, is_early, last_early, last_of}
+use Rattle.lbk_chunks.specs.declared.chunk.Here.{Here}
+use Rattle.lbk_chunks.specs.Chunks.{end_of, fits, fitting, is_early, last_early, last_of}
 use Rattle.lbk_chunk_reader.specs.Choosing.{IsEndAmong}
 use Rattle.lbk_chunk_reader.specs.Numbered.{numbered}
 use Rattle.lbk_chunk_reader.specs.declared.cut.Cut as given

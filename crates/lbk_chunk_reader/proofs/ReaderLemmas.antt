@@ -11,7 +11,8 @@ use Rattle.lbk_values.specs.declared.profile.Profile.{Profile}
 use Rattle.lbk_chunks.specs.declared.chunk.Chunk.{Chunk}
 use Rattle.lbk_chunks.specs.declared.chunk.Limits.{Limits}
 use Rattle.lbk_chunks.specs.declared.cut.Cut.{Cut}
-use Rattle.lbk_chunks.specs.Chunks.{end_of, AreChunks, Here, cuts_past, text_start}
+use Rattle.lbk_chunks.specs.declared.chunk.Here.{Here}
+use Rattle.lbk_chunks.specs.Chunks.{end_of, AreChunks, cuts_past, text_start}
 use Rattle.lbk_chunks.specs.Cuts.{AreCutsPast}
 use Rattle.lbk_passage.specs.Marks.{Marked, scalars_of, text_of}
 use Rattle.lbk_passage.specs.Next.{AfterNext, GoesOn, IsDone, IsLast, IsPassage, Lends, lent_text}
@@ -29,7 +30,7 @@ use Rattle.lbk_chunk_reader.specs.Choosing.{IsNextChunk}
 use Rattle.lbk_chunk_reader.specs.Cuts.{cuts_between, cuts_of_passages}
 use Rattle.std.specs.Prelude.{IfSome}
 use Rattle.lbk_chunk_reader.specs.declared.cut.Chunk as given
-use Rattle.lbk_chunk_reader.specs.Numbered.{here_of, numbered_chunk}
+use Rattle.lbk_chunk_reader.specs.Numbered.{numbered_chunk}
 use Rattle.lbk_chunk_reader.specs.Reader.{ChunksCome, Goes, HasGiven, IsStopped, MayCome, View, cuts_with, new_view}
 use Rattle.lbk_chunk_reader.specs.Standing.{Stands, view_with}
 use Rattle.lbk_chunk_reader.specs.Window.{IsNewWindow, IsTaken, cuts_in}
@@ -188,8 +189,8 @@ module _ (s t : State) (u v : Option (List ℕ)) (e1 e2 : Bool) (r1 r2 : Reads) 
         utf8 = subst IsUtf8 is-passage.text is-passage.utf8;
         ended = λ at_end. (append_cancel_left s.held a.got [] (sym a.grown ∙ (a.quiet at_end).0 ∙ sym (append-nil s.held)), (a.quiet at_end).1);
         chunks = λ behind more later may come.
-            chunks-same w.limits w'.limits (cuts_with (view_with w s) (scalars_of ms ++ behind)) (cuts_with (view_with w' t) behind) (here_of w.here) (here_of w'.here) later
-            k.limits (same-cuts behind more may) (ap here_of k.here) come;
+            chunks-same w.limits w'.limits (cuts_with (view_with w s) (scalars_of ms ++ behind)) (cuts_with (view_with w' t) behind) w.here w'.here later
+            k.limits (same-cuts behind more may) k.here come;
       };
     }
 
@@ -229,7 +230,7 @@ module _ (s t : State) (u v : Option (List ℕ)) (e1 e2 : Bool) (r1 r2 : Reads) 
       utf8 = IsUtf8-nil;
       ended = λ at_end. (append_cancel_left s.held a.got [] (sym a.grown ∙ (a.quiet at_end).0 ∙ sym (append-nil s.held)), (a.quiet at_end).1);
       chunks = λ behind more later may come.
-          chunks-same w.limits w.limits (cuts_with (view_with w s) behind) (cuts_with (view_with w t) behind) (here_of w.here) (here_of w.here) later refl
+          chunks-same w.limits w.limits (cuts_with (view_with w s) behind) (cuts_with (view_with w t) behind) w.here w.here later refl
           (ap (λ n. cuts_in w ++ cuts_of_passages s.cell n w.words (passages s.profile s.cell behind)) (sym same-start)
           ∙ ap₂ (λ f g. cuts_in w ++ cuts_of_passages f t.start w.words (passages g f behind)) (sym a.alike.cell) (sym a.alike.profile)) refl come;
     }
@@ -277,22 +278,22 @@ none-to-come cell profile start words behind none = ap (λ l. cuts_of_passages c
 -- a chunk ends at the byte that cuts stand before, or before it, and those behind its next start do so too
 module _ (w w' : Window) (is_whole : Bool) (to : ℕ) (between : AreCutsBetween w.here.start (cuts_in w) to) (chunk : Chunk)
     (next : (more : List Cut) → (is_whole ≡ true → more ≡ []) → AreCutsPast w.here.start (cuts_in w ++ more)
-    → IsNextChunk w.limits (here_of w.here) (cuts_in w ++ more) chunk (here_of w'.here) (cuts_in w' ++ more)) where
-  alone : IsNextChunk w.limits (here_of w.here) (cuts_in w ++ []) chunk (here_of w'.here) (cuts_in w' ++ [])
+    → IsNextChunk w.limits w.here (cuts_in w ++ more) chunk w'.here (cuts_in w' ++ more)) where
+  alone : IsNextChunk w.limits w.here (cuts_in w ++ []) chunk w'.here (cuts_in w' ++ [])
   alone = next [] (λ _. refl) (between-past w.here.start (cuts_in w) to [] between tt)
 
-  end-within : (end_of w.limits (here_of w.here) alone.first alone.more).at ≤ to
+  end-within : (end_of w.limits w.here alone.first alone.more).at ≤ to
   end-within =
       let whole : AreCutsBetween w.here.start (cuts_in w ++ []) to = subst (λ l. AreCutsBetween w.here.start l to) (sym (append-nil (cuts_in w))) between in
       let all = past-up_to to w.here.told (cuts_in w ++ []) (between-up_to to w.here.start (cuts_in w ++ []) whole) in
-      end-up_to to w.limits (here_of w.here) alone.first alone.more (subst (AreUpTo to) alone.are all)
+      end-up_to to w.limits w.here alone.first alone.more (subst (AreUpTo to) alone.are all)
 
   pub chunk-within : chunk.end ≤ to
   chunk-within = let e = ap (λ (c : Chunk). c.end) alone.is in omega (arith, e, end-within)
 
   pub next-between : AreCutsBetween w'.here.start (cuts_in w') to
   next-between =
-      let told = next-told w.limits (here_of w.here) (cuts_in w ++ []) chunk (here_of w'.here) (cuts_in w' ++ []) alone in
+      let told = next-told w.limits w.here (cuts_in w ++ []) chunk w'.here (cuts_in w' ++ []) alone in
       let left : cuts_in w' ≡ cuts_past w'.here.start (cuts_in w) = sym (append-nil (cuts_in w')) ∙ alone.leaves ∙ ap (cuts_past w'.here.start) (append-nil (cuts_in w)) in
       subst (λ l. AreCutsBetween w'.here.start l to) (sym left) (between-left w.here.start w'.here.start (cuts_in w) to (omega (arith, told.1, end-within)) between)
 
@@ -304,7 +305,7 @@ module _ (s : State) (w w' : Window) (is_whole : Bool) (st : Stands w s is_whole
 
   module _ (chunk : Chunk) (limits : w'.limits ≡ w.limits) (words : w'.words ≡ w.words)
       (next : (more : List Cut) → (is_whole ≡ true → more ≡ []) → AreCutsPast w.here.start (cuts_in w ++ more)
-      → IsNextChunk w.limits (here_of w.here) (cuts_in w ++ more) chunk (here_of w'.here) (cuts_in w' ++ more)) where
+      → IsNextChunk w.limits w.here (cuts_in w ++ more) chunk w'.here (cuts_in w' ++ more)) where
     pub goes-chunk : (u : Option (List ℕ)) → Goes (view_with w s) (view_with w' s) false u u (chunk ∷ [])
     goes-chunk u = record {
       got = [];
@@ -318,8 +319,8 @@ module _ (s : State) (w w' : Window) (is_whole : Bool) (st : Stands w s is_whole
             let to_come = cuts_of_passages s.cell s.start w.words (passages s.profile s.cell behind) in
             let rising = between-past w.here.start (cuts_in w) s.start to_come st.between (passages-rising s.cell s.start w.words (passages s.profile s.cell behind)) in
             let none : is_whole ≡ true → to_come ≡ [] = λ whole. none-to-come s.cell s.profile s.start w.words behind (none-behind behind more may whole) in
-            next-chunks w.limits (here_of w.here) (cuts_in w ++ to_come) chunk (here_of w'.here) (cuts_in w' ++ to_come) later rising st.told (next to_come none rising)
-            (chunks-same w.limits w'.limits (cuts_in w' ++ to_come) (cuts_with (view_with w' s) behind) (here_of w'.here) (here_of w'.here) later limits
+            next-chunks w.limits w.here (cuts_in w ++ to_come) chunk w'.here (cuts_in w' ++ to_come) later rising st.told (next to_come none rising)
+            (chunks-same w.limits w'.limits (cuts_in w' ++ to_come) (cuts_with (view_with w' s) behind) w'.here w'.here later limits
             (ap (λ n. cuts_in w' ++ cuts_of_passages s.cell s.start n (passages s.profile s.cell behind)) (sym words)) refl come));
       };
     }
@@ -328,7 +329,7 @@ module _ (s : State) (w w' : Window) (is_whole : Bool) (st : Stands w s is_whole
     stands-chunk =
         let alone : AreCutsPast w.here.start (cuts_in w ++ []) = between-past w.here.start (cuts_in w) s.start [] st.between tt in
         let n = next [] (λ _. refl) alone in
-        let told = next-told w.limits (here_of w.here) (cuts_in w ++ []) chunk (here_of w'.here) (cuts_in w' ++ []) n in
+        let told = next-told w.limits w.here (cuts_in w ++ []) chunk w'.here (cuts_in w' ++ []) n in
         record {
           unspent = st.unspent;
           whole = st.whole;
@@ -360,9 +361,9 @@ module _ (cell : ℕ → Cell) (profile : Profile) (limits : Limits) (limit : �
 module _ (l : Limits) (w : Window) (s : State) (cell : ℕ → Cell) (profile : Profile) (limit : ℕ) (n : IsNewWindow l w) (is : s ≡ new_state cell profile limit) where
   pub view-new : view_with w s ≡ new_view cell profile l limit
   view-new =
-      ap (λ x. record { limits = x; cuts = cuts_in w; here = here_of w.here; passages = s; words = w.words }) n.limits
-      ∙ ap (λ x. record { limits = l; cuts = x; here = here_of w.here; passages = s; words = w.words }) n.cuts
-      ∙ ap (λ x. record { limits = l; cuts = []; here = here_of x; passages = s; words = w.words }) n.here
+      ap (λ x. record { limits = x; cuts = cuts_in w; here = w.here; passages = s; words = w.words }) n.limits
+      ∙ ap (λ x. record { limits = l; cuts = x; here = w.here; passages = s; words = w.words }) n.cuts
+      ∙ ap (λ x. record { limits = l; cuts = []; here = x; passages = s; words = w.words }) n.here
       ∙ ap (λ x. record { limits = l; cuts = []; here = text_start; passages = x; words = w.words }) is
       ∙ ap (λ x. record { limits = l; cuts = []; here = text_start; passages = new_state cell profile limit; words = x }) n.words
 
@@ -378,7 +379,7 @@ module _ (l : Limits) (w : Window) (s : State) (cell : ℕ → Cell) (profile : 
 -- what stands after the next chunk was looked for
 pub stands-next : (s : State) (w w' : Window) (is_whole : Bool) → Stands w s is_whole → w'.limits ≡ w.limits → w'.words ≡ w.words → (r : Option given.Chunk)
     → IfSome r (λ chunk. (more : List Cut) → (is_whole ≡ true → more ≡ []) → AreCutsPast w.here.start (cuts_in w ++ more)
-    → IsNextChunk w.limits (here_of w.here) (cuts_in w ++ more) (numbered_chunk chunk) (here_of w'.here) (cuts_in w' ++ more))
+    → IsNextChunk w.limits w.here (cuts_in w ++ more) (numbered_chunk chunk) w'.here (cuts_in w' ++ more))
     → (r ≡ None → w' ≡ w) → Stands w' s is_whole
 stands-next s w w' is_whole st limits words None next none = subst (λ x. Stands x s is_whole) (sym (none refl)) st
 stands-next s w w' is_whole st limits words (Some chunk) next none = stands-chunk s w w' is_whole st (numbered_chunk chunk) limits words next

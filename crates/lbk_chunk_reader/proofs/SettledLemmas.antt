@@ -7,7 +7,8 @@ use Rattle.std.specs.Prelude.{None}
 use Rattle.lbk_chunks.specs.declared.chunk.Chunk.{Chunk}
 use Rattle.lbk_chunks.specs.declared.chunk.Limits.{Limits}
 use Rattle.lbk_chunks.specs.declared.cut.Cut.{Cut}
-use Rattle.lbk_chunks.specs.Chunks.{AreChunks, Here, after, chunk_to, cuts_past, end_of, fits, fitting, last_early, last_of, text_start}
+use Rattle.lbk_chunks.specs.declared.chunk.Here.{Here}
+use Rattle.lbk_chunks.specs.Chunks.{AreChunks, after, chunk_to, cuts_past, end_of, fits, fitting, last_early, last_of, text_start}
 use Rattle.lbk_chunks.specs.Cuts.{AreCutsPast}
 use Rattle.lbk_chunks.proofs.CutLemmas.{cuts-from, past-all, past-past, past-rising}
 use Rattle.lbk_chunks.proofs.LawLemmas.{after-told, chunks-exist, end-from, fewer, start-by}

@@ -4,7 +4,8 @@ use Rattle.std.specs.Prelude.{find}
 use Rattle.lbk_chunks.specs.declared.chunk.Chunk.{Chunk}
 use Rattle.lbk_chunks.specs.declared.chunk.Limits.{Limits}
 use Rattle.lbk_chunks.specs.declared.cut.Cut.{Cut}
-use Rattle.lbk_chunks.specs.Chunks.{AreChunks, Here, after, chunk_to, cuts_past, end_of, may_start, start_among, start_at, start_before}
+use Rattle.lbk_chunks.specs.declared.chunk.Here.{Here}
+use Rattle.lbk_chunks.specs.Chunks.{AreChunks, after, chunk_to, cuts_past, end_of, may_start, start_among, start_at, start_before}
 use Rattle.lbk_chunks.specs.Cuts.{AreCutsPast}
 use Rattle.lbk_chunks.proofs.CutLemmas.{cuts-from, past-all, past-past, past-rising}
 use Rattle.lbk_chunks.proofs.LawLemmas.{after-told, end-from, start-by, start-told}

@@ -6,13 +6,13 @@ use Rattle.std.proofs.Math.Seq.{drop-length}
 use Rattle.lbk_chunks.specs.declared.chunk.Chunk.{Chunk}
 use Rattle.lbk_chunks.specs.declared.chunk.Limits.{Limits}
 use Rattle.lbk_chunks.specs.declared.cut.Cut.{Cut}
-use Rattle.lbk_chunks.specs.Chunks.{Here, chunk_to, cuts_past, end_of}
+use Rattle.lbk_chunks.specs.declared.chunk.Here.{Here}
+use Rattle.lbk_chunks.specs.Chunks.{chunk_to, cuts_past, end_of}
 use Rattle.lbk_chunks.specs.Cuts.{AreCutsPast}
 use Rattle.lbk_chunk_reader.specs.declared.cut.Cut as given
-use Rattle.lbk_chunk_reader.specs.declared.cut.Here as here
 use Rattle.lbk_chunk_reader.specs.Choosing.{IsEndAmong, IsNextChunk, start_among_known}
 use Rattle.lbk_chunk_reader.specs.Settled.{EndsLast, IsOpen}
-use Rattle.lbk_chunk_reader.specs.Numbered.{here_of, numbered}
+use Rattle.lbk_chunk_reader.specs.Numbered.{numbered}
 use Rattle.lbk_chunk_reader.proofs.StartingLemmas.{AreSome, next-among}
 
 -- the cuts of a passage behind those held
@@ -84,7 +84,7 @@ tail-is all items passed same = take-all (length all - passed) (drop passed all)
     take-all : (n : ℕ) (xs : List given.Cut) → n ≡ length xs → take n xs ≡ xs
     take-all n xs is = ap (λ k. take k xs) is ∙ sym (append-nil (take (length xs) xs)) ∙ ap (λ l. take (length xs) xs ++ l) (sym (drop-length xs)) ∙ take-append-drop (length xs) xs
 
-module _ (l : Limits) (h : Here) (items all ahead behind left : List given.Cut) (passed total : ℕ) (end : given.Cut) (is_whole : Bool) (chunk : Chunk) (next : here.Here)
+module _ (l : Limits) (h : Here) (items all ahead behind left : List given.Cut) (passed total : ℕ) (end : given.Cut) (is_whole : Bool) (chunk : Chunk) (next : Here)
     (few : passed ≤ length items) (all_is : all ≡ items) (total_is : total ≡ length items) where
   abbrev Known : List given.Cut
   Known = take (length all - passed) (drop passed all)
@@ -92,16 +92,16 @@ module _ (l : Limits) (h : Here) (items all ahead behind left : List given.Cut) 
   pub window-next : map numbered ahead ≡ cuts_past h.told (map numbered Known) → IsEndAmong l h (map numbered ahead) is_whole (numbered end)
       → map numbered behind ≡ cuts_past end.at (map numbered Known) → AreSome (map numbered behind) ⊎ (is_whole ≡ true)
       → chunk ≡ chunk_to l h (numbered end)
-      → here_of next ≡ start_among_known l h (numbered end) (map numbered behind) (map numbered (take (length Known - length behind) Known))
+      → next ≡ start_among_known l h (numbered end) (map numbered behind) (map numbered (take (length Known - length behind) Known))
       → map numbered left ≡ cuts_past next.start (map numbered Known)
       → (more : List Cut) → (is_whole ≡ true → more ≡ []) → AreCutsPast h.start (map numbered (drop passed items) ++ more)
-      → IsNextChunk l h (map numbered (drop passed items) ++ more) chunk (here_of next) (map numbered (drop (total - length left) items) ++ more)
+      → IsNextChunk l h (map numbered (drop passed items) ++ more) chunk next (map numbered (drop (total - length left) items) ++ more)
   window-next ahead_is ends behind_is some chunk_is next_is left_is more whole rising =
       let known = drop passed items in
       let same = tail-is all items passed all_is in
       let there : map numbered behind ≡ cuts_past end.at (map numbered known) = behind_is ∙ ap (λ k. cuts_past end.at (map numbered k)) same in
       let last : map numbered left ≡ cuts_past next.start (map numbered known) = left_is ∙ ap (λ k. cuts_past next.start (map numbered k)) same in
-      next-among l h (map numbered known) more rising chunk (numbered end) is_whole (map numbered behind) (map numbered (take (length known - length behind) known)) (here_of next)
+      next-among l h (map numbered known) more rising chunk (numbered end) is_whole (map numbered behind) (map numbered (take (length known - length behind) known)) next
       (map numbered (drop (total - length left) items))
       (subst (λ a. IsEndAmong l h a is_whole (numbered end)) (ahead_is ∙ ap (λ k. cuts_past h.told (map numbered k)) same) ends) whole there
       (split-cuts known behind end.at there) some chunk_is

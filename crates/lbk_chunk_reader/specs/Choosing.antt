@@ -3,7 +3,8 @@ use Rattle.std.specs.Prelude.{◌≡◌, Bool, true, List, [], ◌∷◌, ◌++�
 use Rattle.lbk_chunks.specs.declared.chunk.Chunk.{Chunk}
 use Rattle.lbk_chunks.specs.declared.chunk.Limits.{Limits}
 use Rattle.lbk_chunks.specs.declared.cut.Cut.{Cut}
-use Rattle.lbk_chunks.specs.Chunks.{Here, after, chunk_to, cuts_past, end_of, may_start, start_among, start_at}
+use Rattle.lbk_chunks.specs.declared.chunk.Here.{Here}
+use Rattle.lbk_chunks.specs.Chunks.{after, chunk_to, cuts_past, end_of, may_start, start_among, start_at}
 
 -- some cuts are known, and a chunk that has them ahead ends at this one, whatever follows them
 pub record IsEndAmong (l : Limits) (here : Here) (ahead : List Cut) (is_whole : Bool) (end : Cut) : Type 0 where

@@ -1,17 +1,12 @@
--- Cuts, chunks and starts as the definition of chunks has them, with kinds and rules as numbers.
+-- Cuts and chunks as the definition of chunks has them, with kinds and rules as numbers.
 use Rattle.lbk_rules.specs.Codes.{kind_number, rule_number}
 use Rattle.lbk_chunks.specs.declared.chunk.Chunk as spec
 use Rattle.lbk_chunks.specs.declared.cut.Cut as spec_cut
-use Rattle.lbk_chunks.specs.Chunks as spec_here
 use Rattle.lbk_chunk_reader.specs.declared.cut.Chunk.{Chunk}
 use Rattle.lbk_chunk_reader.specs.declared.cut.Cut.{Cut}
-use Rattle.lbk_chunk_reader.specs.declared.cut.Here.{Here}
 
 abbrev pub numbered : Cut → spec_cut.Cut
 numbered c = record { at = c.at; words = c.words; kind = kind_number c.kind; rule = rule_number c.rule }
 
 abbrev pub numbered_chunk : Chunk → spec.Chunk
 numbered_chunk c = record { start = c.start; end = c.end; words = c.words; kind = kind_number c.kind; rule = rule_number c.rule; alone = c.alone }
-
-abbrev pub here_of : Here → spec_here.Here
-here_of h = record { start = h.start; words = h.words; told = h.told }

@@ -4,7 +4,8 @@ use Rattle.std.specs.List.{list_all}
 use Rattle.lbk_chunks.specs.declared.chunk.Chunk.{Chunk}
 use Rattle.lbk_chunks.specs.declared.chunk.Limits.{Limits}
 use Rattle.lbk_chunks.specs.declared.cut.Cut.{Cut}
-use Rattle.lbk_chunks.specs.Chunks.{AreChunks, Here, cuts_past, end_of, fits, text_start}
+use Rattle.lbk_chunks.specs.declared.chunk.Here.{Here}
+use Rattle.lbk_chunks.specs.Chunks.{AreChunks, cuts_past, end_of, fits, text_start}
 use Rattle.lbk_chunks.specs.Cuts.{AreCutsPast}
 
 -- none of some cuts is behind the end of the chunk from here on that has these of them ahead

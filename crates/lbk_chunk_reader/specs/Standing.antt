@@ -4,13 +4,12 @@ use Rattle.lbk_passage.specs.Next.{IsDone}
 use Rattle.lbk_passage.specs.State.{State}
 use Rattle.lbk_chunk_reader.specs.declared.window.Window.{Window}
 use Rattle.lbk_chunk_reader.specs.Between.{AreCutsBetween}
-use Rattle.lbk_chunk_reader.specs.Numbered.{here_of}
 use Rattle.lbk_chunk_reader.specs.Reader.{View}
 use Rattle.lbk_chunk_reader.specs.Window.{cuts_in}
 
 -- what a window and a segmenter show
 abbrev pub view_with : Window → State → View
-view_with w s = record { limits = w.limits; cuts = cuts_in w; here = here_of w.here; passages = s; words = w.words }
+view_with w s = record { limits = w.limits; cuts = cuts_in w; here = w.here; passages = s; words = w.words }
 
 -- between two calls, of which none was refused: the cuts held stand between the next start and the end of the passages given,
 -- and each word has a byte

@@ -8,8 +8,9 @@ use Rattle.lbk_chunk_reader.specs.declared.window.Window.{Window}
 use Rattle.lbk_chunk_reader.specs.declared.held.Held.{Held}
 use Rattle.lbk_chunk_reader.specs.Cuts.{cuts_between}
 use Rattle.lbk_chunk_reader.specs.Held.{IsHeld}
-use Rattle.lbk_chunks.specs.Chunks.{Here}
-use Rattle.lbk_chunk_reader.specs.Numbered.{here_of, numbered}
+use Rattle.lbk_chunks.specs.declared.chunk.Here.{Here}
+
+use Rattle.lbk_chunk_reader.specs.Numbered.{numbered}
 
 abbrev pub cuts_in : Window → List Cut
 cuts_in w = map numbered (drop w.passed w.cuts.items)
@@ -19,7 +20,7 @@ abbrev pub limits_in : Window → Limits
 limits_in w = w.limits
 
 abbrev pub here_in : Window → Here
-here_in w = here_of w.here
+here_in w = w.here
 
 abbrev pub words_in : Window → ℕ
 words_in w = w.words

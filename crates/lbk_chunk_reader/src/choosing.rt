@@ -1,14 +1,15 @@
 //! Where a chunk ends and where the next one starts, among cuts of which the first are known.
 
-ghost use Rattle.std.specs.Prelude.{◌≡◌, ◌≤◌, [], IfSome, None, Some, if◌then◌else◌, false, length, map};
+ghost use Rattle.std.specs.Prelude.{◌≡◌, ◌≤◌, ◌==◌, [], IfSome, None, Some, if◌then◌else◌, false, length, map};
 ghost use Rattle.std.specs.Prelude.{true};
 ghost use Rattle.std.specs.List.{list_all};
-ghost use Rattle.lbk_chunks.specs.Chunks.{chunk_to, cuts_past, fits, is_early, may_start};
-ghost use Rattle.lbk_chunk_reader.specs.Numbered.{here_of, numbered, numbered_chunk};
+ghost use Rattle.lbk_rules.specs.Codes.{kind_number};
+ghost use Rattle.lbk_chunks.specs.Chunks.{chunk_to, cuts_past, fits, is_early, start_at};
+ghost use Rattle.lbk_chunk_reader.specs.Numbered.{numbered, numbered_chunk};
 ghost use Rattle.lbk_chunk_reader.specs.Choosing.{IsEndAmong, start_among_known};
 
-use crate::cut::{Chunk, Cut, Here};
-use lbk_chunks::Limits;
+use crate::cut::{Chunk, Cut};
+use lbk_chunks::{Here, Limits, fits, is_early, may_start};
 use lbk_rules::Kind;
 
 /// The cuts past a byte.
@@ -28,23 +29,23 @@ pub(crate) fn past(cuts: &[Cut], at: usize) -> &[Cut]
 
 /// The cut at which the chunk from here on ends, where the known ones settle it or are all.
 pub(crate) fn end_among(limits: &Limits, here: &Here, ahead: &[Cut], is_whole: bool) -> Option<Cut>
-    ensures end { IfSome result (λ end. IsEndAmong limits.now (here_of here.now) (map numbered ahead.now) is_whole
+    ensures end { IfSome result (λ end. IsEndAmong limits.now here.now (map numbered ahead.now) is_whole
         (numbered end)) }
     ensures none { result ≡ None → is_whole ≡ true → ahead.now ≡ [] }
-    ensures fit { result ≡ None → is_whole ≡ false → list_all (fits limits.now (here_of here.now))
+    ensures fit { result ≡ None → is_whole ≡ false → list_all (fits limits.now here.now)
         (map numbered ahead.now) ≡ true }
 {
     let Some((first, more)) = ahead.split_first() else {
         return None;
     };
-    if !fits(limits, here, first) {
+    if !fits(limits, here, first.at, first.words) {
         return Some(*first);
     }
     let mut last = *first;
     let mut early = early_or(limits, here, first, None);
     let mut left = more;
     while let Some((next, rest)) = left.split_first() {
-        if !fits(limits, here, next) {
+        if !fits(limits, here, next.at, next.words) {
             return Some(early.unwrap_or(last));
         }
         last = *next;
@@ -63,7 +64,7 @@ pub(crate) fn start_behind(
     behind: &[Cut],
     told: &[Cut],
 ) -> Here
-    ensures { here_of result ≡ start_among_known limits.now (here_of here.now) (numbered end.now)
+    ensures { result ≡ start_among_known limits.now here.now (numbered end.now)
         (map numbered behind.now) (map numbered told.now) }
 {
     let fresh = start_at(end, end.at);
@@ -75,8 +76,9 @@ pub(crate) fn start_behind(
     };
     let mut left = told;
     while let Some((cut, rest)) = left.split_first() {
-        if may_start(limits, here, end, next, cut) {
-            return start_at(cut, end.at);
+        let again = start_at(cut, end.at);
+        if may_start(limits, here, &again, next.at, next.words) {
+            return again;
         }
         left = rest;
     }
@@ -85,7 +87,7 @@ pub(crate) fn start_behind(
 
 /// The chunk from here on that ends at a cut.
 pub(crate) fn chunk_to(limits: &Limits, here: &Here, end: &Cut) -> Chunk
-    ensures { numbered_chunk result ≡ chunk_to limits.now (here_of here.now) (numbered end.now) }
+    ensures { numbered_chunk result ≡ chunk_to limits.now here.now (numbered end.now) }
 {
     Chunk {
         start: here.start,
@@ -93,48 +95,34 @@ pub(crate) fn chunk_to(limits: &Limits, here: &Here, end: &Cut) -> Chunk
         words: end.words.saturating_sub(here.words),
         kind: end.kind,
         rule: end.rule,
-        alone: !fits(limits, here, end),
+        alone: !fits(limits, here, end.at, end.words),
     }
 }
 
 /// A cut at which the chunk may end early, or else what was found so far.
 fn early_or(limits: &Limits, here: &Here, cut: &Cut, early: Option<Cut>) -> Option<Cut>
-    ensures { result ≡ (if is_early limits.now (here_of here.now) (numbered cut.now) then Some cut.now else early) }
+    ensures { result ≡ (if is_early limits.now here.now (numbered cut.now) then Some cut.now else early) }
 {
-    if matches!(cut.kind, Kind::Must) && limits.least <= cut.at.saturating_sub(here.told) {
+    if is_early(limits, here, cut.at, is_must(cut.kind)) {
         return Some(*cut);
     }
     early
 }
 
+/// Whether a line must end there.
+fn is_must(kind: Kind) -> bool
+    ensures { (kind_number kind == 2) ≡ result }
+{
+    matches!(kind, Kind::Must)
+}
+
 /// A start at a cut.
 fn start_at(cut: &Cut, told: usize) -> Here
-    ensures { result ≡ record { start = cut.now.at; words = cut.now.words; told = told } }
+    ensures { result ≡ start_at (numbered cut.now) told }
 {
     Here {
         start: cut.at,
         words: cut.words,
         told,
     }
-}
-
-/// Whether the next chunk may start at a cut before the end of this one.
-fn may_start(limits: &Limits, here: &Here, end: &Cut, next: &Cut, cut: &Cut) -> bool
-    ensures { result ≡ may_start limits.now (here_of here.now) (numbered end.now) (numbered next.now)
-        (numbered cut.now) }
-{
-    let twice = end.at.saturating_sub(cut.at);
-    let size = end.at.saturating_sub(here.start);
-    cut.at < end.at
-        && twice <= limits.overlap
-        && twice <= size.saturating_sub(twice)
-        && fits(limits, &start_at(cut, end.at), next)
-}
-
-/// Whether a chunk from here on that ends at a cut is within the limits.
-fn fits(limits: &Limits, here: &Here, cut: &Cut) -> bool
-    ensures { result ≡ fits limits.now (here_of here.now) (numbered cut.now) }
-{
-    cut.at.saturating_sub(here.start) <= limits.most
-        && (limits.words == 0 || cut.words.saturating_sub(here.words) <= limits.words)
 }

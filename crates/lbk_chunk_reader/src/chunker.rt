@@ -10,7 +10,7 @@ ghost use Rattle.lbk_chunk_reader.specs.Standing.{Stands};
 use crate::cut::Chunk;
 use crate::faults::ChunkFault;
 use crate::window::Window;
-use lbk_chunks::Limits;
+use lbk_chunks::{Limits, are_limits};
 use lbk_feed::Source;
 use lbk_passage::{PassageFault, Segmenter};
 use lbk_rules::{CellSource, Profile};
@@ -119,11 +119,4 @@ impl<'a, C: CellSource> Chunker<'a, C> {
             }
         }
     }
-}
-
-/// Whether the limits are in range.
-fn are_limits(limits: &Limits) -> bool
-    ensures { result ≡ are_limits limits.now }
-{
-    0 < limits.most && limits.least <= limits.most && limits.overlap <= limits.most / 2
 }

@@ -31,14 +31,3 @@ pub struct Chunk {
     /// Whether it is larger than the limits, since it has no cut within them.
     pub alone: bool,
 }
-
-/// Where a chunk starts.
-#[derive(Clone, Copy)]
-pub struct Here {
-    /// The byte that it begins with, counted from the text's start.
-    pub start: usize,
-    /// How many words are before that.
-    pub words: usize,
-    /// Up to where the text is in the chunks before it.
-    pub told: usize,
-}

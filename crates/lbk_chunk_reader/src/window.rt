@@ -3,10 +3,10 @@
 ghost use Rattle.std.specs.Prelude.{◌≤◌, vec_len};
 
 use crate::choosing::{chunk_to, end_among, past, start_behind};
-use crate::cut::{Chunk, Cut, Here};
+use crate::cut::{Chunk, Cut};
 use crate::gathering::push_cuts;
 use crate::held::{Held, take_text};
-use lbk_chunks::Limits;
+use lbk_chunks::{Here, Limits};
 use lbk_feed::Source;
 use lbk_passage::{Passage, PassageFault, Segmenter};
 use lbk_rules::CellSource;
@@ -32,7 +32,7 @@ impl Window {
     ghost use Rattle.lbk_chunks.specs.declared.cut.Cut as spec;
     ghost use Rattle.lbk_chunks.specs.Chunks.{cuts_past};
     ghost use Rattle.lbk_chunks.specs.Cuts.{AreCutsPast};
-    ghost use Rattle.lbk_chunk_reader.specs.Numbered.{here_of, numbered, numbered_chunk};
+    ghost use Rattle.lbk_chunk_reader.specs.Numbered.{numbered, numbered_chunk};
     ghost use Rattle.lbk_chunk_reader.specs.Choosing.{IsNextChunk};
     ghost use Rattle.lbk_chunk_reader.specs.Settled.{IsOpen};
     ghost use Rattle.lbk_chunk_reader.specs.Window.{IsNewWindow, IsSameWindow, IsTaken, cuts_in, here_in};

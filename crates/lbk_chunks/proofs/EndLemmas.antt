@@ -4,7 +4,8 @@ use Rattle.std.specs.List.{list_all}
 use Rattle.std.specs.Option.{unwrap_or}
 use Rattle.lbk_chunks.specs.declared.chunk.Limits.{Limits}
 use Rattle.lbk_chunks.specs.declared.cut.Cut.{Cut}
-use Rattle.lbk_chunks.specs.Chunks.{Here, cuts_past, end_of, fits, fitting, is_early, last_early, last_of}
+use Rattle.lbk_chunks.specs.declared.chunk.Here.{Here}
+use Rattle.lbk_chunks.specs.Chunks.{cuts_past, end_of, fits, fitting, is_early, last_early, last_of}
 use Rattle.lbk_chunks.specs.Coming.{IsCutOf, IsEnd, IsEnding, StandsIn}
 
 -- a cut that fits, and one that does not, before others

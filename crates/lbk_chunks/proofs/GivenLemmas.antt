@@ -10,7 +10,8 @@ use Rattle.lbk_chunks.specs.declared.cut.Cut.{Cut}
 use Rattle.lbk_chunks.specs.declared.cut.Place.{Place}
 use Rattle.lbk_chunks.specs.declared.cut_block.Mark.{Mark}
 use Rattle.lbk_chunks.specs.declared.window.Window.{Window}
-use Rattle.lbk_chunks.specs.Chunks.{AreChunks, AreTold, Here, after, are_limits, chunk_to, cuts_past, end_of, fits}
+use Rattle.lbk_chunks.specs.declared.chunk.Here.{Here}
+use Rattle.lbk_chunks.specs.Chunks.{AreChunks, AreTold, after, are_limits, chunk_to, cuts_past, end_of, fits}
 use Rattle.lbk_chunks.specs.Coming.{AreCutsPast, AreGiven, AreKept, ChunksCome, IsAhead, IsGiven, IsMark, IsStanding, Knows, here_of}
 use Rattle.lbk_chunks.proofs.CutLemmas.{cut-one}
 

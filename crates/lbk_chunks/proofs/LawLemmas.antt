@@ -7,7 +7,8 @@ use Rattle.std.proofs.lemmas.Bool.Decides.{nat_tests}
 use Rattle.lbk_chunks.specs.declared.chunk.Chunk.{Chunk}
 use Rattle.lbk_chunks.specs.declared.chunk.Limits.{Limits}
 use Rattle.lbk_chunks.specs.declared.cut.Cut.{Cut}
-use Rattle.lbk_chunks.specs.Chunks.{AreChunks, Here, after, chunk_to, cuts_past, end_of, fits, fitting, is_early, last_early, last_of, may_start, start_among, start_at, start_before}
+use Rattle.lbk_chunks.specs.declared.chunk.Here.{Here}
+use Rattle.lbk_chunks.specs.Chunks.{AreChunks, after, chunk_to, cuts_past, end_of, fits, fitting, is_early, last_early, last_of, may_start, start_among, start_at, start_before}
 use Rattle.lbk_chunks.specs.Cuts.{AreCutsPast}
 use Rattle.lbk_chunks.specs.Laws.{AreJoined, AreWithin, BeginsUnfit, IsFull, IsWithin, StartsRise, last_end}
 use Rattle.lbk_chunks.proofs.CutLemmas.{past-all, past-before, past-past, past-rising}

@@ -5,7 +5,8 @@ use Rattle.std.proofs.lemmas.Bool.{cases_lt}
 use Rattle.std.proofs.lemmas.Bool.Decides.{nat_tests}
 use Rattle.lbk_chunks.specs.declared.chunk.Limits.{Limits}
 use Rattle.lbk_chunks.specs.declared.cut.Cut.{Cut}
-use Rattle.lbk_chunks.specs.Chunks.{Here, after, cuts_past, fits, may_start, start_among, start_at, start_before}
+use Rattle.lbk_chunks.specs.declared.chunk.Here.{Here}
+use Rattle.lbk_chunks.specs.Chunks.{after, cuts_past, fits, may_start, start_among, start_at, start_before}
 use Rattle.lbk_chunks.specs.Coming.{AreCutsPast, IsCutOf, IsStanding}
 use Rattle.lbk_chunks.proofs.CutLemmas.{past-past, past-rising}
 

@@ -4,6 +4,7 @@ use Rattle.std.proofs.lemmas.Bool.Decides.{nat_tests}
 use Rattle.std.proofs.lemmas.List.Sums.{sum_by-cons}
 use Rattle.lbk_rules.specs.declared.Break.{Break}
 use Rattle.lbk_rules.specs.Codes.{kind_number, rule_number}
+use Rattle.lbk_calls.specs.declared.interface.State.{State}
 use Rattle.lbk_words.specs.declared.word.Word.{Word}
 use Rattle.lbk_words.specs.Words.{words_on}
 use Rattle.lbk_chunks.specs.declared.cut.Cut.{Cut}
@@ -79,6 +80,13 @@ load-none text at place = record {
   same_breaks = refl;
   counted = λ c. c;
   cuts = λ c b bs from past. refl;
+}
+
+pub with-breaks : (text : List ℕ) (at : ℕ) (old new : Place) (breaks : State) → IsPassed text at old new → breaks ≡ old.breaks → IsPassed text at old (record new { breaks = breaks })
+with-breaks text at old new breaks passed same = record {
+  same_breaks = same;
+  counted = λ c. (let n = passed.counted c in record { few = n.few; onward = n.onward });
+  cuts = passed.cuts;
 }
 
 -- the word that was read is the first to come

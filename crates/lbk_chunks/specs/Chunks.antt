@@ -4,7 +4,7 @@ use Rattle.std.specs.Prelude.{◌∷◌, Option, Some, None, find, if◌then◌e
 use Rattle.std.specs.List.{list_all}
 use Rattle.std.specs.Option.{unwrap_or}
 use Rattle.lbk_chunks.specs.declared.chunk.Chunk.{Chunk}
-pub use Rattle.lbk_chunks.specs.declared.chunk.Here.{Here}
+use Rattle.lbk_chunks.specs.declared.chunk.Here.{Here}
 use Rattle.lbk_chunks.specs.declared.chunk.Limits.{Limits}
 use Rattle.lbk_chunks.specs.declared.cut.Cut.{Cut}
 

@@ -26,7 +26,8 @@ use Rattle.lbk_chunks.specs.declared.word_block.WordBlock.{WordBlock}
 use Rattle.lbk_chunks.specs.declared.window.Window.{Window}
 use Rattle.lbk_chunks.specs.declared.chunking.Fitting.{Fitting}
 use Rattle.lbk_chunks.specs.declared.chunking.Given.{Given}
-use Rattle.lbk_chunks.specs.Chunks.{AreChunks, Here, after, are_limits, chunk_to, cuts_past, end_of, fits, fitting}
+use Rattle.lbk_chunks.specs.declared.chunk.Here.{Here}
+use Rattle.lbk_chunks.specs.Chunks.{AreChunks, after, are_limits, chunk_to, cuts_past, end_of, fits, fitting}
 use Rattle.lbk_chunks.specs.Chunks.{last_early, last_of}
 use Rattle.lbk_chunks.specs.Cuts.{cuts_among}
 pub use Rattle.lbk_chunks.specs.Cuts.{AreCutsPast}

@@ -179,7 +179,11 @@ fn add_known(
     let mut k = from;
     while k < count {
         let found = breaks[k];
-        let place = pass_known(found.at, here.place, words);
+        // The state is that of the start, and stays out of the loop.
+        let place = Place {
+            breaks: start.place.breaks,
+            ..pass_known(found.at, here.place, words)
+        };
         let passed = Filled { place, ..here };
         if place.word.end <= found.at {
             return Added {

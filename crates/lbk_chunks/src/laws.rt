@@ -6,7 +6,8 @@ ghost use Rattle.lbk_values.specs.declared.profile.Profile.{Profile};
 ghost use Rattle.lbk_chunks.specs.declared.chunk.Chunk.{Chunk};
 ghost use Rattle.lbk_chunks.specs.declared.chunk.Limits.{Limits};
 ghost use Rattle.lbk_chunks.specs.declared.cut.Cut.{Cut};
-ghost use Rattle.lbk_chunks.specs.Chunks.{AreChunks, Here, cuts_past, end_of, fits};
+ghost use Rattle.lbk_chunks.specs.declared.chunk.Here.{Here};
+ghost use Rattle.lbk_chunks.specs.Chunks.{AreChunks, cuts_past, end_of, fits};
 ghost use Rattle.lbk_chunks.specs.Cuts.{AreCutsPast, cuts_of};
 ghost use Rattle.lbk_chunks.specs.Laws.{AreJoined, AreWithin, IsFull, StartsRise, last_end};
 

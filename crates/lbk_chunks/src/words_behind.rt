@@ -35,7 +35,11 @@ pub(crate) fn pass_known(at: usize, place: Place, words: &mut WordBlock) -> Plac
         let Some(word) = words.known_from(here.from) else {
             return here;
         };
-        here = with_word(without_word(here), word);
+        // The state is that of the start, and stays out of the loop.
+        here = Place {
+            breaks: place.breaks,
+            ..with_word(without_word(here), word)
+        };
     }
     here
 }

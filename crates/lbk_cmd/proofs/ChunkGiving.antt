@@ -8,7 +8,8 @@ use Rattle.std.proofs.lemmas.Grind.{flat_map-append}
 use Rattle.lbk_chunks.specs.declared.chunk.Chunk as spec
 use Rattle.lbk_chunks.specs.declared.chunk.Limits.{Limits}
 use Rattle.lbk_chunks.specs.declared.cut.Cut.{Cut}
-use Rattle.lbk_chunks.specs.Chunks.{Here, cuts_past, end_of}
+use Rattle.lbk_chunks.specs.declared.chunk.Here.{Here}
+use Rattle.lbk_chunks.specs.Chunks.{cuts_past, end_of}
 use Rattle.lbk_chunks.specs.Cuts.{AreCutsPast}
 use Rattle.lbk_chunks.proofs.CutLemmas.{past-past, past-rising}
 use Rattle.lbk_chunks.proofs.LawLemmas.{after-told, end-from, fewer}

@@ -10,7 +10,8 @@ use Rattle.lbk_chunk_reader.specs.PassageWords.{words_in_pieces}
 use Rattle.lbk_chunks.specs.declared.chunk.Chunk.{Chunk}
 use Rattle.lbk_chunks.specs.declared.chunk.Limits.{Limits}
 use Rattle.lbk_chunks.specs.declared.cut.Cut.{Cut}
-use Rattle.lbk_chunks.specs.Chunks.{AreChunks, Here, after, cuts_past, end_of, text_start}
+use Rattle.lbk_chunks.specs.declared.chunk.Here.{Here}
+use Rattle.lbk_chunks.specs.Chunks.{AreChunks, after, cuts_past, end_of, text_start}
 use Rattle.lbk_chunks.specs.Laws.{StartsRise}
 use Rattle.lbk_chunks.proofs.LawLemmas.{after-told, chunks-start-past, start-told}
 use Rattle.lbk_chunk_reader.specs.Between.{AreCutsBetween}

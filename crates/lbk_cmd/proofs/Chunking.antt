@@ -17,10 +17,10 @@ use Rattle.lbk_chunk_reader.specs.PassageWords.{words_in_pieces}
 use Rattle.lbk_chunks.specs.declared.chunk.Chunk.{Chunk}
 use Rattle.lbk_chunks.specs.declared.chunk.Limits.{Limits}
 use Rattle.lbk_chunks.specs.declared.cut.Cut.{Cut}
-use Rattle.lbk_chunks.specs.Chunks.{Here, text_start}
+use Rattle.lbk_chunks.specs.declared.chunk.Here.{Here}
+use Rattle.lbk_chunks.specs.Chunks.{text_start}
 use Rattle.lbk_chunks.specs.Cuts.{AreCutsPast}
 use Rattle.lbk_chunk_reader.specs.Cuts.{cuts_between, cuts_of_passages}
-use Rattle.lbk_chunk_reader.specs.Numbered.{here_of}
 use Rattle.lbk_chunk_reader.specs.Settled.{IsOpen, Settle, SettleAll}
 use Rattle.lbk_chunk_reader.specs.Standing.{Stands}
 use Rattle.lbk_chunk_reader.specs.Between.{AreCutsBetween}
@@ -133,18 +133,18 @@ module _ (asked : Asked) (l : Limits) (cell : ℕ → Cell) (profile : Profile) 
     stands = stands-new l w s cell profile limit n is;
     words = n.words;
     chunks = [];
-    settle = subst (λ (h : Here). Settle l false text_start [] [] h (cuts_in w)) (sym (ap here_of n.here))
+    settle = subst (λ (h : Here). Settle l false text_start [] [] h (cuts_in w)) (sym n.here)
         (subst (Settle l false text_start [] [] text_start) (sym n.cuts) (settle-none l false text_start []));
     start = ap (λ (x : State). x.start) is;
     within = tt;
     keeps = keeps;
-    holds = subst (λ (h : Here). HoldsFrom h.start [] w) (sym (ap here_of n.here)) n.held;
+    holds = subst (λ (h : Here). HoldsFrom h.start [] w) (sym n.here) n.held;
     is = refl;
   }
 
   pub new-open : (w : Window) → IsNewWindow l w → Rests false w
   new-open w n = subst (λ (x : Limits). IsOpen x (here_in w) (cuts_in w)) (sym n.limits)
-      (subst (λ (h : Here). IsOpen l h (cuts_in w)) (sym (ap here_of n.here)) (subst (IsOpen l text_start) (sym n.cuts) (inl refl)))
+      (subst (λ (h : Here). IsOpen l h (cuts_in w)) (sym n.here) (subst (IsOpen l text_start) (sym n.cuts) (inl refl)))
 
   module _ (w : Window) (s : State) (given : List (List Marked)) (text : List ℕ) (c : Chunked w s given text) where
     pub stands-in : StandsIn asked (text_given given) w
@@ -175,7 +175,7 @@ module _ (asked : Asked) (l : Limits) (cell : ℕ → Cell) (profile : Profile) 
               ∙ sym (words-snoc cell 0 given ms);
           chunks = c.chunks;
           settle = subst (λ x. Settle l false text_start x c.chunks (here_in w') (cuts_in w')) (sym all)
-              (subst (λ (h : Here). Settle l false text_start (cuts given ++ cuts_between p.start w.words p.segments.now p.pieces.now) c.chunks h (cuts_in w')) (sym (ap here_of k.here))
+              (subst (λ (h : Here). Settle l false text_start (cuts given ++ cuts_between p.start w.words p.segments.now p.pieces.now) c.chunks h (cuts_in w')) (sym k.here)
               (subst (Settle l false text_start (cuts given ++ cuts_between p.start w.words p.segments.now p.pieces.now) c.chunks (here_in w)) (sym k.cuts)
               (settle-more l text_start (cuts given) (cuts_between p.start w.words p.segments.now p.pieces.now) c.chunks (here_in w) (cuts_in w) c.settle)));
           start = let longer = ap length text in let put = length-append (text_given given) (text_of ms) in let goes = a.start in let lent_is = ap length of.text in

@@ -3,13 +3,14 @@ use Rattle.lbk_chunks.specs.declared.cut.Place.{Place}
 use Rattle.lbk_chunks.specs.Coming.{AreAmong}
 use Rattle.lbk_chunks.proofs.BreakLemmas.{shown-at}
 use Rattle.lbk_chunks.proofs.CursorLemmas.{pass-before}
+use Rattle.lbk_chunks.proofs.WordLemmas.{with-breaks}
 use Rattle.lbk_chunks.proofs.cursor.add_known.Goals as goal
 
 pub loop-k-preserved : goal.loop-k-preserved
 loop-k-preserved c =
     let k = c.loop-k.k in
     let i = c.loop-k.invariant in
-    let p = c.pass_known-place.ensures in
+    let p = c.pass_known.ensures in
     let a = c.put_cut-here in
     let same = ap (λ (q : Place). q.words) a.ensures.same in
     record {
@@ -19,8 +20,8 @@ loop-k-preserved c =
           let s = shown-at k c.args.count found c.args.breaks.now is c.loop-k-test.true c.requires.count.1 in
           a.ensures.among text cuts s.break_at (drop (k + 1) found ++ rest) c.loop-k.here.place s.shown
           (subst (λ l. AreAmong text cuts (l ++ rest) c.loop-k.here c.loop-k.out) s.joined (i.among text cuts found rest read is were))
-          (p.passed text (i.read text read)) (λ none. absurd (omega (arith, none, c.if-place-found.false))) (inr c.if-place-found.false));
-      same = ap (λ (q : Place). q.breaks) a.ensures.same ∙ (p.passed c.requires.read.0 (i.read c.requires.read.0 c.requires.read.1)).same_breaks ∙ i.same;
+          (with-breaks text _ c.loop-k.here.place c.pass_known.result c.args.start.place.breaks (p.passed text (i.read text read)) (sym i.same)) (λ none. absurd (omega (arith, none, c.if-place-found.false))) (inr c.if-place-found.false));
+      same = ap (λ (q : Place). q.breaks) a.ensures.same;
       counts = (omega (arith, a.ensures.few.0, i.counts.0), omega (arith, a.ensures.few.1, i.counts.1));
       within = λ size below before. a.ensures.within size (below k c.loop-k-test.true) (i.within size below before);
       counted = λ full start. same ∙ a.ensures.counted (omega (arith, full, i.counts.1, a.ensures.few.1));
@@ -31,7 +32,7 @@ returns-then-place-found-clause-among c = λ text cuts found rest read is were.
     let k = c.loop-k.k in
     let i = c.loop-k.invariant in
     let s = shown-at k c.args.count found c.args.breaks.now is c.loop-k-test.true c.requires.count.1 in
-    subst (λ l. AreAmong text cuts (l ++ rest) (record { count = c.loop-k.here.count; place = c.pass_known-place.result }) c.loop-k.out) (sym s.joined)
-    (pass-before text cuts s.break_at (drop (k + 1) found ++ rest) _ c.loop-k.here c.pass_known-place.result c.loop-k.out s.shown
+    subst (λ l. AreAmong text cuts (l ++ rest) (record { count = c.loop-k.here.count; place = record c.pass_known.result { breaks = c.args.start.place.breaks } }) c.loop-k.out) (sym s.joined)
+    (pass-before text cuts s.break_at (drop (k + 1) found ++ rest) _ c.loop-k.here _ c.loop-k.out s.shown
     (subst (λ l. AreAmong text cuts (l ++ rest) c.loop-k.here c.loop-k.out) s.joined (i.among text cuts found rest read is were))
-    (c.pass_known-place.ensures.passed text (i.read text read)))
+    (with-breaks text _ c.loop-k.here.place c.pass_known.result c.args.start.place.breaks (c.pass_known.ensures.passed text (i.read text read)) (sym i.same)))

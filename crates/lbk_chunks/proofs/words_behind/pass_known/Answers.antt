@@ -1,6 +1,6 @@
-use Rattle.std.proofs.Common.{arith, subst, sym, ◌<◌}
+use Rattle.std.proofs.Common.{arith, refl, subst, sym, ◌<◌}
 use Rattle.lbk_chunks.specs.Coming.{IsFirstWord}
-use Rattle.lbk_chunks.proofs.WordLemmas.{load, load-none, pass, pass-more}
+use Rattle.lbk_chunks.proofs.WordLemmas.{load, load-none, pass, pass-more, with-breaks}
 use Rattle.lbk_chunks.proofs.words_behind.pass_known.Goals as goal
 
 pub loop-here-init : goal.loop-here-init
@@ -14,7 +14,7 @@ loop-here-preserved c =
     let i = c.loop-here.invariant in
     let known = c.in-Some.ensures in
     let w = c.without_word in
-    let l = c.with_word-here in
+    let l = c.with_word in
     let some : 0 < c.loop-here.here.word.end = omega (arith, c.loop-here-test.true) in
     record {
       read = λ text read. known.read text (i.read text read);
@@ -22,6 +22,7 @@ loop-here-preserved c =
           let same_from = w.ensures.same.1 in
           let first = subst (λ n. IsFirstWord text n c.in-Some.word) (sym same_from) (known.first text (i.read text read)) in
           let one = pass text c.args.at c.loop-here.here w.result some c.if-here-at.true w.ensures.same.0 w.ensures.same.1 w.ensures.same.2 w.ensures.one_more in
-          load text c.args.at c.args.place w.result l.result (pass-more text c.args.at c.args.place c.loop-here.here w.result (i.passed text read) one)
-          l.ensures.same.0 l.ensures.same.1 (l.ensures.ahead text first) (l.ensures.counted text first));
+          with-breaks text c.args.at c.args.place l.result c.args.place.breaks
+          (load text c.args.at c.args.place w.result l.result (pass-more text c.args.at c.args.place c.loop-here.here w.result (i.passed text read) one)
+          l.ensures.same.0 l.ensures.same.1 (l.ensures.ahead text first) (l.ensures.counted text first)) refl);
     }

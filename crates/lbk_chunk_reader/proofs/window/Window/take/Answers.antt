@@ -4,7 +4,7 @@ use Rattle.lbk_chunk_reader.specs.PassageWords.{words_in_pieces}
 use Rattle.lbk_chunk_reader.specs.Cuts.{cuts_between}
 use Rattle.lbk_chunk_reader.specs.Held.{IsHeld}
 use Rattle.lbk_chunk_reader.specs.Pieces.{IsRegular}
-use Rattle.lbk_chunk_reader.specs.declared.cut.Here.{Here}
+use Rattle.lbk_chunks.specs.declared.chunk.Here.{Here}
 use Rattle.lbk_chunk_reader.specs.Window.{cuts_in}
 use Rattle.lbk_chunk_reader.proofs.WindowLemmas.{taken-cuts}
 use Rattle.lbk_chunk_reader.proofs.window.Window.take.Goals as goal
