@@ -4,7 +4,8 @@ ghost use Rattle.std.specs.Prelude.{◌≡◌, ◌≤◌, ◌==◌, [], IfSome, 
 ghost use Rattle.std.specs.Prelude.{true};
 ghost use Rattle.std.specs.List.{list_all};
 ghost use Rattle.lbk_rules.specs.Codes.{kind_number};
-ghost use Rattle.lbk_chunks.specs.Chunks.{chunk_to, cuts_past, fits, is_early, start_at};
+ghost use Rattle.lbk_chunks.specs.Chunks.{chunk_to, cuts_past, fits, is_early, may_start};
+ghost use Rattle.lbk_chunks.specs.Chunks.{start_at};
 ghost use Rattle.lbk_chunk_reader.specs.Numbered.{numbered, numbered_chunk};
 ghost use Rattle.lbk_chunk_reader.specs.Choosing.{IsEndAmong, start_among_known};
 
@@ -38,14 +39,14 @@ pub(crate) fn end_among(limits: &Limits, here: &Here, ahead: &[Cut], is_whole: b
     let Some((first, more)) = ahead.split_first() else {
         return None;
     };
-    if !fits(limits, here, first.at, first.words) {
+    if !cut_fits(limits, here, first) {
         return Some(*first);
     }
     let mut last = *first;
     let mut early = early_or(limits, here, first, None);
     let mut left = more;
     while let Some((next, rest)) = left.split_first() {
-        if !fits(limits, here, next.at, next.words) {
+        if !cut_fits(limits, here, next) {
             return Some(early.unwrap_or(last));
         }
         last = *next;
@@ -76,9 +77,8 @@ pub(crate) fn start_behind(
     };
     let mut left = told;
     while let Some((cut, rest)) = left.split_first() {
-        let again = start_at(cut, end.at);
-        if may_start(limits, here, &again, next.at, next.words) {
-            return again;
+        if may_start_at(limits, here, end, next, cut) {
+            return start_at(cut, end.at);
         }
         left = rest;
     }
@@ -95,8 +95,22 @@ pub(crate) fn chunk_to(limits: &Limits, here: &Here, end: &Cut) -> Chunk
         words: end.words.saturating_sub(here.words),
         kind: end.kind,
         rule: end.rule,
-        alone: !fits(limits, here, end.at, end.words),
+        alone: !cut_fits(limits, here, end),
     }
+}
+
+/// Whether a chunk from here on that ends at a cut is within the limits.
+fn cut_fits(limits: &Limits, here: &Here, cut: &Cut) -> bool
+    ensures { result ≡ fits limits.now here.now (numbered cut.now) }
+{
+    fits(limits, here, cut.at, cut.words)
+}
+
+/// Whether the next chunk may start at a cut before the end of this one.
+fn may_start_at(limits: &Limits, here: &Here, end: &Cut, next: &Cut, cut: &Cut) -> bool
+    ensures { result ≡ may_start limits.now here.now (numbered end.now) (numbered next.now) (numbered cut.now) }
+{
+    may_start(limits, here, &start_at(cut, end.at), next.at, next.words)
 }
 
 /// A cut at which the chunk may end early, or else what was found so far.
