@@ -27,6 +27,7 @@ mod table_reading;
 mod texts;
 mod unit_breaking;
 mod utf16_cuts;
+mod utf16_streaming;
 mod words;
 
 pub use breaking::lbk_breaks;
@@ -58,4 +59,5 @@ pub use table_reading::{lbk_read, lbk_read_published};
 pub use texts::{lbk_cause_text, lbk_file_name, lbk_rule_text, lbk_version};
 pub use unit_breaking::{lbk_breaks_utf16, lbk_breaks_utf32};
 pub use utf16_cuts::{lbk_cut_before_utf16, lbk_cut_utf16};
+pub use utf16_streaming::lbk_feed_utf16;
 pub use words::lbk_words;

@@ -1,6 +1,7 @@
 pub mod BreakLemmas
 pub mod PlaceLemmas
 pub mod FeedLemmas
+pub mod FrontLemmas
 pub mod OpenLemmas
 pub mod StandsLemmas
 pub mod SkimLemmas

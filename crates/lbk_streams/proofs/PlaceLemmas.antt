@@ -1,17 +1,20 @@
 -- Breaks in order in the front of a block, and the place that comes next.
-use Rattle.std.proofs.Common.{◌≡◌, ℕ, ◌+◌, ◌-◌, ◌%◌, ◌^◌, ◌<◌, ◌≤◌, ◌==◌, false, cond, ⊎_elim, List, ◌++◌, length, take, get_or, length-take-le, sym, ap, subst, ◌∙◌, arith}
+use Rattle.std.proofs.Common.{◌≡◌, ℕ, zero, suc, add-one, refl, map, [], ◌∷◌, ◌+◌, ◌-◌, ◌%◌, ◌^◌, ◌<◌, ◌≤◌, ◌==◌, false, cond, ⊎_elim, List, ◌++◌, length, take, get_or, length-take-le, sym, ap, subst, ◌∙◌, arith}
 use Rattle.std.proofs.lemmas.Bool.{cases_lt}
 use Rattle.std.proofs.lemmas.Bool.Decides.{nat_tests}
-use Rattle.std.proofs.lemmas.List.{get_or_append_left, get_or-append_right, get_or-take}
+use Rattle.std.proofs.lemmas.List.{get_or_append_left, get_or-append_right, get_or-take, map-append, take_more}
+use Rattle.lbk_rules.specs.declared.Break.{Break}
 use Rattle.lbk_bytes.specs.declared.raw_break.RawBreak.{RawBreak}
 use Rattle.lbk_bytes.specs.Order.{AreInOrder, IsBreak, no_break}
 use Rattle.lbk_bytes.specs.Reached.{IsInOrder}
+use Rattle.lbk_bytes.specs.Shown.{given_in, shown}
 use Rattle.lbk_bytes.proofs.OrderLemmas.{AreInOrder-none, AreInOrder-wider}
 use Rattle.lbk_streams.specs.declared.stream.Feeding.{Feeding}
 use Rattle.lbk_streams.specs.declared.stream.Place.{Place}
 use Rattle.lbk_streams.specs.declared.stream.Stream.{Stream}
-use Rattle.lbk_streams.specs.Stands.{IsOrdered, IsPlaced, moved}
-use Rattle.lbk_streams.specs.Streams.{cut_bytes, next_place, place_of}
+use Rattle.lbk_rules.specs.Joins.{moved}
+use Rattle.lbk_streams.specs.Stands.{IsOrdered, IsPlaced}
+use Rattle.lbk_streams.specs.Streams.{cut_units, next_place, place_of}
 use Rattle.lbk_streams.proofs.BreakLemmas.{AreBreaks-behind}
 
 -- The place that comes next
@@ -62,13 +65,36 @@ IsPlaced-held block count from place before order =
 abbrev pub moved_raw : ℕ → RawBreak → RawBreak
 moved_raw by raw = record { at = (raw.at + by) % 2 ^ 64; kind = raw.kind; rule = raw.rule }
 
+abbrev moved_wrapped : ℕ → Break → Break
+moved_wrapped by found = record { at = (found.at + by) % 2 ^ 64; kind = found.kind; rule = found.rule }
+
+-- where none wraps, they are moved
+pub given-moved : (old new : List RawBreak) (count by : ℕ) → count ≤ length old → count ≤ length new
+    → ((k : ℕ) → k < count → get_or new k no_break ≡ moved_raw by (get_or old k no_break)) → ((k : ℕ) → k < count → (get_or old k no_break).at + by < 2 ^ 64)
+    → given_in new count ≡ map (moved by) (given_in old count)
+given-moved old new zero by old_long new_long same small = refl
+given-moved old new (suc k) by old_long new_long same small =
+    let one = get_or old k no_break in
+    let before = map (moved by) (given_in old k) in
+    let fits = small k (omega arith) in
+    let place : (one.at + by) % 2 ^ 64 ≡ by + one.at = omega arith in
+    ap (given_in new) (sym (add-one k))
+    ∙ ap (map shown) (take_more new k no_break (omega arith)) ∙ map-append shown (take k new) (get_or new k no_break ∷ [])
+    ∙ ap (λ l. l ++ shown (get_or new k no_break) ∷ []) (given-moved old new k by (omega arith) (omega arith) (λ j few. same j (omega arith)) (λ j few. small j (omega arith)))
+    ∙ ap (λ (r : RawBreak). before ++ shown r ∷ []) (same k (omega arith))
+    ∙ ap (λ n. before ++ shown (record { at = n; kind = one.kind; rule = one.rule }) ∷ []) place
+    ∙ sym (map-append (moved by) (given_in old k) (shown one ∷ []))
+    ∙ ap (map (moved by)) (sym (map-append shown (take k old) (one ∷ [])))
+    ∙ ap (λ xs. map (moved by) (map shown xs)) (sym (take_more old k no_break (omega arith)))
+    ∙ ap (λ n. map (moved by) (given_in old n)) (add-one k)
+
 pub AreInOrder-moved : (old new : List RawBreak) (count by from to : ℕ) → ((k : ℕ) → k < count → get_or new k no_break ≡ moved_raw by (get_or old k no_break))
     → to + by ≤ 2 ^ 64 → AreInOrder old count from to → AreInOrder new count (from + by) (to + by)
 AreInOrder-moved old new count by from to same fits o =
     let place : (k : ℕ) → k < count → (get_or new k no_break).at ≡ (get_or old k no_break).at + by =
     λ k few. let is = ap (λ (b : RawBreak). b.at) (same k few) in let w = o.within k few in omega (arith, is, w.1) in
     record {
-      each = λ k few. let is = o.each k few in subst IsBreak (sym (same k few)) (moved by is.0, ap (moved_raw by) is.1, is.2);
+      each = λ k few. let is = o.each k few in subst IsBreak (sym (same k few)) (moved_wrapped by is.0, ap (moved_raw by) is.1, is.2);
       within = λ k few. let w = o.within k few in let p = place k few in (omega (arith, w.0, p), omega (arith, w.1, p));
       rising = λ k few j before. let r = o.rising k few j before in let p = place k few in let q = place j (omega arith) in omega (arith, r, p, q);
     }
@@ -115,10 +141,10 @@ module _ (out room others : List RawBreak) (count more : ℕ) (within : count �
 
 -- A call at its start
 
-pub IsOrdered-start : (block : List RawBreak) (stream : Stream) (start : Feeding) → start.place ≡ place_of stream → start.cut.size ≡ length (cut_bytes stream) → start.taken ≡ 0 → start.count ≡ 0
+pub IsOrdered-start : {A : Type 0} (block : List RawBreak) (carried : List ℕ → List A) (stream : Stream) (start : Feeding A) → start.place ≡ place_of stream → start.cut.size ≡ length (cut_units carried stream) → start.taken ≡ 0 → start.count ≡ 0
     → (0 < stream.held_code → stream.held_at < stream.at)
-    → IsOrdered block (stream.at + length (cut_bytes stream)) (next_place (place_of stream)) start
-IsOrdered-start block stream start stands cut fresh none waits =
+    → IsOrdered block (stream.at + length (cut_units carried stream)) (next_place (place_of stream)) start
+IsOrdered-start block carried stream start stands cut fresh none waits =
     let from = next_place (place_of stream) in
     let at = ap (λ (p : Place). p.at) stands in
     let placed : IsPlaced block 0 from (place_of stream) = record { waits = waits; order = (omega arith, AreInOrder-none block from from) } in

@@ -1,11 +1,10 @@
 -- One more scalar of a stream.
-use Rattle.std.proofs.Common.{◌≡◌, ℕ, ◌==◌, ◌+◌, ◌%◌, ◌^◌, ◌<◌, ◌||◌, ◌&&◌, Bool, true, false, cond, not, Some, None, List, [], ◌∷◌, ◌++◌, length, get_or, map, drop, reverse, append_assoc, refl, sym, ap, subst, ◌∙◌, arith}
+use Rattle.std.proofs.Common.{◌≡◌, ℕ, ◌==◌, ◌+◌, ◌%◌, ◌^◌, ◌<◌, ◌||◌, ◌&&◌, Bool, true, false, cond, not, Some, None, List, [], ◌∷◌, ◌++◌, get_or, map, reverse, append_assoc, refl, sym, ap, subst, ◌∙◌, arith}
 use Rattle.std.specs.Char.{IsScalar}
 use Rattle.std.proofs.lemmas.Bool.{and_parts, false≢true}
 use Rattle.std.proofs.lemmas.Bool.Decides.{nat_tests}
-use Rattle.std.proofs.lemmas.List.{length-append, length-drop, map-append}
-use Rattle.bstr.specs.Utf8.{decoded, lossy_chars, or_replacement, pieces}
-use Rattle.bstr.proofs.lemmas.PieceLemmas.{lossy_chars-step, piece-bounds, pieces-step}
+use Rattle.std.proofs.lemmas.List.{length-append, map-append}
+use Rattle.bstr.specs.Utf8.{Decoded, or_replacement}
 use Rattle.lbk_rules.specs.declared.Break.{Break}
 use Rattle.lbk_rules.specs.declared.Cell.{Cell}
 use Rattle.lbk_rules.specs.declared.Class.{Class}
@@ -31,6 +30,7 @@ use Rattle.lbk_rules.specs.RowMachineFits.{normals}
 use Rattle.lbk_rules.specs.Rows.{IsPlace, IsShown, step_by, steps_in, verdict_shown}
 use Rattle.lbk_streams.specs.declared.stream.Place.{Place}
 use Rattle.lbk_bytes.specs.Bytes.{with_break}
+use Rattle.lbk_bytes.specs.Reached.{scalars_of}
 use Rattle.lbk_streams.specs.Stands.{Ahead, Stands, Waits, onward_of}
 use Rattle.lbk_streams.specs.Streams.{cells_of, late_break}
 use Rattle.lbk_bytes.proofs.AheadLemmas.{heads-tells, joins-leaves, told_by}
@@ -85,105 +85,94 @@ mark-no profile cell taken front last c right joined soft is_mark =
     ap (λ l. is_no (verdict_between_in profile l (cell c ∷ right)).kind) split
     ∙ ap is_no (joins_no_break profile (left ++ cell last ∷ []) (cell c) right headless)
 
--- The first scalar of some bytes
+-- The first scalar of some pieces
 
-pub cells-first : (cell : ℕ → Cell) (bytes : List ℕ) (c size : ℕ) → 0 < length bytes → c ≡ or_replacement (decoded bytes).char
-    → size ≡ (decoded bytes).size → cells_of cell bytes ≡ normal (cell c) ∷ cells_of cell (drop size bytes)
-cells-first cell bytes c size some is_char is_size =
-    ap (λ cs. map normal (map cell cs)) (lossy_chars-step bytes some)
-    ∙ ap (λ x. normal (cell x) ∷ cells_of cell (drop (decoded bytes).size bytes)) (sym is_char)
-    ∙ ap (λ n. normal (cell c) ∷ cells_of cell (drop n bytes)) (sym is_size)
+pub cells-first : (cell : ℕ → Cell) (p : Decoded) (ps : List Decoded) (c : ℕ) → c ≡ or_replacement p.char
+    → cells_of cell (p ∷ ps) ≡ normal (cell c) ∷ cells_of cell ps
+cells-first cell p ps c is_char = ap (λ x. normal (cell x) ∷ cells_of cell ps) (sym is_char)
 
-onward-first : (all : Ahead) (profile : Profile) (cell : ℕ → Cell) (taken : List ℕ) (at : ℕ) (bytes : List ℕ) (c size : ℕ) → 0 < length bytes
-    → c ≡ or_replacement (decoded bytes).char → size ≡ (decoded bytes).size
-    → onward_of all profile cell taken at (pieces bytes)
-    ≡ with_break at (verdict_between_in profile (map cell taken) (cell c ∷ map cell (lossy_chars (drop size bytes))))
-    (onward_of all profile cell (taken ++ c ∷ []) (at + size) (pieces (drop size bytes)))
-onward-first all profile cell taken at bytes c size some is_char is_size =
-    let p = decoded bytes in
-    ap (onward_of all profile cell taken at) (pieces-step bytes some)
-    ∙ ap (λ x. with_break at (verdict_between_in profile (map cell taken) (cell x ∷ map cell (lossy_chars (drop p.size bytes))))
-    (onward_of all profile cell (taken ++ x ∷ []) (at + p.size) (pieces (drop p.size bytes)))) (sym is_char)
-    ∙ ap (λ n. with_break at (verdict_between_in profile (map cell taken) (cell c ∷ map cell (lossy_chars (drop n bytes))))
-    (onward_of all profile cell (taken ++ c ∷ []) (at + n) (pieces (drop n bytes)))) (sym is_size)
+onward-first : (all : Ahead) (profile : Profile) (cell : ℕ → Cell) (taken : List ℕ) (at : ℕ) (p : Decoded) (ps : List Decoded) (c size : ℕ)
+    → c ≡ or_replacement p.char → size ≡ p.size
+    → onward_of all profile cell taken at (p ∷ ps)
+    ≡ with_break at (verdict_between_in profile (map cell taken) (cell c ∷ map cell (scalars_of ps)))
+    (onward_of all profile cell (taken ++ c ∷ []) (at + size) ps)
+onward-first all profile cell taken at p ps c size is_char is_size =
+    ap (λ x. with_break at (verdict_between_in profile (map cell taken) (cell x ∷ map cell (scalars_of ps)))
+    (onward_of all profile cell (taken ++ x ∷ []) (at + p.size) ps)) (sym is_char)
+    ∙ ap (λ n. with_break at (verdict_between_in profile (map cell taken) (cell c ∷ map cell (scalars_of ps)))
+    (onward_of all profile cell (taken ++ c ∷ []) (at + n) ps)) (sym is_size)
 
 -- The position that waits
 
-pub late-none : (cell : ℕ → Cell) (place : Place) (bytes : List ℕ) → place.held_code ≡ 0 → late_break cell place bytes ≡ []
-late-none cell place bytes zero =
-    ap (λ n. cond (n == 0 || leaves_closed (units_after false (cells_of cell bytes))) [] (with_break place.held_at (verdict_shown n) [])) zero
+pub late-none : (cell : ℕ → Cell) (place : Place) (ps : List Decoded) → place.held_code ≡ 0 → late_break cell place ps ≡ []
+late-none cell place ps zero =
+    ap (λ n. cond (n == 0 || leaves_closed (units_after false (cells_of cell ps))) [] (with_break place.held_at (verdict_shown n) [])) zero
 
-late-some : (cell : ℕ → Cell) (place : Place) (bytes : List ℕ) (closes : Bool) → (place.held_code == 0) ≡ false
-    → leaves_closed (units_after false (cells_of cell bytes)) ≡ closes
-    → late_break cell place bytes ≡ cond closes [] (with_break place.held_at (verdict_shown place.held_code) [])
-late-some cell place bytes closes held is =
+late-some : (cell : ℕ → Cell) (place : Place) (ps : List Decoded) (closes : Bool) → (place.held_code == 0) ≡ false
+    → leaves_closed (units_after false (cells_of cell ps)) ≡ closes
+    → late_break cell place ps ≡ cond closes [] (with_break place.held_at (verdict_shown place.held_code) [])
+late-some cell place ps closes held is =
     let late = with_break place.held_at (verdict_shown place.held_code) [] in
-    ap (λ b. cond (b || leaves_closed (units_after false (cells_of cell bytes))) [] late) held ∙ ap (λ b. cond b [] late) is
+    ap (λ b. cond (b || leaves_closed (units_after false (cells_of cell ps))) [] late) held ∙ ap (λ b. cond b [] late) is
 
 -- the next scalar decides it
-pub Stands-settle : (profile : Profile) (cell : ℕ → Cell) (place : Place) (bytes : List ℕ) (all : Ahead) (given after : List Break)
+pub Stands-settle : (profile : Profile) (cell : ℕ → Cell) (place : Place) (p : Decoded) (ps : List Decoded) (all : Ahead) (given after : List Break)
     (c : ℕ) (closes : Bool)
-    → 0 < length bytes → c ≡ or_replacement (decoded bytes).char → (place.held_code == 0) ≡ false
+    → c ≡ or_replacement p.char → (place.held_code == 0) ≡ false
     → told_by false (normal (cell c)) ≡ Some closes
     → after ≡ given ++ cond closes [] (with_break place.held_at (verdict_shown place.held_code) [])
-    → Stands profile cell place bytes all given
-    → Stands profile cell (record { at = place.at; held_at = place.held_at; row = place.row; held_code = 0 }) bytes all after
-Stands-settle profile cell place bytes all given after c closes some is_char held told grown s =
-    let size = (decoded bytes).size in
-    let on = onward_of all profile cell s.taken place.at (pieces bytes) in
+    → Stands profile cell place (p ∷ ps) all given
+    → Stands profile cell (record { at = place.at; held_at = place.held_at; row = place.row; held_code = 0 }) (p ∷ ps) all after
+Stands-settle profile cell place p ps all given after c closes is_char held told grown s =
+    let on = onward_of all profile cell s.taken place.at (p ∷ ps) in
     let front = cond closes [] (with_break place.held_at (verdict_shown place.held_code) []) in
-    let is : leaves_closed (units_after false (cells_of cell bytes)) ≡ closes =
-    ap (λ cs. leaves_closed (units_after false cs)) (cells-first cell bytes c size some is_char refl)
-    ∙ heads-tells false (normal (cell c)) (cells_of cell (drop size bytes)) closes told in
+    let is : leaves_closed (units_after false (cells_of cell (p ∷ ps))) ≡ closes =
+    ap (λ cs. leaves_closed (units_after false cs)) (cells-first cell p ps c is_char)
+    ∙ heads-tells false (normal (cell c)) (cells_of cell ps) closes told in
     record {
       taken = s.taken;
       knows = s.knows;
       some = s.some;
-      fits = s.fits;
       waits = λ more. absurd (omega arith);
       joined =
           s.joined
-          ∙ ap (λ l. given ++ (l ++ on)) (late-some cell place bytes closes held is)
+          ∙ ap (λ l. given ++ (l ++ on)) (late-some cell place (p ∷ ps) closes held is)
           ∙ sym (append_assoc given front on)
           ∙ ap (λ g. g ++ on) (sym grown);
     }
 
 -- a mark that joins leaves it waiting
-pub Stands-join : (profile : Profile) (cell : ℕ → Cell) (place next : Place) (bytes : List ℕ) (all : Ahead) (given : List Break)
+pub Stands-join : (profile : Profile) (cell : ℕ → Cell) (place next : Place) (p : Decoded) (ps : List Decoded) (all : Ahead) (given : List Break)
     (c size : ℕ)
-    → 0 < length bytes → c ≡ or_replacement (decoded bytes).char → size ≡ (decoded bytes).size
+    → c ≡ or_replacement p.char → size ≡ p.size → place.at + size < 2 ^ 64
     → 0 < place.held_code → mark (normal (cell c)).class ≡ true
     → next.at ≡ (place.at + size) % 2 ^ 64 → next.held_at ≡ place.held_at → next.held_code ≡ place.held_code
     → ((taken : List ℕ) → KnowsTaken cell place.row taken → KnowsTaken cell next.row (taken ++ c ∷ []))
-    → Stands profile cell place bytes all given
-    → Stands profile cell next (drop size bytes) all given
-Stands-join profile cell place next bytes all given c size some is_char is_size held is_mark moved held_same code_same knows s =
-    let rest = drop size bytes in
-    let bounds = piece-bounds bytes some in
-    let left = length-drop size bytes in
+    → Stands profile cell place (p ∷ ps) all given
+    → Stands profile cell next ps all given
+Stands-join profile cell place next p ps all given c size is_char is_size fits held is_mark moved held_same code_same knows s =
     let w = s.waits held in
-    let at_same : next.at ≡ place.at + size = (let fits = s.fits in omega arith) in
+    let at_same : next.at ≡ place.at + size = omega arith in
     let x = normal (cell c) in
     let soft = mark-soft x.class is_mark in
     let told : told_by false x ≡ None = ap (λ b. cond (false || not b) (Some (closes_before (unit x).class)) None) is_mark in
-    let closes : leaves_closed (units_after false (cells_of cell bytes)) ≡ leaves_closed (units_after false (cells_of cell rest)) =
-    ap (λ cs. leaves_closed (units_after false cs)) (cells-first cell bytes c size some is_char is_size)
-    ∙ joins-leaves false x (cells_of cell rest) told
-    ∙ ap (λ b. leaves_closed (units_after b (cells_of cell rest))) soft in
-    let late : late_break cell place bytes ≡ late_break cell next rest =
+    let closes : leaves_closed (units_after false (cells_of cell (p ∷ ps))) ≡ leaves_closed (units_after false (cells_of cell ps)) =
+    ap (λ cs. leaves_closed (units_after false cs)) (cells-first cell p ps c is_char)
+    ∙ joins-leaves false x (cells_of cell ps) told
+    ∙ ap (λ b. leaves_closed (units_after b (cells_of cell ps))) soft in
+    let late : late_break cell place (p ∷ ps) ≡ late_break cell next ps =
     ap (λ b. cond (place.held_code == 0 || b) [] (with_break place.held_at (verdict_shown place.held_code) [])) closes
-    ∙ ap (λ n. cond (n == 0 || leaves_closed (units_after false (cells_of cell rest))) [] (with_break place.held_at (verdict_shown n) [])) (sym code_same)
-    ∙ ap (λ n. cond (next.held_code == 0 || leaves_closed (units_after false (cells_of cell rest))) [] (with_break n (verdict_shown next.held_code) [])) (sym held_same) in
-    let right = map cell (lossy_chars rest) in
+    ∙ ap (λ n. cond (n == 0 || leaves_closed (units_after false (cells_of cell ps))) [] (with_break place.held_at (verdict_shown n) [])) (sym code_same)
+    ∙ ap (λ n. cond (next.held_code == 0 || leaves_closed (units_after false (cells_of cell ps))) [] (with_break n (verdict_shown next.held_code) [])) (sym held_same) in
+    let right = map cell (scalars_of ps) in
     let verdict = verdict_between_in profile (map cell s.taken) (cell c ∷ right) in
-    let on = onward_of all profile cell (s.taken ++ c ∷ []) (place.at + size) (pieces rest) in
+    let on = onward_of all profile cell (s.taken ++ c ∷ []) (place.at + size) ps in
     let silent : with_break place.at verdict on ≡ on =
     ap (λ b. cond b on (break_by place.at verdict ∷ on)) (mark-no profile cell s.taken w.front w.last c right w.joined w.soft is_mark) in
     record {
       taken = s.taken ++ c ∷ [];
       knows = knows s.taken s.knows;
       some = λ _. omega (arith, length-append s.taken (c ∷ []));
-      fits = (let fits = s.fits in omega arith);
       waits = λ _. record {
         second = w.second;
         coded = subst IsShown (sym code_same) w.coded;
@@ -196,9 +185,9 @@ Stands-join profile cell place next bytes all given c size some is_char is_size 
       };
       joined =
           s.joined
-          ∙ ap (λ l. given ++ (late_break cell place bytes ++ l)) (onward-first all profile cell s.taken place.at bytes c size some is_char is_size ∙ silent)
+          ∙ ap (λ l. given ++ (late_break cell place (p ∷ ps) ++ l)) (onward-first all profile cell s.taken place.at p ps c size is_char is_size ∙ silent)
           ∙ ap (λ l. given ++ (l ++ on)) late
-          ∙ ap (λ n. given ++ (late_break cell next rest ++ onward_of all profile cell (s.taken ++ c ∷ []) n (pieces rest))) (sym at_same);
+          ∙ ap (λ n. given ++ (late_break cell next ps ++ onward_of all profile cell (s.taken ++ c ∷ []) n ps)) (sym at_same);
     }
 
 -- The position before a scalar
@@ -207,40 +196,36 @@ same-test : (a b : ℕ) → a ≡ b → (a == b) ≡ true
 same-test a b same = grind (arith, nat_tests)
 
 -- a scalar is taken where none waits: of its position this comes now, and this waits
-pub Stands-on : (profile : Profile) (cell : ℕ → Cell) (place next : Place) (bytes : List ℕ) (all : Ahead) (given front after : List Break)
+pub Stands-on : (profile : Profile) (cell : ℕ → Cell) (place next : Place) (p : Decoded) (ps : List Decoded) (all : Ahead) (given front after : List Break)
     (c size : ℕ)
-    → 0 < length bytes → c ≡ or_replacement (decoded bytes).char → size ≡ (decoded bytes).size
+    → c ≡ or_replacement p.char → size ≡ p.size → 0 < size → place.at + size < 2 ^ 64
     → place.held_code ≡ 0 → next.at ≡ (place.at + size) % 2 ^ 64
     → ((taken : List ℕ) → KnowsTaken cell place.row taken → KnowsTaken cell next.row (taken ++ c ∷ []))
     → ((taken : List ℕ) → KnowsTaken cell place.row taken
-    → front ++ late_break cell next (drop size bytes)
-    ≡ with_break place.at (verdict_between_in profile (map cell taken) (cell c ∷ map cell (lossy_chars (drop size bytes)))) [])
+    → front ++ late_break cell next ps
+    ≡ with_break place.at (verdict_between_in profile (map cell taken) (cell c ∷ map cell (scalars_of ps))) [])
     → ((taken : List ℕ) → KnowsTaken cell place.row taken → place.at < next.at → 0 < next.held_code → Waits profile cell (taken ++ c ∷ []) next)
     → after ≡ given ++ front
-    → Stands profile cell place bytes all given
-    → Stands profile cell next (drop size bytes) all after
-Stands-on profile cell place next bytes all given front after c size some is_char is_size none_waits moved knows decides waits grown s =
-    let rest = drop size bytes in
-    let bounds = piece-bounds bytes some in
-    let left = length-drop size bytes in
-    let at_same : next.at ≡ place.at + size = (let fits = s.fits in omega arith) in
-    let verdict = verdict_between_in profile (map cell s.taken) (cell c ∷ map cell (lossy_chars rest)) in
-    let late = late_break cell next rest in
-    let on = onward_of all profile cell (s.taken ++ c ∷ []) (place.at + size) (pieces rest) in
+    → Stands profile cell place (p ∷ ps) all given
+    → Stands profile cell next ps all after
+Stands-on profile cell place next p ps all given front after c size is_char is_size some fits none_waits moved knows decides waits grown s =
+    let at_same : next.at ≡ place.at + size = omega arith in
+    let verdict = verdict_between_in profile (map cell s.taken) (cell c ∷ map cell (scalars_of ps)) in
+    let late = late_break cell next ps in
+    let on = onward_of all profile cell (s.taken ++ c ∷ []) (place.at + size) ps in
     record {
       taken = s.taken ++ c ∷ [];
       knows = knows s.taken s.knows;
       some = λ _. omega (arith, length-append s.taken (c ∷ []));
-      fits = (let fits = s.fits in omega arith);
       waits = waits s.taken s.knows (omega arith);
       joined =
           s.joined
-          ∙ ap (λ l. given ++ (l ++ onward_of all profile cell s.taken place.at (pieces bytes))) (late-none cell place bytes none_waits)
-          ∙ ap (λ l. given ++ l) (onward-first all profile cell s.taken place.at bytes c size some is_char is_size ∙ with_break-more place.at verdict on
+          ∙ ap (λ l. given ++ (l ++ onward_of all profile cell s.taken place.at (p ∷ ps))) (late-none cell place (p ∷ ps) none_waits)
+          ∙ ap (λ l. given ++ l) (onward-first all profile cell s.taken place.at p ps c size is_char is_size ∙ with_break-more place.at verdict on
           ∙ ap (λ l. l ++ on) (sym (decides s.taken s.knows)) ∙ append_assoc front late on)
           ∙ sym (append_assoc given front (late ++ on))
           ∙ ap (λ g. g ++ (late ++ on)) (sym grown)
-          ∙ ap (λ n. after ++ (late ++ onward_of all profile cell (s.taken ++ c ∷ []) n (pieces rest))) (sym at_same);
+          ∙ ap (λ n. after ++ (late ++ onward_of all profile cell (s.taken ++ c ∷ []) n ps)) (sym at_same);
     }
 
 -- the row that a step leads to
@@ -307,31 +292,31 @@ decides-now Second cell table taken at row c one other right flat known scalar i
     ]) refl
 
 -- what waits where rule 15b decides
-pub decides-late : (cell : ℕ → Cell) (table : FlatTable) (taken : List ℕ) (place next : Place) (rest : List ℕ) (c : ℕ) (one other : Step)
+pub decides-late : (cell : ℕ → Cell) (table : FlatTable) (taken : List ℕ) (place next : Place) (ps : List Decoded) (c : ℕ) (one other : Step)
     → IsFlatOf table cell → KnowsTaken cell place.row taken → IsScalar c
     → (IsPlace place.row → one ≡ step_by (steps_in First) place.row (get_or table.kinds c 0))
     → (IsPlace place.row → other ≡ step_by (steps_in Second) place.row (get_or table.kinds c 0))
     → other.shown ≡ HELD → is_no (verdict_shown one.shown).kind ≡ false → next.held_at ≡ place.at → next.held_code ≡ one.shown
-    → late_break cell next rest
-    ≡ with_break place.at (verdict_between_in Second (map cell taken) (cell c ∷ map cell (lossy_chars rest))) []
-decides-late cell table taken place next rest c one other flat known scalar is_one is_other held breaks held_same code_same =
-    let right = map cell (lossy_chars rest) in
+    → late_break cell next ps
+    ≡ with_break place.at (verdict_between_in Second (map cell taken) (cell c ∷ map cell (scalars_of ps))) []
+decides-late cell table taken place next ps c one other flat known scalar is_one is_other held breaks held_same code_same =
+    let right = map cell (scalars_of ps) in
     let soft = held-soft cell table taken place.row c other flat known scalar is_other held in
     let some : (next.held_code == 0) ≡ false = ap (λ n. n == 0) code_same ∙ loud-code one.shown breaks in
     let same : with_break next.held_at (verdict_shown next.held_code) [] ≡ with_break place.at (verdict_shown one.shown) [] =
     ap (λ n. with_break n (verdict_shown next.held_code) []) held_same ∙ ap (λ n. with_break place.at (verdict_shown n) []) code_same in
-    (elim (leaves_closed (units_after false (cells_of cell rest)))
-    as (λ b. leaves_closed (units_after false (cells_of cell rest)) ≡ b
-    → late_break cell next rest ≡ with_break place.at (verdict_between_in Second (map cell taken) (cell c ∷ right)) []) [
+    (elim (leaves_closed (units_after false (cells_of cell ps)))
+    as (λ b. leaves_closed (units_after false (cells_of cell ps)) ≡ b
+    → late_break cell next ps ≡ with_break place.at (verdict_between_in Second (map cell taken) (cell c ∷ right)) []) [
       | true ↦ λ is.
-          let closed = ap (λ b. leaves_closed (units_after b (cells_of cell rest))) soft ∙ is in
+          let closed = ap (λ b. leaves_closed (units_after b (cells_of cell ps))) soft ∙ is in
           let decided = decides-closed table.kinds cell taken place.row c other right flat.kinds known scalar (is_other known.0) closed in
-          late-some cell next rest true some is ∙ sym (silent-held place.at other.shown held)
+          late-some cell next ps true some is ∙ sym (silent-held place.at other.shown held)
           ∙ ap (λ (v : Verdict). with_break place.at v []) decided
       | false ↦ λ is.
-          let stays = ap (λ b. leaves_closed (units_after b (cells_of cell rest))) soft ∙ is in
+          let stays = ap (λ b. leaves_closed (units_after b (cells_of cell ps))) soft ∙ is in
           let decided = decides-open table.kinds cell taken place.row c one other right flat.kinds known scalar (is_one known.0) (is_other known.0) held stays in
-          late-some cell next rest false some is ∙ same ∙ ap (λ (v : Verdict). with_break place.at v []) decided
+          late-some cell next ps false some is ∙ same ∙ ap (λ (v : Verdict). with_break place.at v []) decided
     ]) refl
 
 -- that it waits

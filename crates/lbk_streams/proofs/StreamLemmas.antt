@@ -1,11 +1,10 @@
 -- The breaks of a stream from its start on, and some of them given.
-use Rattle.std.proofs.Common.{◌≡◌, ℕ, zero, suc, ◌==◌, ◌||◌, ◌+◌, ◌^◌, ◌<◌, ◌≤◌, Bool, true, false, cond, ◌⊎◌, inl, inr, ⊎_elim, Some, None, List, [], ◌∷◌, ◌++◌, length, map, drop, take, refl, sym, ap, subst, ◌∙◌, arith, lit<}
+use Rattle.std.proofs.Common.{◌≡◌, ℕ, zero, suc, ◌==◌, ◌+◌, ◌^◌, ◌<◌, ◌≤◌, Bool, true, false, cond, ◌⊎◌, inl, inr, ⊎_elim, Some, None, List, [], ◌∷◌, ◌++◌, length, map, drop, take, refl, sym, ap, subst, ◌∙◌, arith, lit<}
 use Rattle.std.specs.List.{AllByRecursion}
 use Rattle.std.proofs.lemmas.Bool.{cases_lt}
 use Rattle.std.proofs.lemmas.List.{take_at}
 use Rattle.std.proofs.Math.Seq.{drop-append_seam, drop-length, take-length}
-use Rattle.bstr.specs.Utf8.{Decoded, or_replacement, pieces}
-use Rattle.bstr.proofs.lemmas.PieceLemmas.{lossy_chars-nil, pieces-nil}
+use Rattle.bstr.specs.Utf8.{Decoded, or_replacement}
 use Rattle.lbk_rules.specs.declared.Break.{Break}
 use Rattle.lbk_rules.specs.declared.Cell.{Cell}
 use Rattle.lbk_values.specs.declared.profile.Profile.{Profile}
@@ -13,9 +12,6 @@ use Rattle.lbk_values.specs.declared.profile.Profile.TheVariants.{First, Second}
 use Rattle.lbk_rules.specs.declared.Verdict.{Verdict}
 use Rattle.lbk_rules.specs.Breaks.{break_by, is_no}
 use Rattle.lbk_rules.specs.Ends.{end_after, ends_line}
-use Rattle.lbk_rules.specs.Normal.{normal}
-use Rattle.lbk_rules.specs.Sides.{leaves_closed}
-use Rattle.lbk_rules.specs.Units.{units_after}
 use Rattle.lbk_rules.specs.Verdict.{verdict_between_in}
 use Rattle.lbk_rules.proofs.ParagraphLemmas.{or-true}
 use Rattle.lbk_rules.specs.declared.flat_table.FlatTable.{FlatTable}
@@ -25,40 +21,38 @@ use Rattle.lbk_rules.proofs.FlatLemmas.{left-start}
 use Rattle.lbk_streams.specs.declared.stream.Feeding.{Feeding}
 use Rattle.lbk_streams.specs.declared.stream.Place.{Place}
 use Rattle.lbk_streams.specs.declared.stream.Stream.{Stream}
-use Rattle.lbk_bytes.specs.Bytes.{breaks_of_bytes, end_in, with_break}
+use Rattle.lbk_bytes.specs.Bytes.{end_in, with_break}
 use Rattle.lbk_bytes.specs.Reached.{onward_to, scalars_of}
 use Rattle.lbk_bytes.specs.Profiles.{goes_on, plain_number, profile_numbered}
-use Rattle.lbk_streams.specs.Stands.{Ahead, Feeds, Stands, Streams, ahead, front_of, onward_of}
-use Rattle.lbk_bytes.specs.Open.{could_go_on}
-use Rattle.lbk_streams.specs.Streams.{AreUnsettled, cut_bytes, late_break, part_stream, place_of, stream_start}
-use Rattle.lbk_bytes.proofs.ReachedLemmas.{onward-start}
+use Rattle.lbk_streams.specs.Stands.{Ahead, Feeds, Stands, StreamsIn, ahead, front_of, listed, onward_of}
+use Rattle.lbk_streams.specs.Streams.{AreUnsettledIn, cut_units, late_break, part_stream, place_of}
 
 -- the start of a stream, or of a part of one
-pub Streams-part : (cell : ℕ → Cell) (table : FlatTable) (goes_on : Bool) (profile : Profile) (at : ℕ) (text : List ℕ) (stream : Stream) (to_come : List Break)
+pub Streams-part : {A : Type 0} (pieces_of : List A → List Decoded) (carried : List ℕ → List A) (cell : ℕ → Cell) (table : FlatTable) (goes_on : Bool) (profile : Profile) (at : ℕ) (text : List A) (stream : Stream) (to_come : List Break)
     → IsFlatOf table cell → at + length text < 2 ^ 64 → stream ≡ part_stream goes_on profile at
-    → to_come ≡ onward_to (end_in goes_on) profile cell [] at (pieces text)
-    → Streams cell table stream text to_come
-Streams-part cell table goes_on profile at text stream to_come flat short starts whole =
-    subst (λ s. Streams cell table s text to_come) (sym starts) (flagged goes_on profile whole)
+    → to_come ≡ onward_to (end_in goes_on) profile cell [] at (pieces_of text)
+    → StreamsIn pieces_of carried cell table stream text to_come
+Streams-part pieces_of carried cell table goes_on profile at text stream to_come flat short starts whole =
+    subst (λ s. StreamsIn pieces_of carried cell table s text to_come) (sym starts) (flagged goes_on profile whole)
   where
-    begun : (goes_on : Bool) (profile : Profile) → to_come ≡ onward_to (end_in goes_on) profile cell [] at (pieces text)
-        → Stands profile cell (place_of (part_stream goes_on profile at)) text (record { breaks = to_come; goes_on = goes_on }) []
+    begun : (goes_on : Bool) (profile : Profile) → to_come ≡ onward_to (end_in goes_on) profile cell [] at (pieces_of text)
+        → Stands profile cell (place_of (part_stream goes_on profile at)) (pieces_of text) (record { breaks = to_come; goes_on = goes_on }) []
     begun goes_on profile whole = record {
       taken = [];
       knows = ((refl, lit< tt), left-start);
       some = λ more. absurd (omega arith);
-      fits = short;
       waits = λ more. absurd (omega arith);
       joined = whole;
     }
 
-    flagged : (goes_on : Bool) (profile : Profile) → to_come ≡ onward_to (end_in goes_on) profile cell [] at (pieces text)
-        → Streams cell table (part_stream goes_on profile at) text to_come
+    flagged : (goes_on : Bool) (profile : Profile) → to_come ≡ onward_to (end_in goes_on) profile cell [] at (pieces_of text)
+        → StreamsIn pieces_of carried cell table (part_stream goes_on profile at) text to_come
     flagged true First whole = record {
       profile = First;
       named = refl;
       flat = flat;
       goes_on = λ _. begun true First whole;
+      fits = λ _. short;
       none_come = λ more. absurd (omega arith);
     }
     flagged true Second whole = record {
@@ -66,6 +60,7 @@ Streams-part cell table goes_on profile at text stream to_come flat short starts
       named = refl;
       flat = flat;
       goes_on = λ _. begun true Second whole;
+      fits = λ _. short;
       none_come = λ more. absurd (omega arith);
     }
     flagged false First whole = record {
@@ -73,6 +68,7 @@ Streams-part cell table goes_on profile at text stream to_come flat short starts
       named = refl;
       flat = flat;
       goes_on = λ _. begun false First whole;
+      fits = λ _. short;
       none_come = λ more. absurd (omega arith);
     }
     flagged false Second whole = record {
@@ -80,47 +76,27 @@ Streams-part cell table goes_on profile at text stream to_come flat short starts
       named = refl;
       flat = flat;
       goes_on = λ _. begun false Second whole;
+      fits = λ _. short;
       none_come = λ more. absurd (omega arith);
     }
 
-pub Streams-start : (cell : ℕ → Cell) (table : FlatTable) (profile : Profile) (text : List ℕ) (stream : Stream) → IsFlatOf table cell → length text < 2 ^ 64
-    → stream ≡ stream_start profile → Streams cell table stream text (breaks_of_bytes profile cell text)
-Streams-start cell table profile text stream flat short starts =
-    Streams-part cell table false profile 0 text stream (breaks_of_bytes profile cell text) flat (omega arith) starts (onward-start profile cell (pieces text))
-
 -- of the breaks to come these were given, and the others come
-pub Stands-rest : (profile : Profile) (cell : ℕ → Cell) (place : Place) (bytes : List ℕ) (all : Ahead) (given : List Break) (count : ℕ)
-    → length given ≡ count → Stands profile cell place bytes all given
-    → (given ≡ take count all.breaks) × Stands profile cell place bytes (record { breaks = drop count all.breaks; goes_on = all.goes_on }) []
-Stands-rest profile cell place bytes all given count many s =
-    let more = late_break cell place bytes ++ onward_of all profile cell s.taken place.at (pieces bytes) in (
+pub Stands-rest : (profile : Profile) (cell : ℕ → Cell) (place : Place) (ps : List Decoded) (all : Ahead) (given : List Break) (count : ℕ)
+    → length given ≡ count → Stands profile cell place ps all given
+    → (given ≡ take count all.breaks) × Stands profile cell place ps (record { breaks = drop count all.breaks; goes_on = all.goes_on }) []
+Stands-rest profile cell place ps all given count many s =
+    let more = late_break cell place ps ++ onward_of all profile cell s.taken place.at ps in (
       sym (ap (take count) s.joined ∙ take_at given more count many),
       record {
         taken = s.taken;
         knows = s.knows;
         some = s.some;
-        fits = s.fits;
         waits = s.waits;
         joined = ap (drop count) s.joined ∙ ap (λ n. drop n (given ++ more)) (sym many) ∙ drop-append_seam given more;
       },
     )
 
--- where a call begins
-pub Feeds-start : (profile : Profile) (cell : ℕ → Cell) (stream : Stream) (piece more : List ℕ) (start : Feeding) (all : Ahead)
-    → start.place ≡ place_of stream → front_of start.cut ≡ cut_bytes stream → start.taken ≡ 0 → start.cut.size ≡ length (cut_bytes stream)
-    → Stands profile cell (place_of stream) (cut_bytes stream ++ (piece ++ more)) all []
-    → Feeds profile cell (stream.at + length (cut_bytes stream)) piece more start all []
-Feeds-start profile cell stream piece more start all place_same cut_same none size s =
-    let at : start.place.at ≡ stream.at = ap (λ (p : Place). p.at) place_same in
-    record {
-      stands =
-          subst (λ n. Stands profile cell start.place (front_of start.cut ++ (drop n piece ++ more)) all []) (sym none)
-          (subst (λ l. Stands profile cell start.place (l ++ (piece ++ more)) all []) (sym cut_same)
-          (subst (λ p. Stands profile cell p (cut_bytes stream ++ (piece ++ more)) all []) (sym place_same) s));
-      seen = omega arith;
-    }
-
--- the breaks from a byte on stand there or behind
+-- the breaks from a unit on stand there or behind
 with_break-onward : (least at : ℕ) (verdict : Verdict) (more : List Break) → least ≤ at → AllByRecursion (λ found. least ≤ found.at) more
     → AllByRecursion (λ found. least ≤ found.at) (with_break at verdict more)
 with_break-onward least at verdict more high all =
@@ -146,131 +122,145 @@ onward-onward all profile cell taken least at (p ∷ ps) high =
 
 -- at the end a quotation is closed
 late-end : (cell : ℕ → Cell) (place : Place) → late_break cell place [] ≡ []
-late-end cell place =
-    let late = with_break place.held_at (verdict_shown place.held_code) [] in
-    ap (λ cs. cond (place.held_code == 0 || leaves_closed (units_after false (map normal (map cell cs)))) [] late) lossy_chars-nil
-    ∙ ap (λ b. cond b [] late) (or-true (place.held_code == 0))
+late-end cell place = ap (λ b. cond b [] (with_break place.held_at (verdict_shown place.held_code) [])) (or-true (place.held_code == 0))
 
 -- where nothing is left, the end comes
-pub Stands-end : (profile : Profile) (cell : ℕ → Cell) (place : Place) (bytes : List ℕ) (all : Ahead) (given : List Break)
-    → bytes ≡ [] → (s : Stands profile cell place bytes all given) → all.breaks ≡ given ++ end_in all.goes_on profile cell s.taken place.at
-Stands-end profile cell place bytes all given empty s =
+pub Stands-end : (profile : Profile) (cell : ℕ → Cell) (place : Place) (ps : List Decoded) (all : Ahead) (given : List Break)
+    → ps ≡ [] → (s : Stands profile cell place ps all given) → all.breaks ≡ given ++ end_in all.goes_on profile cell s.taken place.at
+Stands-end profile cell place ps all given none_left s =
     let at = place.at in
-    let none_left : pieces bytes ≡ [] = ap pieces empty ∙ pieces-nil in
-    let none_late : late_break cell place bytes ≡ [] = ap (late_break cell place) empty ∙ late-end cell place in
-    s.joined ∙ ap (λ l. given ++ (l ++ onward_of all profile cell s.taken at (pieces bytes))) none_late
-    ∙ ap (λ ps. given ++ onward_of all profile cell s.taken at ps) none_left
+    let none_late : late_break cell place ps ≡ [] = ap (late_break cell place) none_left ∙ late-end cell place in
+    s.joined ∙ ap (λ l. given ++ (l ++ onward_of all profile cell s.taken at ps)) none_late
+    ∙ ap (λ l. given ++ onward_of all profile cell s.taken at l) none_left
 
 -- Between the calls
 
 named-one : (p q : Profile) (stream : Stream) → profile_numbered (plain_number stream.profile) ≡ Some p → profile_numbered (plain_number stream.profile) ≡ Some q → p ≡ q
 named-one p q stream is also = cc
 
--- where a call begins on a stream from which breaks may come
-pub Feeds-streams : (profile : Profile) (cell : ℕ → Cell) (table : FlatTable) (old : Stream) (piece more : List ℕ) (to_come given : List Break) (start : Feeding)
-    → profile_numbered (plain_number old.profile) ≡ Some profile → old.ended ≡ 0
-    → start.place ≡ place_of old → front_of start.cut ≡ cut_bytes old → start.taken ≡ 0 → start.cut.size ≡ length (cut_bytes old) → given ≡ []
-    → (s : Streams cell table old (piece ++ more) to_come)
-    → Feeds profile cell (old.at + length (cut_bytes old)) piece more start (ahead old.profile to_come) given
-Feeds-streams profile cell table old piece more to_come given start named unended place_same cut_same none size nothing s =
-    let same : s.profile ≡ profile = named-one s.profile profile old s.named named in
-    subst (λ g. Feeds profile cell (old.at + length (cut_bytes old)) piece more start (ahead old.profile to_come) g) (sym nothing)
-    (Feeds-start profile cell old piece more start (ahead old.profile to_come) place_same cut_same none size
-    (subst (λ p. Stands p cell (place_of old) (cut_bytes old ++ (piece ++ more)) (ahead old.profile to_come) []) same (s.goes_on unended)))
+module _ {A : Type 0} (pieces_of : List A → List Decoded) (carried : List ℕ → List A) (profile : Profile) (cell : ℕ → Cell) where
+  -- where a call begins on a stream from which breaks may come
+  pub Feeds-streams : (table : FlatTable) (old : Stream) (piece more : List A) (to_come given : List Break) (start : Feeding A)
+      → profile_numbered (plain_number old.profile) ≡ Some profile → old.ended ≡ 0
+      → start.place ≡ place_of old → front_of start.cut ≡ cut_units carried old → start.taken ≡ 0 → start.cut.size ≡ length (cut_units carried old) → given ≡ []
+      → (s : StreamsIn pieces_of carried cell table old (piece ++ more) to_come)
+      → Feeds pieces_of profile cell (old.at + length (cut_units carried old)) piece more start (ahead old.profile to_come) given
+  Feeds-streams table old piece more to_come given start named unended place_same cut_same none size nothing s =
+      let same : s.profile ≡ profile = named-one s.profile profile old s.named named in
+      let all = ahead old.profile to_come in
+      let begins : cut_units carried old ++ (piece ++ more) ≡ front_of start.cut ++ (drop start.taken piece ++ more) =
+      ap (λ l. l ++ (piece ++ more)) (sym cut_same) ∙ ap (λ n. front_of start.cut ++ (drop n piece ++ more)) (sym none) in
+      let at : start.place.at ≡ old.at = ap (λ (p : Place). p.at) place_same in
+      record {
+        stands =
+            subst (λ l. Stands profile cell start.place (pieces_of l) all given) begins
+            (subst (λ g. Stands profile cell start.place (pieces_of (cut_units carried old ++ (piece ++ more))) all g) (sym nothing)
+            (subst (λ p. Stands profile cell p (pieces_of (cut_units carried old ++ (piece ++ more))) all []) (sym place_same)
+            (subst (λ p. Stands p cell (place_of old) (pieces_of (cut_units carried old ++ (piece ++ more))) all []) same (s.goes_on unended))));
+        fits = (let fits = s.fits unended in let long = ap length begins in omega arith);
+        seen = omega arith;
+      }
 
--- the others come from where it ends
-pub Streams-next : (profile : Profile) (cell : ℕ → Cell) (table : FlatTable) (base : ℕ) (old new : Stream) (piece more : List ℕ) (to_come given : List Break)
-    (here : Feeding) (count : ℕ)
-    → profile_numbered (plain_number old.profile) ≡ Some profile → old.ended ≡ 0 → IsFlatOf table cell
-    → place_of new ≡ here.place → cut_bytes new ≡ front_of here.cut → new.profile ≡ old.profile → new.ended ≡ old.ended
-    → length given ≡ count → Feeds profile cell base piece more here (ahead old.profile to_come) given
-    → Streams cell table new (drop here.taken piece ++ more) (drop count to_come)
-Streams-next profile cell table base old new piece more to_come given here count named unended flat place_same cut_same kept ended_same many f =
-    let bytes = drop here.taken piece ++ more in
-    record {
-      profile = profile;
-      named = ap (λ n. profile_numbered (plain_number n)) kept ∙ named;
-      flat = flat;
-      goes_on = λ _.
-          subst (λ n. Stands profile cell (place_of new) (cut_bytes new ++ bytes) (ahead n (drop count to_come)) []) (sym kept)
-          (subst (λ p. Stands profile cell p (cut_bytes new ++ bytes) (ahead old.profile (drop count to_come)) []) (sym place_same)
-          (subst (λ l. Stands profile cell here.place (l ++ bytes) (ahead old.profile (drop count to_come)) []) (sym cut_same)
-          (Stands-rest profile cell here.place (front_of here.cut ++ bytes) (ahead old.profile to_come) given count many f.stands).1));
-      none_come = λ ended. absurd (omega arith);
-    }
+  -- the others come from where it ends
+  pub Streams-next : (table : FlatTable) (base : ℕ) (old new : Stream) (piece more : List A) (to_come given : List Break)
+      (here : Feeding A) (count : ℕ)
+      → profile_numbered (plain_number old.profile) ≡ Some profile → old.ended ≡ 0 → IsFlatOf table cell
+      → place_of new ≡ here.place → cut_units carried new ≡ front_of here.cut → new.profile ≡ old.profile → new.ended ≡ old.ended
+      → length given ≡ count → Feeds pieces_of profile cell base piece more here (ahead old.profile to_come) given
+      → StreamsIn pieces_of carried cell table new (drop here.taken piece ++ more) (drop count to_come)
+  Streams-next table base old new piece more to_come given here count named unended flat place_same cut_same kept ended_same many f =
+      let units = drop here.taken piece ++ more in
+      record {
+        profile = profile;
+        named = ap (λ n. profile_numbered (plain_number n)) kept ∙ named;
+        flat = flat;
+        goes_on = λ _.
+            subst (λ n. Stands profile cell (place_of new) (pieces_of (cut_units carried new ++ units)) (ahead n (drop count to_come)) []) (sym kept)
+            (subst (λ p. Stands profile cell p (pieces_of (cut_units carried new ++ units)) (ahead old.profile (drop count to_come)) []) (sym place_same)
+            (subst (λ l. Stands profile cell here.place (pieces_of (l ++ units)) (ahead old.profile (drop count to_come)) []) (sym cut_same)
+            (Stands-rest profile cell here.place (pieces_of (front_of here.cut ++ units)) (ahead old.profile to_come) given count many f.stands).1));
+        fits = λ _. (
+            let at = ap (λ (p : Place). p.at) place_same in
+            let long = ap (λ l. length (l ++ units)) cut_same in
+            let fits = f.fits in
+            omega arith);
+        none_come = λ ended. absurd (omega arith);
+      }
 
--- the breaks that a call gave are the first of those to come
-pub Feeds-front : (number : ℕ) (profile : Profile) (cell : ℕ → Cell) (base : ℕ) (piece more : List ℕ) (to_come given : List Break) (here : Feeding) (count : ℕ)
-    → length given ≡ count → Feeds profile cell base piece more here (ahead number to_come) given → given ≡ take count to_come
-Feeds-front number profile cell base piece more to_come given here count many f =
-    (Stands-rest profile cell here.place (front_of here.cut ++ (drop here.taken piece ++ more)) (ahead number to_come) given count many f.stands).0
+  -- the breaks that a call gave are the first of those to come
+  pub Feeds-front : (number base : ℕ) (piece more : List A) (to_come given : List Break) (here : Feeding A) (count : ℕ)
+      → length given ≡ count → Feeds pieces_of profile cell base piece more here (ahead number to_come) given → given ≡ take count to_come
+  Feeds-front number base piece more to_come given here count many f =
+      (Stands-rest profile cell here.place (pieces_of (front_of here.cut ++ (drop here.taken piece ++ more))) (ahead number to_come) given count many f.stands).0
 
--- what a call leaves that was not full
-pub Feeds-unsettled : (number : ℕ) (profile : Profile) (cell : ℕ → Cell) (base : ℕ) (new : Stream) (piece more : List ℕ) (to_come given : List Break) (here : Feeding) (count : ℕ)
-    → place_of new ≡ here.place → cut_bytes new ≡ front_of here.cut
-    → (here.cut.size ≡ 0) ⊎ (could_go_on (front_of here.cut) ≡ true) → here.taken ≡ length piece
-    → length given ≡ count → Feeds profile cell base piece more here (ahead number to_come) given
-    → AreUnsettled cell new more (drop count to_come)
-Feeds-unsettled number profile cell base new piece more to_come given here count place_same cut_same unfinished all many f =
-    let bytes = front_of here.cut ++ (drop here.taken piece ++ more) in
-    let s = (Stands-rest profile cell here.place bytes (ahead number to_come) given count many f.stands).1 in
-    let at : new.at ≡ here.place.at = ap (λ (p : Place). p.at) place_same in
-    let rest : drop here.taken piece ++ more ≡ more = ap (λ n. drop n piece ++ more) all ∙ ap (λ l. l ++ more) (drop-length piece) in
-    let same : bytes ≡ cut_bytes new ++ more = ap (λ l. front_of here.cut ++ l) rest ∙ ap (λ l. l ++ more) (sym cut_same) in
-    let later = onward_of (ahead number to_come) profile cell s.taken here.place.at (pieces bytes) in
-    record {
-      cut =
-          ⊎_elim (λ (none : here.cut.size ≡ 0). inl (cut_same ∙ ap (λ n. take n here.cut.bytes) none))
-          (λ (goes : could_go_on (front_of here.cut) ≡ true). inr (ap could_go_on cut_same ∙ goes)) unfinished;
-      later = later;
-      onward = onward-onward (ahead number to_come) profile cell s.taken new.at here.place.at (pieces bytes) (omega arith);
-      joined = s.joined ∙ ap (λ p. late_break cell p bytes ++ later) (sym place_same) ∙ ap (λ l. late_break cell (place_of new) l ++ later) same;
-      waits = λ held.
-          let code : new.held_code ≡ here.place.held_code = ap (λ (p : Place). p.held_code) place_same in
-          let held_same : new.held_at ≡ here.place.held_at = ap (λ (p : Place). p.held_at) place_same in
-          let w = s.waits (omega arith) in
-          (omega (arith, w.before), ap (λ n. is_no (verdict_shown n).kind) code ∙ w.breaks);
-    }
+  -- what a call leaves that was not full
+  pub Feeds-unsettled : (could_go_on : List A → Bool) (number base : ℕ) (new : Stream) (piece more : List A) (to_come given : List Break) (here : Feeding A) (count : ℕ)
+      → place_of new ≡ here.place → cut_units carried new ≡ front_of here.cut
+      → (here.cut.size ≡ 0) ⊎ (could_go_on (front_of here.cut) ≡ true) → here.taken ≡ length piece
+      → length given ≡ count → Feeds pieces_of profile cell base piece more here (ahead number to_come) given
+      → AreUnsettledIn pieces_of carried could_go_on cell new more (drop count to_come)
+  Feeds-unsettled could_go_on number base new piece more to_come given here count place_same cut_same unfinished all many f =
+      let units = front_of here.cut ++ (drop here.taken piece ++ more) in
+      let s = (Stands-rest profile cell here.place (pieces_of units) (ahead number to_come) given count many f.stands).1 in
+      let at : new.at ≡ here.place.at = ap (λ (p : Place). p.at) place_same in
+      let rest : drop here.taken piece ++ more ≡ more = ap (λ n. drop n piece ++ more) all ∙ ap (λ l. l ++ more) (drop-length piece) in
+      let same : units ≡ cut_units carried new ++ more = ap (λ l. front_of here.cut ++ l) rest ∙ ap (λ l. l ++ more) (sym cut_same) in
+      let later = onward_of (ahead number to_come) profile cell s.taken here.place.at (pieces_of units) in
+      record {
+        cut =
+            ⊎_elim (λ (none : here.cut.size ≡ 0). inl (cut_same ∙ ap (λ n. take n (listed here.cut.units)) none))
+            (λ (goes : could_go_on (front_of here.cut) ≡ true). inr (ap could_go_on cut_same ∙ goes)) unfinished;
+        later = later;
+        onward = onward-onward (ahead number to_come) profile cell s.taken new.at here.place.at (pieces_of units) (omega arith);
+        joined = s.joined ∙ ap (λ p. late_break cell p (pieces_of units) ++ later) (sym place_same) ∙ ap (λ l. late_break cell (place_of new) (pieces_of l) ++ later) same;
+        waits = λ held.
+            let code : new.held_code ≡ here.place.held_code = ap (λ (p : Place). p.held_code) place_same in
+            let held_same : new.held_at ≡ here.place.held_at = ap (λ (p : Place). p.held_at) place_same in
+            let w = s.waits (omega arith) in
+            (omega (arith, w.before), ap (λ n. is_no (verdict_shown n).kind) code ∙ w.breaks);
+      }
 
--- after the last piece, all were given
-pub Feeds-ended : (number : ℕ) (profile : Profile) (cell : ℕ → Cell) (base : ℕ) (piece : List ℕ) (to_come given after : List Break) (here : Feeding)
-    → here.cut.size ≡ 0 → here.taken ≡ length piece
-    → ((taken : List ℕ) → KnowsTaken cell here.place.row taken → (0 < here.place.row → 0 < length taken)
-    → after ≡ given ++ end_in (goes_on number) profile cell taken here.place.at)
-    → Feeds profile cell base piece [] here (ahead number to_come) given → to_come ≡ after
-Feeds-ended number profile cell base piece to_come given after here none all end f =
-    let bytes = front_of here.cut ++ (drop here.taken piece ++ []) in
-    let nothing : bytes ≡ [] =
-    ap (λ n. take n here.cut.bytes ++ (drop here.taken piece ++ [])) none ∙ ap (λ n. drop n piece ++ []) all ∙ ap (λ l. l ++ []) (drop-length piece) in
-    Stands-end profile cell here.place bytes (ahead number to_come) given nothing f.stands ∙ sym (end f.stands.taken f.stands.knows f.stands.some)
+  -- after the last piece, all were given
+  pub Feeds-ended : (number base : ℕ) (piece : List A) (to_come given after : List Break) (here : Feeding A)
+      → pieces_of [] ≡ [] → here.cut.size ≡ 0 → here.taken ≡ length piece
+      → ((taken : List ℕ) → KnowsTaken cell here.place.row taken → (0 < here.place.row → 0 < length taken)
+      → after ≡ given ++ end_in (goes_on number) profile cell taken here.place.at)
+      → Feeds pieces_of profile cell base piece [] here (ahead number to_come) given → to_come ≡ after
+  Feeds-ended number base piece to_come given after here ends none all end f =
+      let units = front_of here.cut ++ (drop here.taken piece ++ []) in
+      let nothing : units ≡ [] =
+      ap (λ n. take n (listed here.cut.units) ++ (drop here.taken piece ++ [])) none ∙ ap (λ n. drop n piece ++ []) all ∙ ap (λ l. l ++ []) (drop-length piece) in
+      Stands-end profile cell here.place (pieces_of units) (ahead number to_come) given (ap pieces_of nothing ∙ ends) f.stands ∙ sym (end f.stands.taken f.stands.knows f.stands.some)
 
-pub Streams-end : (profile : Profile) (cell : ℕ → Cell) (table : FlatTable) (old new : Stream) (bytes : List ℕ) (to_come after : List Break) (count : ℕ)
-    → profile_numbered (plain_number old.profile) ≡ Some profile → IsFlatOf table cell → new.profile ≡ old.profile → new.ended ≡ 1
-    → to_come ≡ after → length after ≡ count → Streams cell table new bytes (drop count to_come)
-Streams-end profile cell table old new bytes to_come after count named flat kept ended all many = record {
-  profile = profile;
-  named = ap (λ n. profile_numbered (plain_number n)) kept ∙ named;
-  flat = flat;
-  goes_on = λ unended. absurd (omega arith);
-  none_come = λ _. ap (drop count) all ∙ ap (λ n. drop n after) (sym many) ∙ drop-length after;
-}
+  pub Streams-end : (table : FlatTable) (old new : Stream) (units : List A) (to_come after : List Break) (count : ℕ)
+      → profile_numbered (plain_number old.profile) ≡ Some profile → IsFlatOf table cell → new.profile ≡ old.profile → new.ended ≡ 1
+      → to_come ≡ after → length after ≡ count → StreamsIn pieces_of carried cell table new units (drop count to_come)
+  Streams-end table old new units to_come after count named flat kept ended all many = record {
+    profile = profile;
+    named = ap (λ n. profile_numbered (plain_number n)) kept ∙ named;
+    flat = flat;
+    goes_on = λ unended. absurd (omega arith);
+    fits = λ unended. absurd (omega arith);
+    none_come = λ _. ap (drop count) all ∙ ap (λ n. drop n after) (sym many) ∙ drop-length after;
+  }
 
 -- from a stream that has ended nothing comes
-pub ended-none : (cell : ℕ → Cell) (table : FlatTable) (old : Stream) (more : List ℕ) (to_come : List Break)
-    → (0 < old.ended) ⊎ (profile_numbered (plain_number old.profile) ≡ None) → Streams cell table old more to_come → (to_come ≡ []) × (0 < old.ended)
-ended-none cell table old more to_come (inl ended) s = (s.none_come ended, ended)
-ended-none cell table old more to_come (inr unnamed) s = absurd (let unknown : ⊥ = (let named = s.named in cc) in unknown)
+pub ended-none : {A : Type 0} (pieces_of : List A → List Decoded) (carried : List ℕ → List A) (cell : ℕ → Cell) (table : FlatTable) (old : Stream) (more : List A) (to_come : List Break)
+    → (0 < old.ended) ⊎ (profile_numbered (plain_number old.profile) ≡ None) → StreamsIn pieces_of carried cell table old more to_come → (to_come ≡ []) × (0 < old.ended)
+ended-none pieces_of carried cell table old more to_come (inl ended) s = (s.none_come ended, ended)
+ended-none pieces_of carried cell table old more to_come (inr unnamed) s = absurd (let unknown : ⊥ = (let named = s.named in cc) in unknown)
 
 -- what has ended goes on as it is, whatever follows
-pub ended-stays : (cell : ℕ → Cell) (table : FlatTable) (old : Stream) (more other : List ℕ) (to_come : List Break)
-    → (0 < old.ended) ⊎ (profile_numbered (plain_number old.profile) ≡ None) → Streams cell table old more to_come → Streams cell table old other to_come
-ended-stays cell table old more other to_come spent s =
-    let none = ended-none cell table old more to_come spent s in
+pub ended-stays : {A : Type 0} (pieces_of : List A → List Decoded) (carried : List ℕ → List A) (cell : ℕ → Cell) (table : FlatTable) (old : Stream) (more other : List A) (to_come : List Break)
+    → (0 < old.ended) ⊎ (profile_numbered (plain_number old.profile) ≡ None) → StreamsIn pieces_of carried cell table old more to_come → StreamsIn pieces_of carried cell table old other to_come
+ended-stays pieces_of carried cell table old more other to_come spent s =
+    let none = ended-none pieces_of carried cell table old more to_come spent s in
     record {
       profile = s.profile;
       named = s.named;
       flat = s.flat;
       goes_on = λ unended. absurd (let ended = none.1 in omega arith);
+      fits = λ unended. absurd (let ended = none.1 in omega arith);
       none_come = λ _. none.0;
     }
 
@@ -283,38 +273,38 @@ unnamed-high (suc (suc (suc zero))) none = absurd (let unknown : ⊥ = cc in unk
 unnamed-high (suc (suc (suc (suc n)))) none = omega arith
 
 -- what the last call gives
-pub record IsClosed (cell : ℕ → Cell) (table : FlatTable) (new : Stream) (bytes : List ℕ) (to_come after : List Break) (count room : ℕ) : Type 0 where
+pub record IsClosed {A : Type 0} (pieces_of : List A → List Decoded) (carried : List ℕ → List A) (cell : ℕ → Cell) (table : FlatTable) (new : Stream) (units : List A) (to_come after : List Break) (count room : ℕ) : Type 0 where
   pub front : after ≡ take count to_come
-  pub rest : Streams cell table new bytes (drop count to_come)
+  pub rest : StreamsIn pieces_of carried cell table new units (drop count to_come)
   pub end : count < room → count ≡ length to_come
 
 -- how the call ends: with a full block, or with the end of the stream
-pub record Closes (profile : Profile) (cell : ℕ → Cell) (old new : Stream) (done : Feeding) (piece : List ℕ) (given after : List Break) (count room : ℕ) : Type 0 where
+pub record Closes {A : Type 0} (carried : List ℕ → List A) (profile : Profile) (cell : ℕ → Cell) (old new : Stream) (done : Feeding A) (piece : List A) (given after : List Break) (count room : ℕ) : Type 0 where
   pub within : done.count ≤ room
   pub many : length given ≡ done.count
   pub counted : length after ≡ count
   pub kept : new.profile ≡ old.profile
   pub full : done.count ≡ room
-      → (after ≡ given) × (place_of new ≡ done.place) × (cut_bytes new ≡ front_of done.cut) × (new.ended ≡ old.ended)
+      → (after ≡ given) × (place_of new ≡ done.place) × (cut_units carried new ≡ front_of done.cut) × (new.ended ≡ old.ended)
   pub taken : done.count < room → done.taken ≡ length piece
   pub cut : done.count < room → done.cut.size ≡ 0
   pub ended : done.count < room → new.ended ≡ 1
   pub end : done.count < room → (taken : List ℕ) → KnowsTaken cell done.place.row taken → (0 < done.place.row → 0 < length taken)
       → after ≡ given ++ end_in (goes_on old.profile) profile cell taken done.place.at
 
-pub Feeds-closed : (profile : Profile) (cell : ℕ → Cell) (table : FlatTable) (base : ℕ) (old new : Stream) (piece : List ℕ) (to_come given after : List Break)
-    (done : Feeding) (count room : ℕ)
-    → profile_numbered (plain_number old.profile) ≡ Some profile → old.ended ≡ 0 → IsFlatOf table cell → Closes profile cell old new done piece given after count room
-    → Feeds profile cell base piece [] done (ahead old.profile to_come) given
-    → IsClosed cell table new (drop done.taken piece ++ []) to_come after count room
-Feeds-closed profile cell table base old new piece to_come given after done count room named unended flat x f =
+pub Feeds-closed : {A : Type 0} (pieces_of : List A → List Decoded) (carried : List ℕ → List A) (profile : Profile) (cell : ℕ → Cell) (table : FlatTable) (base : ℕ) (old new : Stream) (piece : List A) (to_come given after : List Break)
+    (done : Feeding A) (count room : ℕ)
+    → pieces_of [] ≡ [] → profile_numbered (plain_number old.profile) ≡ Some profile → old.ended ≡ 0 → IsFlatOf table cell → Closes carried profile cell old new done piece given after count room
+    → Feeds pieces_of profile cell base piece [] done (ahead old.profile to_come) given
+    → IsClosed pieces_of carried cell table new (drop done.taken piece ++ []) to_come after count room
+Feeds-closed pieces_of carried profile cell table base old new piece to_come given after done count room ends named unended flat x f =
     ⊎_elim
     (λ (free : done.count < room).
     let all : to_come ≡ after =
-    Feeds-ended old.profile profile cell base piece to_come given after done (x.cut free) (x.taken free) (x.end free) f in
+    Feeds-ended pieces_of carried profile cell old.profile base piece to_come given after done ends (x.cut free) (x.taken free) (x.end free) f in
     record {
       front = sym (ap (take count) all ∙ ap (λ n. take n after) (sym x.counted) ∙ take-length after);
-      rest = Streams-end profile cell table old new (drop done.taken piece ++ []) to_come after count named flat x.kept (x.ended free) all x.counted;
+      rest = Streams-end pieces_of carried profile cell table old new (drop done.taken piece ++ []) to_come after count named flat x.kept (x.ended free) all x.counted;
       end = λ _. sym x.counted ∙ ap length (sym all);
     })
     (λ (no_room : room ≤ done.count).
@@ -323,9 +313,9 @@ Feeds-closed profile cell table base old new piece to_come given after done coun
     let same : count ≡ done.count = sym x.counted ∙ ap length full.0 ∙ x.many in
     let many : length given ≡ count = x.many ∙ sym same in
     record {
-      front = full.0 ∙ Feeds-front old.profile profile cell base piece [] to_come given done count many f;
+      front = full.0 ∙ Feeds-front pieces_of carried profile cell old.profile base piece [] to_come given done count many f;
       rest =
-          Streams-next profile cell table base old new piece [] to_come given done count named unended flat full.1 full.2 x.kept full.3 many f;
+          Streams-next pieces_of carried profile cell table base old new piece [] to_come given done count named unended flat full.1 full.2 x.kept full.3 many f;
       end = λ free. absurd (omega arith);
     })
     (cases_lt done.count room)

@@ -1,4 +1,4 @@
-//! The part of a piece that needs no care: scalars of at most three bytes, before which no position waits.
+//! The part of a piece that needs no care: scalars before which no position waits.
 
 ghost use Rattle.std.specs.Prelude.{◌≡◌, ℕ, ◌+◌, ◌-◌, ◌^◌, ◌<◌, ◌≤◌, ◌++◌, [], List, drop, length, map};
 ghost use Rattle.lbk_rules.specs.declared.Cell.{Cell};
@@ -7,20 +7,22 @@ ghost use Rattle.lbk_rules.specs.Rows.{IsPlace};
 ghost use Rattle.lbk_streams.specs.declared.stream.Place.{Place};
 ghost use Rattle.lbk_bytes.specs.Order.{AreBreaks, AreInOrder};
 ghost use Rattle.lbk_bytes.specs.Shown.{given_in};
-ghost use Rattle.lbk_streams.specs.Stands.{Ahead, AreFew, Feeds, IsOrdered, Stands, moved};
+ghost use Rattle.lbk_rules.specs.Joins.{moved};
+ghost use Rattle.lbk_streams.specs.Stands.{Ahead, AreFew, Feeds, IsOrdered, Stands};
 
 use crate::stream::{Feeding, Place};
-use lbk_bytes::{FillState, RawBreak, fill_common};
+use crate::stream_unit::StreamUnit;
+use lbk_bytes::{FillState, RawBreak};
 use lbk_rules::{FlatTable, Profile, place_by};
 
 /// Goes on until a scalar needs care, the block is full or the piece ends.
-pub(crate) fn skim(
+pub(crate) fn skim<U: StreamUnit>(
     table: &FlatTable,
     profile: Profile,
-    here: Feeding,
-    piece: &[u8],
+    here: Feeding<U>,
+    piece: &[U],
     out: &mut [RawBreak],
-) -> Feeding
+) -> Feeding<U>
     requires { (here.cut.size ≡ 0) × (here.place.held_code ≡ 0) × (here.count ≤ length out.old) × (0 < here.taken)
         × (here.taken ≤ length piece.now) }
     ensures within { (result.cut.size ≡ 0) × (result.count ≤ length out.old) × (here.taken ≤ result.taken)
@@ -29,10 +31,10 @@ pub(crate) fn skim(
     ensures counted { AreFew here result }
     ensures ordered { (base from : ℕ) → base + length piece.now < 2 ^ 64 → IsOrdered out.old base from here
         → IsOrdered out.new base from result }
-    ensures feeds { (cell : ℕ → Cell) (base : ℕ) (more : List ℕ) (all : Ahead)
+    ensures feeds { (cell : ℕ → Cell) (base : ℕ) (more : List U) (all : Ahead)
         → IsFlatOf table.now cell
-        → Feeds profile cell base piece.now more here all (given_in out.old here.count)
-        → Feeds profile cell base piece.now more result all (given_in out.new result.count) }
+        → Feeds U.pieces_of profile cell base piece.now more here all (given_in out.old here.count)
+        → Feeds U.pieces_of profile cell base piece.now more result all (given_in out.new result.count) }
 {
     let end = skim_into(
         table,
@@ -55,13 +57,13 @@ pub(crate) fn skim(
     }
 }
 
-/// The same from a byte of the piece, into what is left of the block.
-fn skim_into(
+/// The same from a unit of the piece, into what is left of the block.
+fn skim_into<U: StreamUnit>(
     table: &FlatTable,
     profile: Profile,
     place: Place,
     from: usize,
-    piece: &[u8],
+    piece: &[U],
     room: &mut [RawBreak],
 ) -> FillState
     requires { from ≤ length piece.now }
@@ -71,19 +73,21 @@ fn skim_into(
     ensures few { result.count + from ≤ result.at }
     ensures in_order { from ≤ place.at → place.at + (result.at - from) < 2 ^ 64
         → AreInOrder room.new result.count place.at (place.at + (result.at - from)) }
-    ensures stands { (cell : ℕ → Cell) (more : List ℕ) (all : Ahead) (next : Place)
+    ensures stands { (cell : ℕ → Cell) (more : List U) (all : Ahead) (next : Place)
         → IsFlatOf table.now cell
         → place.held_code ≡ 0 → 0 < from → from ≤ place.at
         → next.at ≡ place.at + (result.at - from) → next.row ≡ result.row → next.held_code ≡ 0
-        → Stands profile cell place (drop from piece.now ++ more) all []
-        → Stands profile cell next (drop result.at piece.now ++ more) all (given_in room.new result.count) }
+        → place.at + (result.at - from) < 2 ^ 64
+        → Stands profile cell place (U.pieces_of (drop from piece.now ++ more)) all []
+        → Stands profile cell next (U.pieces_of (drop result.at piece.now ++ more)) all
+        (given_in room.new result.count) }
 {
     let start = FillState {
         count: 0,
         row: place_by(place.row),
         at: from,
     };
-    let end = fill_common(table, profile, start, piece, room);
+    let end = U::fill_piece(table, profile, start, piece, room);
     move_by(room, end.count, place.at.wrapping_sub(from as u64));
     end
 }
@@ -91,7 +95,8 @@ fn skim_into(
 /// Moves the places of the breaks in the front of a block.
 fn move_by(out: &mut [RawBreak], count: usize, by: u64)
     requires { count ≤ length out.old }
-    ensures moved { given_in out.new count ≡ map (moved by) (given_in out.old count) }
+    ensures moved { (from to : ℕ) → to + by ≤ 2 ^ 64 → AreInOrder out.old count from to
+        → given_in out.new count ≡ map (moved by) (given_in out.old count) }
     ensures breaks { AreBreaks out.old count → AreBreaks out.new count }
     ensures in_order { (from to : ℕ) → to + by ≤ 2 ^ 64 → AreInOrder out.old count from to
         → AreInOrder out.new count (from + by) (to + by) }

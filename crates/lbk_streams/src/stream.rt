@@ -1,21 +1,21 @@
 //! A text that comes in pieces, and how far it was taken.
 
-/// How far a text was taken that comes in pieces. One of zeros stands at its start, in the first profile.
+/// How far a text of units was taken that comes in pieces. One of zeros stands at its start, in the first profile.
 #[repr(C)]
 #[derive(Clone, Copy)]
 pub struct Stream {
-    /// How many bytes of the stream were taken as scalars.
+    /// How many units of the stream were taken as scalars.
     pub at: u64,
-    /// The byte before which the position stands that waits for what follows, if one waits.
+    /// The unit before which the position stands that waits for what follows, if one waits.
     pub held_at: u64,
     /// The place of the table's row that knows of the scalars what the rules ask.
     pub row: u16,
     /// The number of the verdict at the position that waits, where what follows leaves the quotation open. 0 where none
     /// waits.
     pub held_code: u16,
-    /// The bytes that came after those taken as scalars.
+    /// The units that came after those taken as scalars, as bytes: in UTF-16 two a unit, the low one first.
     pub cut: [u8; 4],
-    /// How many these are.
+    /// How many units these are.
     pub cut_size: u8,
     /// The number of the profile: 0 for the first, 1 for the second.
     pub profile: u8,
@@ -27,7 +27,7 @@ pub struct Stream {
 #[repr(C)]
 #[derive(Clone, Copy)]
 pub struct Fed {
-    /// How many of its bytes were taken.
+    /// How many of its units were taken.
     pub taken: usize,
     /// How many breaks stand in the front of the block.
     pub count: usize,
@@ -42,19 +42,28 @@ pub(crate) struct Place {
     pub(crate) held_code: u16,
 }
 
-/// At most four bytes after the place.
+/// Four units.
 #[derive(Clone, Copy)]
-pub(crate) struct Cut {
-    pub(crate) bytes: [u8; 4],
-    pub(crate) size: usize,
+pub struct Four<U> {
+    pub first: U,
+    pub second: U,
+    pub third: U,
+    pub fourth: U,
+}
+
+/// At most four units after the place.
+#[derive(Clone, Copy)]
+pub struct Cut<U> {
+    pub units: Four<U>,
+    pub size: usize,
 }
 
 /// How far a call has come.
 #[derive(Clone, Copy)]
-pub(crate) struct Feeding {
+pub(crate) struct Feeding<U> {
     pub(crate) place: Place,
-    pub(crate) cut: Cut,
-    /// How many bytes of the piece were taken.
+    pub(crate) cut: Cut<U>,
+    /// How many units of the piece were taken.
     pub(crate) taken: usize,
     /// How many breaks stand in the front of the block.
     pub(crate) count: usize,

@@ -7,83 +7,85 @@ ghost use Rattle.lbk_rules.specs.declared.Cell.{Cell};
 ghost use Rattle.lbk_values.specs.declared.profile.Profile.{Profile};
 ghost use Rattle.lbk_rules.specs.Joins.{moved};
 ghost use Rattle.lbk_rules.specs.FlatTable.{IsFlatOf, KnowsTaken};
-ghost use Rattle.lbk_bytes.specs.Bytes.{breaks_of_bytes, breaks_of_part, end_in};
+ghost use Rattle.lbk_bytes.specs.Bytes.{end_in};
 ghost use Rattle.lbk_bytes.specs.Order.{AreBreaks, AreInOrder};
 ghost use Rattle.lbk_bytes.specs.Shown.{given_in};
 ghost use Rattle.lbk_bytes.specs.Profiles.{goes_on, plain_number, profile_numbered};
-ghost use Rattle.lbk_streams.specs.Stands.{Ahead, AreFew, Feeds, Gives, IsOrdered, IsPlaced, Streams, front_of};
-ghost use Rattle.lbk_streams.specs.Streams.{AreUnsettled, IsSound, cut_bytes, most_left, next_place, part_stream};
-ghost use Rattle.lbk_streams.specs.Streams.{place_of, stream_start};
+ghost use Rattle.lbk_units.specs.Units.{breaks_of_part_of, breaks_of_pieces};
+ghost use Rattle.lbk_streams.specs.Stands.{Ahead, AreFew, Feeds, Gives, IsOrdered, IsPlaced, StreamsIn, front_of};
+ghost use Rattle.lbk_streams.specs.Streams.{AreUnsettledIn, IsSoundIn, cut_units, most_left_in, next_place};
+ghost use Rattle.lbk_streams.specs.Streams.{part_stream, place_of, stream_start};
 
-use crate::cutting::cut_of;
 use crate::feeding::{take_cut, take_piece};
 use crate::stream::{Fed, Feeding, Place, Stream};
+use crate::stream_unit::StreamUnit;
 use lbk_bytes::{RawBreak, goes_on, plain_number, profile_numbered, put_end};
 use lbk_rules::{FlatTable, Profile, place_by};
 
 /// Takes the next piece of a stream, and puts the breaks that it settles (UAX #14, section 3) into the front of the
-/// block, as many as that holds. All bytes of the piece are taken, unless the block is full. Where `last`, nothing
+/// block, as many as that holds. All units of the piece are taken, unless the block is full. Where `last`, nothing
 /// follows the piece: the breaks left are settled then, and the end is the last of them.
 ///
-/// The bytes may be any: over all calls the breaks are those of the joined pieces, as in `lbk_breaks`, at places from
+/// The units may be any: over all calls the breaks are those of the joined pieces, as in `lbk_breaks`, at places from
 /// the start of the stream, or of the text of which it is a part. Where the block has no room, nothing is taken and
 /// the stream stays. Where the stream has ended or names no profile, all is taken and no break comes. With any table
 /// and stream, the breaks are breaks of rules, and calls while the block is full come to an end. With any table, the
 /// places of a stream rise from its start on.
-pub fn feed(
+pub fn feed<U: StreamUnit>(
     table: &FlatTable,
     stream: &mut Stream,
-    piece: &[u8],
+    piece: &[U],
     last: bool,
     out: &mut [RawBreak],
 ) -> Fed
     ensures within { (result.count ≤ length out.old) × (result.taken ≤ length piece.now) }
     ensures all_taken { result.count < length out.old → result.taken ≡ length piece.now }
     ensures profile_same { stream.new.profile ≡ stream.old.profile }
-    // Of any table and stream: at most one break for each byte, one that waited and the end.
+    // Of any table and stream: at most one break for each unit, one that waited and the end.
     ensures breaks { AreBreaks out.new result.count }
-    ensures few { result.count + most_left stream.new + (length piece.now - result.taken) ≤ most_left stream.old
+    ensures few { result.count + most_left_in U.carried stream.new + (length piece.now - result.taken) ≤ most_left_in U.carried stream.old
         + length piece.now }
     // And of any table, from a stream's start on: their places rise, in a call and from one call to the next.
-    ensures in_order { IsSound stream.old (length piece.now)
+    ensures in_order { IsSoundIn U.carried stream.old (length piece.now)
         → AreInOrder out.new result.count (next_place (place_of stream.old)) (suc stream.new.at) }
-    ensures before_stream { IsSound stream.old (length piece.now) → stream.new.ended ≡ 0
+    ensures before_stream { IsSoundIn U.carried stream.old (length piece.now) → stream.new.ended ≡ 0
         → (next_place (place_of stream.old) ≤ next_place (place_of stream.new))
         × AreInOrder out.new result.count (next_place (place_of stream.old)) (next_place (place_of stream.new)) }
-    ensures sound { IsSound stream.old (length piece.now) → IsSound stream.new (length piece.now - result.taken) }
-    ensures place { IsSound stream.old (length piece.now) → stream.old.ended ≡ 0 → stream.old.profile ≤ 3
-        → stream.new.at + length (cut_bytes stream.new) ≡ stream.old.at + length (cut_bytes stream.old) + result.taken }
+    ensures sound { IsSoundIn U.carried stream.old (length piece.now) → IsSoundIn U.carried stream.new (length piece.now - result.taken) }
+    ensures place { IsSoundIn U.carried stream.old (length piece.now) → stream.old.ended ≡ 0 → stream.old.profile ≤ 3
+        → stream.new.at + length (cut_units U.carried stream.new) ≡ stream.old.at + length (cut_units U.carried stream.old) + result.taken }
     ensures only_last { last ≡ false → stream.new.ended ≡ stream.old.ended }
-    ensures start { (cell : ℕ → Cell) (profile : Profile) (text : List ℕ) → IsFlatOf table.now cell
+    ensures start { (cell : ℕ → Cell) (profile : Profile) (text : List U) → IsFlatOf table.now cell
         → length text < 2 ^ 64
         → stream.old ≡ stream_start profile
-        → Streams cell table.now stream.old text (breaks_of_bytes profile cell text) }
+        → StreamsIn U.pieces_of U.carried cell table.now stream.old text (breaks_of_pieces profile cell (U.pieces_of text)) }
     // A part of a text: places count from the text's start, if the part's place is given, and the text may go on
     // after it.
-    ensures part { (cell : ℕ → Cell) (profile : Profile) (goes_on : Bool) (at : ℕ) (text : List ℕ)
+    ensures part { (cell : ℕ → Cell) (profile : Profile) (goes_on : Bool) (at : ℕ) (text : List U)
         → IsFlatOf table.now cell → at + length text < 2 ^ 64
         → stream.old ≡ part_stream goes_on profile at
-        → Streams cell table.now stream.old text (map (moved at) (breaks_of_part goes_on profile cell text)) }
-    // Whatever bytes follow the piece (none, where it is the last): what comes of all of them comes first of this call.
-    ensures front { (cell : ℕ → Cell) (more : List ℕ) (to_come : List Break)
-        → Streams cell table.now stream.old (piece.now ++ more) to_come
+        → StreamsIn U.pieces_of U.carried cell table.now stream.old text
+        (map (moved at) (breaks_of_part_of goes_on profile cell (U.pieces_of text))) }
+    // Whatever units follow the piece (none, where it is the last): what comes of all of them comes first of this call.
+    ensures front { (cell : ℕ → Cell) (more : List U) (to_come : List Break)
+        → StreamsIn U.pieces_of U.carried cell table.now stream.old (piece.now ++ more) to_come
         → (last ≡ true → more ≡ []) → given_in out.new result.count ≡ take result.count to_come }
-    ensures rest { (cell : ℕ → Cell) (more : List ℕ) (to_come : List Break)
-        → Streams cell table.now stream.old (piece.now ++ more) to_come
+    ensures rest { (cell : ℕ → Cell) (more : List U) (to_come : List Break)
+        → StreamsIn U.pieces_of U.carried cell table.now stream.old (piece.now ++ more) to_come
         → (last ≡ true → more ≡ [])
-        → Streams cell table.now stream.new (drop result.taken piece.now ++ more) (drop result.count to_come) }
-    ensures settled { (cell : ℕ → Cell) (more : List ℕ) (to_come : List Break)
-        → Streams cell table.now stream.old (piece.now ++ more) to_come
+        → StreamsIn U.pieces_of U.carried cell table.now stream.new (drop result.taken piece.now ++ more) (drop result.count to_come) }
+    ensures settled { (cell : ℕ → Cell) (more : List U) (to_come : List Break)
+        → StreamsIn U.pieces_of U.carried cell table.now stream.old (piece.now ++ more) to_come
         → last ≡ false → stream.old.ended ≡ 0 → result.count < length out.old
-        → AreUnsettled cell stream.new more (drop result.count to_come) }
-    ensures seen { (cell : ℕ → Cell) (more : List ℕ) (to_come : List Break)
-        → Streams cell table.now stream.old (piece.now ++ more) to_come
+        → AreUnsettledIn U.pieces_of U.carried U.could_go_on cell stream.new more (drop result.count to_come) }
+    ensures seen { (cell : ℕ → Cell) (more : List U) (to_come : List Break)
+        → StreamsIn U.pieces_of U.carried cell table.now stream.old (piece.now ++ more) to_come
         → (last ≡ true → more ≡ []) → stream.old.ended ≡ 0
-        → stream.new.at + length (cut_bytes stream.new) ≡ stream.old.at + length (cut_bytes stream.old) + result.taken }
-    ensures cut { stream.old.cut_size ≤ 4 → stream.new.cut_size ≤ 4 }
+        → stream.new.at + length (cut_units U.carried stream.new) ≡ stream.old.at + length (cut_units U.carried stream.old) + result.taken }
+    ensures cut { stream.old.cut_size ≤ U.widest → stream.new.cut_size ≤ U.widest }
     ensures closed { last ≡ true → stream.old.ended ≡ 0 → stream.old.profile ≤ 3 → result.count < length out.old
         → (stream.new.cut_size ≡ 0) × (stream.new.held_code ≡ 0) }
-    ensures end { (cell : ℕ → Cell) (to_come : List Break) → Streams cell table.now stream.old piece.now to_come
+    ensures end { (cell : ℕ → Cell) (to_come : List Break) → StreamsIn U.pieces_of U.carried cell table.now stream.old piece.now to_come
         → last ≡ true → result.count < length out.old → result.count ≡ length to_come }
     ensures ended { last ≡ true → result.count < length out.old → 0 < stream.new.ended ⊎ (3 < stream.old.profile) }
     ensures stays { 0 < stream.old.ended ⊎ ((3 < stream.old.profile) ⊎ (length out.old ≡ 0)) → (result.count ≡ 0)
@@ -103,11 +105,11 @@ pub fn feed(
 }
 
 /// The same from a stream that names a profile and has not ended.
-fn go_with(
+fn go_with<U: StreamUnit>(
     table: &FlatTable,
     profile: Profile,
     stream: &mut Stream,
-    piece: &[u8],
+    piece: &[U],
     last: bool,
     out: &mut [RawBreak],
 ) -> Fed
@@ -116,25 +118,25 @@ fn go_with(
     ensures all_taken { result.count < length out.old → result.taken ≡ length piece.now }
     ensures profile_same { stream.new.profile ≡ stream.old.profile }
     ensures breaks { AreBreaks out.new result.count }
-    ensures few { result.count + most_left stream.new + (length piece.now - result.taken) ≤ most_left stream.old
+    ensures few { result.count + most_left_in U.carried stream.new + (length piece.now - result.taken) ≤ most_left_in U.carried stream.old
         + length piece.now }
-    ensures in_order { IsSound stream.old (length piece.now)
+    ensures in_order { IsSoundIn U.carried stream.old (length piece.now)
         → AreInOrder out.new result.count (next_place (place_of stream.old)) (suc stream.new.at) }
-    ensures before_stream { IsSound stream.old (length piece.now) → stream.new.ended ≡ 0
+    ensures before_stream { IsSoundIn U.carried stream.old (length piece.now) → stream.new.ended ≡ 0
         → (next_place (place_of stream.old) ≤ next_place (place_of stream.new))
         × AreInOrder out.new result.count (next_place (place_of stream.old)) (next_place (place_of stream.new)) }
-    ensures sound { IsSound stream.old (length piece.now) → IsSound stream.new (length piece.now - result.taken) }
-    ensures place { IsSound stream.old (length piece.now)
-        → stream.new.at + length (cut_bytes stream.new) ≡ stream.old.at + length (cut_bytes stream.old) + result.taken }
+    ensures sound { IsSoundIn U.carried stream.old (length piece.now) → IsSoundIn U.carried stream.new (length piece.now - result.taken) }
+    ensures place { IsSoundIn U.carried stream.old (length piece.now)
+        → stream.new.at + length (cut_units U.carried stream.new) ≡ stream.old.at + length (cut_units U.carried stream.old) + result.taken }
     ensures only_last { last ≡ false → stream.new.ended ≡ stream.old.ended }
     ensures ended { last ≡ true → result.count < length out.old → 0 < stream.new.ended }
-    ensures cut { stream.new.cut_size ≤ 4 }
+    ensures cut { stream.new.cut_size ≤ U.widest }
     ensures closed { last ≡ true → result.count < length out.old → (stream.new.cut_size ≡ 0)
         × (stream.new.held_code ≡ 0) }
-    ensures gives { (cell : ℕ → Cell) (more : List ℕ) (to_come : List Break)
-        → Streams cell table.now stream.old (piece.now ++ more) to_come
+    ensures gives { (cell : ℕ → Cell) (more : List U) (to_come : List Break)
+        → StreamsIn U.pieces_of U.carried cell table.now stream.old (piece.now ++ more) to_come
         → (last ≡ true → more ≡ [])
-        → Gives cell table.now stream.old stream.new piece.now more last to_come result
+        → Gives U.pieces_of U.carried U.could_go_on cell table.now stream.old stream.new piece.now more last to_come result
         (given_in out.new result.count) (length out.old) }
 {
     let start = start_of(stream);
@@ -162,10 +164,10 @@ fn live_profile(stream: &Stream) -> Option<Profile>
 }
 
 /// Where a call begins.
-fn start_of(stream: &Stream) -> Feeding
+fn start_of<U: StreamUnit>(stream: &Stream) -> Feeding<U>
     ensures place { result.place ≡ place_of stream.now }
-    ensures cut { (result.cut.size ≤ 4) × (front_of result.cut ≡ cut_bytes stream.now)
-        × (result.cut.size ≡ length (cut_bytes stream.now)) }
+    ensures cut { (result.cut.size ≤ U.widest) × (front_of result.cut ≡ cut_units U.carried stream.now)
+        × (result.cut.size ≡ length (cut_units U.carried stream.now)) }
     ensures fresh { (result.taken ≡ 0) × (result.count ≡ 0) }
 {
     Feeding {
@@ -175,44 +177,48 @@ fn start_of(stream: &Stream) -> Feeding
             row: stream.row,
             held_code: stream.held_code,
         },
-        cut: cut_of(stream),
+        cut: U::cut_of(stream),
         taken: 0,
         count: 0,
     }
 }
 
 /// Writes how far a call has come into the stream.
-fn keep(stream: &mut Stream, here: Feeding)
-    requires { here.cut.size ≤ 4 }
+fn keep<U: StreamUnit>(stream: &mut Stream, here: Feeding<U>)
+    requires { here.cut.size ≤ U.widest }
     ensures place { place_of stream.new ≡ here.place }
-    ensures cut { (cut_bytes stream.new ≡ front_of here.cut) × (length (cut_bytes stream.new) ≡ here.cut.size)
+    ensures cut { (cut_units U.carried stream.new ≡ front_of here.cut) × (length (cut_units U.carried stream.new) ≡ here.cut.size)
         × (stream.new.cut_size ≡ here.cut.size) }
     ensures same { (stream.new.profile ≡ stream.old.profile) × (stream.new.ended ≡ stream.old.ended) }
 {
-    let cut = here.cut.bytes;
     stream.at = here.place.at;
     stream.held_at = here.place.held_at;
     stream.row = here.place.row;
     stream.held_code = here.place.held_code;
-    stream.cut = cut;
+    stream.cut = U::bytes_of(here.cut);
     stream.cut_size = here.cut.size as u8;
 }
 
 /// Takes the scalars that are left where nothing follows, until the block is full.
-fn finish(table: &FlatTable, profile: Profile, start: Feeding, out: &mut [RawBreak]) -> Feeding
-    requires { (start.cut.size ≤ 4) × (start.count ≤ length out.old) }
-    ensures within { (result.cut.size ≤ 4) × (result.count ≤ length out.old) × (result.taken ≡ start.taken) }
+fn finish<U: StreamUnit>(
+    table: &FlatTable,
+    profile: Profile,
+    start: Feeding<U>,
+    out: &mut [RawBreak],
+) -> Feeding<U>
+    requires { (start.cut.size ≤ U.widest) × (start.count ≤ length out.old) }
+    ensures within { (result.cut.size ≤ U.widest) × (result.count ≤ length out.old) × (result.taken ≡ start.taken) }
     ensures done { result.count < length out.old → result.cut.size ≡ 0 }
     ensures same { start.count ≡ length out.old → (result ≡ start) × (out.new ≡ out.old) }
     ensures breaks { AreBreaks out.old start.count → AreBreaks out.new result.count }
     ensures counted { AreFew start result }
     ensures ordered { (base from : ℕ) → base + start.taken < 2 ^ 64 → IsOrdered out.old base from start
         → IsOrdered out.new base from result }
-    ensures feeds { (cell : ℕ → Cell) (base : ℕ) (piece : List ℕ) (all : Ahead)
+    ensures feeds { (cell : ℕ → Cell) (base : ℕ) (piece : List U) (all : Ahead)
         → IsFlatOf table.now cell
         → (start.count < length out.old → start.taken ≡ length piece)
-        → Feeds profile cell base piece [] start all (given_in out.old start.count)
-        → Feeds profile cell base piece [] result all (given_in out.new result.count) }
+        → Feeds U.pieces_of profile cell base piece [] start all (given_in out.old start.count)
+        → Feeds U.pieces_of profile cell base piece [] result all (given_in out.new result.count) }
 {
     let mut here = start;
     while here.count < out.len() && 0 < here.cut.size {
@@ -222,11 +228,11 @@ fn finish(table: &FlatTable, profile: Profile, start: Feeding, out: &mut [RawBre
 }
 
 /// Writes how far a call has come into the stream, and the break at its end, where the block has room for it.
-fn close(stream: &mut Stream, here: Feeding, out: &mut [RawBreak]) -> Fed
-    requires { (here.cut.size ≤ 4) × (here.count ≤ length out.old) }
+fn close<U: StreamUnit>(stream: &mut Stream, here: Feeding<U>, out: &mut [RawBreak]) -> Fed
+    requires { (here.cut.size ≤ U.widest) × (here.count ≤ length out.old) }
     ensures within { (result.count ≤ length out.old) × (result.taken ≡ here.taken) }
     ensures breaks { AreBreaks out.old here.count → AreBreaks out.new result.count }
-    ensures few { result.count + most_left stream.new ≤ here.count + min here.place.held_code 1 + here.cut.size + 1 }
+    ensures few { result.count + most_left_in U.carried stream.new ≤ here.count + min here.place.held_code 1 + here.cut.size + 1 }
     ensures in_order { (base from : ℕ) → IsOrdered out.old base from here
         → AreInOrder out.new result.count from (suc here.place.at) }
     ensures placed { (base from : ℕ) → IsOrdered out.old base from here → stream.new.ended ≡ 0
@@ -236,9 +242,9 @@ fn close(stream: &mut Stream, here: Feeding, out: &mut [RawBreak]) -> Fed
     ensures profile_same { stream.new.profile ≡ stream.old.profile }
     ensures full { here.count ≡ length out.old → (result.count ≡ here.count) × (out.new ≡ out.old)
         × (place_of stream.new ≡ here.place)
-        × (cut_bytes stream.new ≡ front_of here.cut) × (stream.new.ended ≡ stream.old.ended) }
+        × (cut_units U.carried stream.new ≡ front_of here.cut) × (stream.new.ended ≡ stream.old.ended) }
     ensures ended { here.count < length out.old → (stream.new.ended ≡ 1) × (stream.new.held_code ≡ 0) }
-    ensures seen { (stream.new.at ≡ here.place.at) × (length (cut_bytes stream.new) ≡ here.cut.size)
+    ensures seen { (stream.new.at ≡ here.place.at) × (length (cut_units U.carried stream.new) ≡ here.cut.size)
         × (stream.new.cut_size ≡ here.cut.size) }
     ensures end { here.count < length out.old
         → (profile : Profile) (cell : ℕ → Cell) (taken : List ℕ)

@@ -1,8 +1,8 @@
 //! One scalar of a stream.
 
-ghost use Rattle.std.specs.Prelude.{◌≡◌, ℕ, min, ◌+◌, ◌<◌, ◌≤◌, ◌%◌, ◌^◌, true, false, List, drop, length};
+ghost use Rattle.std.specs.Prelude.{◌≡◌, ℕ, min, ◌+◌, ◌<◌, ◌≤◌, ◌%◌, ◌^◌, ◌∷◌, true, false, List, length};
 ghost use Rattle.std.specs.Prelude.{if◌then◌else◌};
-ghost use Rattle.bstr.specs.Utf8.{decoded, or_replacement};
+ghost use Rattle.bstr.specs.Utf8.{Decoded, or_replacement};
 ghost use Rattle.lbk_rules.specs.declared.Cell.{Cell};
 ghost use Rattle.lbk_values.specs.declared.profile.Profile.{Profile};
 ghost use Rattle.lbk_values.specs.declared.profile.Profile.TheVariants.{Second};
@@ -28,7 +28,7 @@ pub(crate) struct Step {
     pub(crate) passed: bool,
 }
 
-/// Takes the scalar `c` of `size` bytes: first it decides the position that waits, and then the one before the scalar.
+/// Takes the scalar `c` of `size` units: first it decides the position that waits, and then the one before the scalar.
 pub(crate) fn take_scalar(
     table: &FlatTable,
     profile: Profile,
@@ -47,11 +47,11 @@ pub(crate) fn take_scalar(
     ensures at { result.place.at ≡ (if result.passed then (place.at + size) % 2 ^ 64 else place.at) }
     ensures placed { (from : ℕ) → 0 < size → place.at + size < 2 ^ 64 → IsPlaced out.old count from place
         → IsPlaced out.new result.count from result.place }
-    ensures stands { (cell : ℕ → Cell) (bytes : List ℕ) (all : Ahead)
+    ensures stands { (cell : ℕ → Cell) (p : Decoded) (ps : List Decoded) (all : Ahead)
         → IsFlatOf table.now cell
-        → 0 < length bytes → c ≡ or_replacement (decoded bytes).char → size ≡ (decoded bytes).size
-        → Stands profile cell place bytes all (given_in out.old count)
-        → Stands profile cell result.place (if result.passed then drop size bytes else bytes) all
+        → c ≡ or_replacement p.char → size ≡ p.size → 0 < size → place.at + size < 2 ^ 64
+        → Stands profile cell place (p ∷ ps) all (given_in out.old count)
+        → Stands profile cell result.place (if result.passed then ps else p ∷ ps) all
         (given_in out.new result.count) }
 {
     let met = meet(table, place, c, out, count);
@@ -72,11 +72,11 @@ fn meet(table: &FlatTable, place: Place, c: char, out: &mut [RawBreak], count: u
     ensures placed { (from : ℕ) → IsPlaced out.old count from place → IsPlaced out.new result.count from result.place }
     ensures joins { (cell : ℕ → Cell) → AreFlatKinds table.now.kinds cell → 0 < result.place.held_code
         → mark (normal (cell c)).class ≡ true }
-    ensures stands { (profile : Profile) (cell : ℕ → Cell) (bytes : List ℕ) (all : Ahead)
+    ensures stands { (profile : Profile) (cell : ℕ → Cell) (p : Decoded) (ps : List Decoded) (all : Ahead)
         → IsFlatOf table.now cell
-        → 0 < length bytes → c ≡ or_replacement (decoded bytes).char
-        → Stands profile cell place bytes all (given_in out.old count)
-        → Stands profile cell result.place bytes all (given_in out.new result.count) }
+        → c ≡ or_replacement p.char
+        → Stands profile cell place (p ∷ ps) all (given_in out.old count)
+        → Stands profile cell result.place (p ∷ ps) all (given_in out.new result.count) }
 {
     if place.held_code == 0 {
         return Step {
@@ -133,12 +133,12 @@ fn pass(
     ensures at { result.place.at ≡ (place.at + size) % 2 ^ 64 }
     ensures placed { (from : ℕ) → 0 < size → place.at + size < 2 ^ 64 → IsPlaced out.old count from place
         → IsPlaced out.new result.count from result.place }
-    ensures stands { (cell : ℕ → Cell) (bytes : List ℕ) (all : Ahead)
+    ensures stands { (cell : ℕ → Cell) (p : Decoded) (ps : List Decoded) (all : Ahead)
         → IsFlatOf table.now cell
-        → 0 < length bytes → c ≡ or_replacement (decoded bytes).char → size ≡ (decoded bytes).size
+        → c ≡ or_replacement p.char → size ≡ p.size → 0 < size → place.at + size < 2 ^ 64
         → (0 < place.held_code → mark (normal (cell c)).class ≡ true)
-        → Stands profile cell place bytes all (given_in out.old count)
-        → Stands profile cell result.place (drop size bytes) all (given_in out.new result.count) }
+        → Stands profile cell place (p ∷ ps) all (given_in out.old count)
+        → Stands profile cell result.place ps all (given_in out.new result.count) }
 {
     let kind = table.kinds[c as usize];
     let row = place_by(place.row);

@@ -15,7 +15,7 @@ use Rattle.lbk_rules.specs.Normal.{normal}
 use Rattle.lbk_bytes.specs.Reached.{scalars_of}
 use Rattle.lbk_units.specs.declared.unit.Piece.{Piece}
 use Rattle.lbk_units.specs.Front.{IsFront}
-use Rattle.lbk_units.specs.Reached.{on_from}
+use Rattle.lbk_units.specs.Reached.{Follows, on_from}
 use Rattle.lbk_units.specs.Units.{pieces_of_utf16, pieces_of_utf32, units_of, utf16_piece}
 
 -- what is left of a text
@@ -174,6 +174,15 @@ front-at pieces_of text at found inside front =
       some = here.some;
       within = omega (arith, here.within, left);
     }
+
+-- a text has the scalars that it has
+pub follows-text : {A : Type 0} (pieces_of : List A → List Decoded) (text : List A) → Follows pieces_of text (on_from pieces_of text)
+follows-text pieces_of text at found inside front = record {
+  piece = front.piece;
+  begins = front.begins ∙ ap (λ us. front.piece ∷ pieces_of us) (drop-drop found.size at text);
+  reads = front.reads;
+  sized = front.sized;
+}
 
 -- the normal cells of the rest of a text
 abbrev pub cells_on : {A : Type 0} → (List A → List Decoded) → (ℕ → Cell) → ℕ → List A → List Cell

@@ -10,10 +10,23 @@ use Rattle.lbk_rules.specs.Rows.{verdict_shown}
 use Rattle.lbk_bytes.specs.declared.deciding.Decided.{Decided}
 use Rattle.lbk_bytes.specs.declared.fill_state.FillState.{FillState}
 use Rattle.lbk_bytes.specs.Reached.{Ahead, Onward, onward_all, onward_to, scalars_of}
+use Rattle.lbk_units.specs.declared.unit.Piece.{Piece}
+use Rattle.lbk_units.specs.Front.{IsFront}
 
 -- the pieces of a text from each of its units on
 abbrev pub on_from : {A : Type 0} → (List A → List Decoded) → List A → ℕ → List Decoded
 on_from pieces_of text at = pieces_of (drop at text)
+
+-- what is read from this unit on begins with this scalar
+pub record BeginsAt (on : ℕ → List Decoded) (at : ℕ) (found : Piece) : Type 0 where
+  pub piece : Decoded
+  pub begins : on at ≡ piece ∷ on (at + found.size)
+  pub reads : or_replacement piece.char ≡ found.scalar
+  pub sized : piece.size ≡ found.size
+
+-- at each unit of a part of a text, the text has the scalar that the part has there
+abbrev pub Follows : {A : Type 0} → (List A → List Decoded) → List A → (ℕ → List Decoded) → Type 0
+Follows pieces_of part on = (at : ℕ) (found : Piece) → at < length part → IsFront pieces_of (drop at part) found → BeginsAt on at found
 
 -- after the scalars taken, the position at this unit is decided, and what begins there is taken
 pub record IsUnitDecided (profile : Profile) (cell : ℕ → Cell) (on : ℕ → List Decoded) (at : ℕ) (taken : List ℕ) (found : Decided) : Type 0 where

@@ -1,13 +1,14 @@
 //! A block that is filled with breaks.
 
 ghost use Rattle.std.specs.Prelude.{◌≡◌, ℕ, ◌+◌, ◌<◌, ◌≤◌, List, length};
+ghost use Rattle.bstr.specs.Utf8.{Decoded};
 ghost use Rattle.lbk_rules.specs.declared.Cell.{Cell};
 ghost use Rattle.lbk_values.specs.declared.profile.Profile.{Profile};
 ghost use Rattle.lbk_rules.specs.FlatTable.{AreFlatKinds, IsFlatOf};
 ghost use Rattle.lbk_rules.specs.Rows.{AreSteps, IsPlace, steps_in};
 ghost use Rattle.lbk_bytes.specs.Reached.{Ahead, IsInOrder};
 ghost use Rattle.lbk_bytes.specs.Shown.{given_in};
-ghost use Rattle.lbk_units.specs.Reached.{UnitsReached, on_from};
+ghost use Rattle.lbk_units.specs.Reached.{Follows, UnitsReached, on_from};
 
 use crate::deciding::decide_unit;
 use crate::unit::Unit;
@@ -62,11 +63,34 @@ fn further<U: Unit>(
         → UnitsReached profile cell (on_from U.pieces_of text.now) all here (given_in out.old here.count)
         → UnitsReached profile cell (on_from U.pieces_of text.now) all result (given_in out.new result.count) }
 {
-    let past = run(&table.kinds, rows_of(profile), here, text, out);
+    let past = fill_part(table, profile, here, text, out);
     if past.at < text.len() && past.count < out.len() {
         return take_one(table, profile, past, text, out);
     }
     past
+}
+
+/// Takes scalars of a part of a text until a held position comes, the block is full or the part ends. The part may be
+/// of any text that has the scalars of the part, whatever comes after them.
+#[inline(always)]
+pub fn fill_part<U: Unit>(
+    table: &FlatTable,
+    profile: Profile,
+    start: FillState,
+    part: &[U],
+    out: &mut [RawBreak],
+) -> FillState
+    requires { (start.count ≤ length out.old) × IsPlace start.row × (start.at ≤ length part.now) }
+    ensures within { (result.count ≤ length out.old) × IsPlace result.row × (result.at ≤ length part.now) }
+    ensures onward { (start.at ≤ result.at) × (start.count ≤ result.count) }
+    ensures in_order { (from : ℕ) → IsInOrder out.old start.count from start.at
+        → IsInOrder out.new result.count from result.at }
+    ensures reached { (cell : ℕ → Cell) (on : ℕ → List Decoded) (all : Ahead) → IsFlatOf table.now cell
+        → Follows U.pieces_of part.now on
+        → UnitsReached profile cell on all start (given_in out.old start.count)
+        → UnitsReached profile cell on all result (given_in out.new result.count) }
+{
+    run(&table.kinds, rows_of(profile), start, part, out)
 }
 
 /// Takes scalars as long as no held position comes. It calls nothing and stands apart, so that all it has stays in
@@ -85,10 +109,11 @@ fn run<U: Unit>(
     ensures onward { (start.at ≤ result.at) × (start.count ≤ result.count) }
     ensures in_order { (from : ℕ) → IsInOrder out.old start.count from start.at
         → IsInOrder out.new result.count from result.at }
-    ensures reached { (profile : Profile) (cell : ℕ → Cell) (all : Ahead)
+    ensures reached { (profile : Profile) (cell : ℕ → Cell) (on : ℕ → List Decoded) (all : Ahead)
         → steps.now ≡ steps_in profile → AreFlatKinds kinds.now cell
-        → UnitsReached profile cell (on_from U.pieces_of text.now) all start (given_in out.old start.count)
-        → UnitsReached profile cell (on_from U.pieces_of text.now) all result (given_in out.new result.count) }
+        → Follows U.pieces_of text.now on
+        → UnitsReached profile cell on all start (given_in out.old start.count)
+        → UnitsReached profile cell on all result (given_in out.new result.count) }
 {
     let mut count = start.count;
     let mut row = start.row;

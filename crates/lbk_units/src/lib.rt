@@ -12,7 +12,7 @@ mod utf16;
 mod utf32;
 mod utf8;
 
-pub use filling::fill_units;
+pub use filling::{fill_part, fill_units};
 pub use laws::same_in_each_encoding;
 pub use positions::{fill_positions, put_position};
 pub use unit::{Piece, Unit};

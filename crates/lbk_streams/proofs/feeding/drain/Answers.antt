@@ -1,11 +1,8 @@
-use Rattle.std.proofs.Common.{◌++◌, drop, arith}
-use Rattle.lbk_streams.specs.Stands.{front_of}
-use Rattle.lbk_bytes.proofs.CutLemmas.{closed-more}
+use Rattle.std.proofs.Common.{inl, arith}
 use Rattle.lbk_streams.proofs.feeding.drain.Goals as goal
 
 pub loop-here-preserved : goal.loop-here-preserved
-loop-here-preserved c =
-    let here = c.loop-here.here in
+loop-here-preserved g c =
     let take = c.take_cut-here in
     let within = take.ensures.within in
     let whole = c.is_whole.ensures.whole c.if-is_whole.true in
@@ -17,6 +14,5 @@ loop-here-preserved c =
       counted = omega (arith, take.ensures.counted, c.loop-here.invariant.counted);
       ordered = λ base from fits o. take.ensures.ordered base from (omega (arith, c.loop-here.invariant.taken)) (c.loop-here.invariant.ordered base from fits o);
       feeds = λ cell base piece more all flat start.
-          take.ensures.feeds cell base piece more all flat (closed-more (front_of here.cut) (drop here.taken piece ++ more) whole.1 whole.2)
-          (c.loop-here.invariant.feeds cell base piece more all flat start);
+          take.ensures.feeds cell base piece more all flat (inl whole.1) (c.loop-here.invariant.feeds cell base piece more all flat start);
     }

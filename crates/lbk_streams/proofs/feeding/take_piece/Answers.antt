@@ -2,7 +2,7 @@ use Rattle.std.proofs.Common.{arith}
 use Rattle.lbk_streams.proofs.feeding.take_piece.Goals as goal
 
 pub loop-here-init : goal.loop-here-init
-loop-here-init c =
+loop-here-init g c =
     let drain = c.drain-here in
     let within = drain.ensures.within in
     record {
@@ -18,10 +18,10 @@ loop-here-init c =
     }
 
 pub take_more-here-requires : goal.take_more-here-requires
-take_more-here-requires c = (c.loop-here.invariant.few (omega arith), omega arith, omega arith)
+take_more-here-requires g c = (c.loop-here.invariant.few (omega arith), omega arith, omega arith)
 
 pub loop-here-preserved : goal.loop-here-preserved
-loop-here-preserved c =
+loop-here-preserved g c =
     let l = c.loop-here in
     let take = c.take_more-here in
     let within = take.ensures.within in

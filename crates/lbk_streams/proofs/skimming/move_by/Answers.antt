@@ -1,11 +1,9 @@
-use Rattle.std.proofs.Common.{◌≡◌, ◌+◌, ◌%◌, ◌^◌, ◌<◌, ◌++◌, [], ◌∷◌, get_or, set, below_more, get_or-set_other, get_or-set_same, length, map, drop, take, sym, ap, ◌∙◌, arith}
-use Rattle.std.proofs.lemmas.List.{drop-drop, drop-set-lt, get_or-drop, length-set, map-append, take_more, take_more_set}
+use Rattle.std.proofs.Common.{◌≡◌, ◌+◌, ◌%◌, ◌^◌, ◌<◌, get_or, set, below_more, get_or-set_other, get_or-set_same, length, drop, sym, ap, ◌∙◌, arith}
+use Rattle.std.proofs.lemmas.List.{drop-drop, drop-set-lt, get_or-drop, length-set}
 use Rattle.lbk_bytes.specs.declared.raw_break.RawBreak.{RawBreak}
-use Rattle.lbk_bytes.specs.Shown.{given_in, shown}
-use Rattle.lbk_streams.specs.Stands.{moved}
 use Rattle.lbk_bytes.specs.Order.{no_break}
 use Rattle.lbk_streams.proofs.BreakLemmas.{AreBreaks-moved}
-use Rattle.lbk_streams.proofs.PlaceLemmas.{AreInOrder-moved, moved_raw}
+use Rattle.lbk_streams.proofs.PlaceLemmas.{AreInOrder-moved, given-moved, moved_raw}
 use Rattle.lbk_streams.proofs.skimming.move_by.Goals as goal
 
 pub loop-k-preserved : goal.loop-k-preserved
@@ -26,13 +24,7 @@ loop-k-preserved c =
     record {
       within = omega arith;
       room = omega (arith, length-set out k new, l.invariant.room);
-      front =
-          ap (map shown) (take_more_set out k new inside) ∙ map-append shown (take k out) (new ∷ [])
-          ∙ ap (λ xs. xs ++ moved by (shown old) ∷ []) l.invariant.front
-          ∙ ap (λ found. map (moved by) (given_in start k) ++ moved by (shown found) ∷ []) same
-          ∙ sym (map-append (moved by) (given_in start k) (shown (get_or start k none) ∷ []))
-          ∙ ap (map (moved by)) (sym (map-append shown (take k start) (get_or start k none ∷ [])))
-          ∙ ap (λ xs. map (moved by) (map shown xs)) (sym (take_more start k none inside_start));
+      same_length = length-set out k new ∙ l.invariant.same_length;
       breaks = λ all. AreBreaks-moved out k new.at c.args.count inside (omega arith) (l.invariant.breaks all);
       each =
           below_more (λ n. get_or (set out k new) n no_break ≡ moved_raw by (get_or start n no_break)) k
@@ -45,3 +37,9 @@ loop-k-preserved c =
 pub returns-clause-in_order : goal.returns-clause-in_order
 returns-clause-in_order c = λ from to fits o.
     AreInOrder-moved c.args.out.now c.loop-k.out c.args.count c.args.by from to (λ k few. c.loop-k.invariant.each k (omega arith)) fits o
+
+pub returns-clause-moved : goal.returns-clause-moved
+returns-clause-moved c = λ from to fits o.
+    let l = c.loop-k in
+    given-moved c.args.out.now l.out c.args.count c.args.by (omega (arith, c.requires)) (omega (arith, l.invariant.same_length, c.requires))
+    (λ k few. l.invariant.each k (omega arith)) (λ k few. let w = o.within k few in omega (arith, w.1))

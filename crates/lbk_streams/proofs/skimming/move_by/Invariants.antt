@@ -1,7 +1,5 @@
-use Rattle.std.proofs.Common.{◌-◌, ◌≡◌, ◌<◌, ◌≤◌, ℕ, get_or, drop, length, map}
+use Rattle.std.proofs.Common.{◌-◌, ◌≡◌, ◌<◌, ◌≤◌, ℕ, get_or, drop, length}
 use Rattle.lbk_bytes.specs.Order.{AreBreaks, no_break}
-use Rattle.lbk_bytes.specs.Shown.{given_in}
-use Rattle.lbk_streams.specs.Stands.{moved}
 use Rattle.lbk_streams.proofs.PlaceLemmas.{moved_raw}
 use Rattle.lbk_streams.proofs.skimming.move_by.Given as goal
 
@@ -9,7 +7,7 @@ abbrev pub invariant-loop-k : goal.invariant-loop-k
 invariant-loop-k l = record {
   within : l.k ≤ l.count;
   room : l.count ≤ length l.out;
-  front : given_in l.out l.k ≡ map (moved l.by) (given_in l.fn.out l.k);
+  same_length : length l.out ≡ length l.fn.out;
   breaks : AreBreaks l.fn.out l.count → AreBreaks l.out l.count;
   each : (j : ℕ) → j < l.k → get_or l.out j no_break ≡ moved_raw l.by (get_or l.fn.out j no_break);
   rest : drop l.k l.out ≡ drop l.k l.fn.out;

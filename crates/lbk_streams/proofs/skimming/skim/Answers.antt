@@ -9,7 +9,7 @@ use Rattle.lbk_streams.proofs.SkimLemmas.{Feeds-skim}
 use Rattle.lbk_streams.proofs.skimming.skim.Goals as goal
 
 pub returns-clause-feeds : goal.returns-clause-feeds
-returns-clause-feeds c = λ cell base more all flat feeds.
+returns-clause-feeds g c = λ cell base more all flat feeds.
     let here = c.args.here in
     let end = c.skim_into-end in
     let within = end.ensures.within in
@@ -19,19 +19,19 @@ returns-clause-feeds c = λ cell base more all flat feeds.
       row = end.result.row;
       held_code = here.place.held_code;
     } in
-    Feeds-skim c.args.profile cell base c.args.piece.now more here next end.result (here.count + end.result.count) all
+    Feeds-skim g.U.Unit.pieces_of c.args.profile cell base c.args.piece.now more here next end.result (here.count + end.result.count) all
     (given_in c.args.out.now here.count) (given_in end.new.room end.result.count) _ c.requires.0 within.2 within.3 refl
-    (λ coming at behind stands. end.ensures.stands cell more coming next flat c.requires.1 c.requires.3 behind at refl c.requires.1 stands)
+    (λ coming at behind fits stands. end.ensures.stands cell more coming next flat c.requires.1 c.requires.3 behind at refl c.requires.1 fits stands)
     (given-behind c.args.out.now end.new.room _ here.count end.result.count c.requires.2 (omega (arith, within.0)))
     feeds
 
 pub returns-clause-breaks : goal.returns-clause-breaks
-returns-clause-breaks c = λ all.
+returns-clause-breaks g c = λ all.
     let end = c.skim_into-end in
     AreBreaks-behind c.args.out.now end.new.room _ c.args.here.count end.result.count c.requires.2 (omega (arith, end.ensures.within.0)) all end.ensures.breaks
 
 pub returns-clause-ordered : goal.returns-clause-ordered
-returns-clause-ordered c = λ base from fits o.
+returns-clause-ordered g c = λ base from fits o.
     let here = c.args.here in
     let end = c.skim_into-end in
     let within = end.ensures.within in

@@ -13,23 +13,23 @@ use Rattle.lbk_streams.proofs.StandsLemmas.{Stands-settle}
 use Rattle.lbk_streams.proofs.taking.meet.Goals as goal
 
 pub returns-then-closes-clause-stands : goal.returns-then-closes-clause-stands
-returns-then-closes-clause-stands c = λ profile cell bytes all flat some is_char stands.
+returns-then-closes-clause-stands c = λ profile cell p ps all flat is_char stands.
     let place = c.args.place in
     let given = given_in c.args.out.now c.args.count in
     let held : (place.held_code == 0) ≡ false = grind (arith, nat_tests) in
     let told : told_by false (normal (cell c.args.c)) ≡ Some true =
     ap (told_by false) (sym (c.cell-cell.ensures cell flat.kinds)) ∙ sym c.unit_closes.ensures ∙ c.in-Some.is ∙ ap Some c.if-closes.true in
-    Stands-settle profile cell place bytes all given given c.args.c true some is_char held told (sym (append-nil given)) stands
+    Stands-settle profile cell place p ps all given given c.args.c true is_char held told (sym (append-nil given)) stands
 
 pub returns-clause-stands : goal.returns-clause-stands
-returns-clause-stands c = λ profile cell bytes all flat some is_char stands.
+returns-clause-stands c = λ profile cell p ps all flat is_char stands.
     let place = c.args.place in
     let given = given_in c.args.out.now c.args.count in
     let waits : 0 < place.held_code = omega arith in
     let held : (place.held_code == 0) ≡ false = grind (arith, nat_tests) in
     let told : told_by false (normal (cell c.args.c)) ≡ Some false =
     ap (told_by false) (sym (c.cell-cell.ensures cell flat.kinds)) ∙ sym c.unit_closes.ensures ∙ c.in-Some.is ∙ ap Some c.if-closes.false in
-    Stands-settle profile cell place bytes all given (given_in c.put-more.new.out c.put-more.result) c.args.c false some is_char held told
+    Stands-settle profile cell place p ps all given (given_in c.put-more.new.out c.put-more.result) c.args.c false is_char held told
     (c.put-more.ensures.front
     ∙ ap (λ n. given ++ with_break place.held_at (verdict_shown n) []) (c.shown_by-shown.ensures.same (stands.waits waits).coded)) stands
 

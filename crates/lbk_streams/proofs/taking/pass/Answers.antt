@@ -1,12 +1,11 @@
-use Rattle.std.proofs.Common.{◌+◌, ◌%◌, ◌^◌, ◌<◌, ◌++◌, [], ◌∷◌, drop, get_or, map, sym, ap, subst, ◌∙◌, refl, arith}
+use Rattle.std.proofs.Common.{◌+◌, ◌%◌, ◌^◌, ◌<◌, ◌++◌, [], ◌∷◌, get_or, map, sym, ap, subst, ◌∙◌, refl, arith}
 use Rattle.std.proofs.lemmas.List.{append-nil}
-use Rattle.bstr.specs.Utf8.{lossy_chars}
 use Rattle.lbk_rules.specs.Verdict.{verdict_between_in}
 use Rattle.lbk_rules.specs.Rows.{IsPlace, step_by, steps_in, verdict_shown}
 use Rattle.lbk_values.specs.declared.profile.Profile.TheVariants.{First}
 use Rattle.lbk_streams.specs.declared.stream.Place.{Place}
 use Rattle.lbk_bytes.specs.Bytes.{with_break}
-use Rattle.lbk_bytes.specs.Reached.{IsInOrder}
+use Rattle.lbk_bytes.specs.Reached.{IsInOrder, scalars_of}
 use Rattle.lbk_bytes.specs.Shown.{given_in}
 use Rattle.lbk_streams.specs.Stands.{Waits}
 use Rattle.lbk_streams.proofs.PlaceLemmas.{IsInOrder-at, IsPlaced-free, IsPlaced-held, next-held}
@@ -14,18 +13,18 @@ use Rattle.lbk_streams.proofs.StandsLemmas.{Stands-join, Stands-on, decides-late
 use Rattle.lbk_streams.proofs.taking.pass.Goals as goal
 
 pub returns-then-place-ne0-clause-stands : goal.returns-then-place-ne0-clause-stands
-returns-then-place-ne0-clause-stands c = λ cell bytes all flat some is_char is_size joins stands.
+returns-then-place-ne0-clause-stands c = λ cell p ps all flat is_char is_size some fits joins stands.
     let place = c.args.place in
     let first = c.step_in-first.result in
     let next : Place = record { at = (place.at + c.args.size) % 2 ^ 64; held_at = place.held_at; row = first.next; held_code = place.held_code } in
     let held : 0 < place.held_code = omega arith in
-    Stands-join c.args.profile cell place next bytes all (given_in c.args.out.now c.args.count) c.args.c c.args.size some is_char is_size held (joins held)
+    Stands-join c.args.profile cell place next p ps all (given_in c.args.out.now c.args.count) c.args.c c.args.size is_char is_size fits held (joins held)
     refl refl refl
     (knows-next cell c.args.table.now place.row c.args.c first flat c.ranges.c.0
     (λ at. c.step_in-first.ensures.read ∙ ap (λ r. step_by (steps_in First) r (get_or c.args.table.now.kinds c.args.c 0)) (c.place_by-row.ensures.same at))) stands
 
 pub returns-then-waits-clause-stands : goal.returns-then-waits-clause-stands
-returns-then-waits-clause-stands c = λ cell bytes all flat some is_char is_size joins stands.
+returns-then-waits-clause-stands c = λ cell p ps all flat is_char is_size some fits joins stands.
     let place = c.args.place in
     let profile = c.args.profile in
     let table = c.args.table.now in
@@ -40,22 +39,21 @@ returns-then-waits-clause-stands c = λ cell bytes all flat some is_char is_size
     let is_first = λ (at : IsPlace place.row). c.step_in-first.ensures.read ∙ ap (λ r. step_by (steps_in First) r kind) (c.place_by-row.ensures.same at) in
     let is_step = λ (at : IsPlace place.row).
     c.step_in-step.ensures.read ∙ ap (λ r. step_by (steps_in profile) r kind) (c.place_by-row.ensures.same at)
-    ∙ ap (λ p. step_by (steps_in p) place.row kind) second in
+    ∙ ap (λ q. step_by (steps_in q) place.row kind) second in
     let next : Place = record { at = (place.at + c.args.size) % 2 ^ 64; held_at = place.at; row = first.next; held_code = first.shown } in
-    let rest = drop c.args.size bytes in
     let given = given_in c.args.out.now c.args.count in
-    Stands-on profile cell place next bytes all given [] given x c.args.size some is_char is_size c.if-place-ne0.false
+    Stands-on profile cell place next p ps all given [] given x c.args.size is_char is_size some fits c.if-place-ne0.false
     refl (knows-next cell table place.row x first flat scalar is_first)
     (λ taken known.
-    decides-late cell table taken place next rest x first step flat known scalar is_first is_step held told.2 refl refl
-    ∙ ap (λ p. with_break place.at (verdict_between_in p (map cell taken) (cell x ∷ map cell (lossy_chars rest))) []) (sym second))
+    decides-late cell table taken place next ps x first step flat known scalar is_first is_step held told.2 refl refl
+    ∙ ap (λ q. with_break place.at (verdict_between_in q (map cell taken) (cell x ∷ map cell (scalars_of ps))) []) (sym second))
     (λ taken known onward _.
-    subst (λ p. Waits p cell (taken ++ x ∷ []) next) (sym second)
+    subst (λ q. Waits q cell (taken ++ x ∷ []) next) (sym second)
     (waits-now cell table taken place next x first step flat known scalar is_first is_step held told.2 refl refl onward))
     (sym (append-nil given)) stands
 
 pub returns-clause-stands : goal.returns-clause-stands
-returns-clause-stands c = λ cell bytes all flat some is_char is_size joins stands.
+returns-clause-stands c = λ cell p ps all flat is_char is_size some fits joins stands.
     let place = c.args.place in
     let profile = c.args.profile in
     let table = c.args.table.now in
@@ -69,14 +67,13 @@ returns-clause-stands c = λ cell bytes all flat some is_char is_size joins stan
     let quiet = c.waits.ensures.decided c.if-waits.false in
     let none = c.if-place-ne0.false in
     let next : Place = record { at = (place.at + c.args.size) % 2 ^ 64; held_at = place.held_at; row = first.next; held_code = place.held_code } in
-    let rest = drop c.args.size bytes in
-    let right = map cell (lossy_chars rest) in
+    let right = map cell (scalars_of ps) in
     let front = with_break place.at (verdict_shown step.shown) [] in
-    Stands-on profile cell place next bytes all (given_in c.args.out.now c.args.count) front (given_in c.put-more.new.out c.put-more.result)
-    x c.args.size some is_char is_size none
+    Stands-on profile cell place next p ps all (given_in c.args.out.now c.args.count) front (given_in c.put-more.new.out c.put-more.result)
+    x c.args.size is_char is_size some fits none
     refl (knows-next cell table place.row x first flat scalar is_first)
     (λ taken known.
-    ap (λ l. front ++ l) (late-none cell next rest none) ∙ append-nil front
+    ap (λ l. front ++ l) (late-none cell next ps none) ∙ append-nil front
     ∙ decides-now profile cell table taken place.at place.row x first step right flat known scalar is_first is_step quiet)
     (λ taken known onward waits. absurd (omega arith))
     c.put-more.ensures.front

@@ -1,7 +1,7 @@
-use Rattle.std.proofs.Common.{◌+◌, arith}
-use Rattle.lbk_units.specs.Reached.{on_from}
+use Rattle.std.proofs.Common.{◌+◌, subst, arith}
+use Rattle.lbk_units.specs.Front.{IsFront}
 use Rattle.lbk_units.proofs.ReachedLemmas.{reached-swift}
-use Rattle.lbk_units.proofs.UnitLemmas.{front-at}
+use Rattle.lbk_units.proofs.UnitLemmas.{front-at, rest-of}
 use Rattle.lbk_units.proofs.filling.run.Goals as goal
 
 pub overflow_add-at : goal.overflow_add-at
@@ -31,8 +31,9 @@ loop-count-preserved g c =
       in_order = λ from order.
           let here = l.invariant.in_order from order in
           (omega (arith, here.0), put.ensures.in_order from (l.at + found.size) (omega (arith, front.some)) here);
-      reached = λ profile cell all swift are_kinds start.
-          reached-swift profile cell (on_from of c.args.text.now) all c.args.steps.now c.args.kinds.now l.out put.new.out l.count put.result l.row l.at
-          found.scalar found.size front.piece step swift are_kinds c.front-piece.type_inv.1.1.0.1 front.begins front.reads front.sized front.some
-          c.step_at-step.ensures.read c.if-step-eq-HELD.false put.ensures.front (l.invariant.reached profile cell all swift are_kinds start);
+      reached = λ profile cell on all swift are_kinds follows start.
+          let there = follows l.at found (omega arith) (subst (λ us. IsFront of us found) (rest-of c.args.text.now l.at) c.front-piece.ensures) in
+          reached-swift profile cell on all c.args.steps.now c.args.kinds.now l.out put.new.out l.count put.result l.row l.at
+          found.scalar found.size there.piece step swift are_kinds c.front-piece.type_inv.1.1.0.1 there.begins there.reads there.sized front.some
+          c.step_at-step.ensures.read c.if-step-eq-HELD.false put.ensures.front (l.invariant.reached profile cell on all swift are_kinds follows start);
     }

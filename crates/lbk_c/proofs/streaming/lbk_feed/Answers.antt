@@ -1,0 +1,13 @@
+use Rattle.std.proofs.Common.{map, sym, subst, ◌∙◌}
+use Rattle.bstr.specs.Utf8.{pieces}
+use Rattle.lbk_rules.specs.Joins.{moved}
+use Rattle.lbk_bytes.proofs.PartLemmas.{part-onward}
+use Rattle.lbk_calls.proofs.UnitsComingLemmas.{pieces-part}
+use Rattle.lbk_streams.specs.Stands.{Streams}
+use Rattle.lbk_c.proofs.streaming.lbk_feed.Goals as goal
+
+pub returns-clause-part : goal.returns-clause-part
+returns-clause-part c = λ cell profile goes_on at text flat short starts.
+    subst (λ l. Streams cell c.args.table.now c.args.stream.now text l)
+    (pieces-part goes_on profile cell at (pieces text) ∙ sym (part-onward goes_on profile cell at text))
+    (c.feed.ensures.part cell profile goes_on at text flat short starts)
