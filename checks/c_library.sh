@@ -187,7 +187,7 @@ try_c() {
     for name in breaks save_table utf16 words; do
         tried "$1: $name.c" "$1" -std=c99 "${warnings[@]}" "${flags[@]}" "$top/examples/$name.c" "${links[@]}" -o "$here/built/$name-$1"
     done
-    for name in blocks chunks edges fuzz marks published streams cuts units; do
+    for name in blocks chunks edges fuzz marks published streams streams_utf16 cuts units; do
         tried "$1: $name.c" "$1" -std=c99 "${warnings[@]}" "${checks[@]}" "${flags[@]}" "$top/examples/$name.c" "${links[@]}" \
             -o "$here/built/$name-$1"
     done
@@ -204,6 +204,7 @@ try_c() {
     count "$1: edges.c" "$here/built/edges-$1"
     count "$1: fuzz.c" "$here/built/fuzz-$1" 5000 1 "${files[@]}"
     count "$1: streams.c" "$here/built/streams-$1" 20000 1 "${files[@]}"
+    count "$1: streams_utf16.c" "$here/built/streams_utf16-$1" 20000 1 "${files[@]}"
     count "$1: blocks.c" "$here/built/blocks-$1" 20000 1
     count "$1: cuts.c" "$here/built/cuts-$1" 5000 1 "${files[@]}"
     count "$1: units.c" "$here/built/units-$1" 20000 1 "${files[@]}" ${published:+"$here/test-lines"}

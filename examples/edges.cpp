@@ -49,6 +49,7 @@ static_assert(std::is_constructible_v<lbk::positions_utf16, lbk::table &, std::u
 static_assert(!std::is_constructible_v<lbk::positions_utf32, lbk::table &, std::u32string>);
 static_assert(std::is_constructible_v<lbk::words, std::string &> && !std::is_constructible_v<lbk::words, std::string>);
 static_assert(std::is_constructible_v<lbk::stream, lbk::table &> && !std::is_constructible_v<lbk::stream, lbk::table>);
+static_assert(!std::is_constructible_v<lbk::stream_utf16, lbk::table> && std::is_trivially_copyable_v<lbk::stream_utf16>);
 
 #if defined(__cpp_lib_ranges)
 static_assert(std::ranges::view<lbk::positions> && std::ranges::borrowed_range<lbk::positions>);
@@ -225,6 +226,24 @@ static void try_words()
     told("places among words", before->start == 0 && place->start == 4 && before != place && ++before == place);
 }
 
+// Each cutting of a text in UTF-16 into two pieces, also between the halves of a pair.
+static void try_unit_streams(const lbk_table &table)
+{
+    const std::u16string text = u"a \xD83D\xDE00 b\xD83D \xDE00\n c \u00BB d";
+    for (lbk::profile rules : {lbk::profile::first, lbk::profile::second}) {
+        these wanted = unit_places(lbk::breaks_utf16(table, text, rules));
+        for (std::size_t at = 0; at <= text.size(); at++) {
+            these found;
+            auto keep = [&found](lbk_break one) { found.push_back(one.at); };
+            lbk::stream_utf16 stream(table, rules);
+            stream.feed(std::u16string_view(text).substr(0, at), keep);
+            stream.feed(std::u16string_view(text).substr(at), keep);
+            stream.finish(keep);
+            told("a text in UTF-16 in pieces", found == wanted);
+        }
+    }
+}
+
 static void try_streams(const lbk_table &table)
 {
     std::string text;
@@ -386,6 +405,7 @@ int main(int words, char **word)
         try_cut_files(*table);
         try_words();
         try_streams(*table);
+        try_unit_streams(*table);
         try_bytes(*table);
         try_files(*table, word[1]);
         try_exceptions(*table, word[1]);

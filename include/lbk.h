@@ -21,7 +21,7 @@
  *   - Pointers to a table, a state, a stream and limits are not null. They are aligned for their types.
  *   - What a call writes overlaps nothing else that the call is given, and no other thread uses it during the call.
  *     A call writes its state or stream, and its block; lbk_read and lbk_read_published write the table.
- *   - A stream has fewer than 2^64 bytes.
+ *   - A stream has fewer than 2^64 units.
  *
  * Everything else is memory-safe: any bytes in the files, the text, the table, the state and the stream. Each call
  * then returns, and reads and writes only what it was given. A corrupt table, state or stream gives wrong breaks,
@@ -186,26 +186,27 @@ typedef struct lbk_state {
     uint8_t ended;   /* not 0 once the end was returned; lbk_breaks then returns 0 */
 } lbk_state;
 
-/* How far lbk_feed went in a text that arrives in pieces. All zeros mean its start in the first profile; set `profile`
- * for the second one.
+/* How far lbk_feed or lbk_feed_utf16 went in a text that arrives in pieces. All zeros mean its start in the first
+ * profile; set `profile` for the second one.
  *
  * A stream is a value: copy it, keep it, go back to it. It has no pointers, and no earlier piece is needed again.
  * Callers write `profile` at the start. They may read `at`, `ended`, `cut_size`, whether `held_code` is 0, and
- * `held_at` if it is not. The other fields are internal. */
+ * `held_at` if it is not. The other fields are internal. A unit is a byte for lbk_feed, and 16 bits for lbk_feed_utf16. */
 typedef struct lbk_stream {
-    uint64_t at;        /* the offset of the first byte that was not taken */
+    uint64_t at;        /* the offset of the first unit that was not taken */
     uint64_t held_at;   /* the offset that waits for what follows, if one does; only in the second profile */
-    uint16_t row;       /* internal: what is known of the bytes before `at` */
+    uint16_t row;       /* internal: what is known of the units before `at` */
     uint16_t held_code; /* the break at held_at if what follows leaves the quotation open; 0: no offset waits */
-    uint8_t cut[4];     /* the bytes after `at` that arrived already: the start of a character that a piece's end cut */
-    uint8_t cut_size;   /* how many bytes that is */
+    uint8_t cut[4];     /* the units after `at` that arrived already: the start of a character that a piece's end cut;
+                         * in UTF-16 two bytes a unit, the low one first */
+    uint8_t cut_size;   /* how many units that is */
     uint8_t profile;    /* LBK_FIRST or LBK_SECOND, perhaps with LBK_GOES_ON; no call changes it */
     uint8_t ended;      /* not 0 once the end was returned */
 } lbk_stream;
 
-/* What a call of lbk_feed did. */
+/* What a call of lbk_feed or lbk_feed_utf16 did. */
 typedef struct lbk_fed {
-    size_t taken; /* how many bytes of the piece were taken; pass the others again, in front of what follows */
+    size_t taken; /* how many units of the piece were taken; pass the others again, in front of what follows */
     size_t count; /* how many breaks are at the front of the block */
 } lbk_fed;
 
@@ -426,6 +427,17 @@ size_t lbk_breaks_utf32(const lbk_table *table, lbk_state *state, const uint32_t
 lbk_fed lbk_feed(const lbk_table *table, lbk_stream *stream, const char *piece, size_t size, bool last,
                  lbk_break *block, size_t room);
 
+/* As lbk_feed, for UTF-16 in the machine's byte order: `size`, `taken` and all offsets count units of 16 bits. A piece
+ * may end between the halves of a surrogate pair: the first half waits in the stream for the next piece.
+ *
+ *     uint16_t piece[2048];                                     .. the loop of lbk_feed, with ..
+ *     fed = lbk_feed_utf16(&table, &stream, piece + from, size - from, last, block, 64);
+ *
+ * The breaks are those that lbk_breaks_utf16 returns for the joined pieces. A lone surrogate is read as U+FFFD. Do not
+ * use a stream with another encoding than the one it began with: offsets would then be wrong, nothing worse. */
+lbk_fed lbk_feed_utf16(const lbk_table *table, lbk_stream *stream, const uint16_t *piece, size_t size, bool last,
+                       lbk_break *block, size_t room);
+
 /* The offsets of lbk_breaks as a bit mask, without kinds and rules: sets the bits of the next offsets at which a line
  * may or must end, clears all other bits of `count` words, and returns how many offsets the words cover.
  *
@@ -563,11 +575,7 @@ size_t lbk_cut(const lbk_table *table, const char *text, size_t size, size_t at)
 size_t lbk_cut_before(const lbk_table *table, const char *text, size_t size, size_t at);
 
 /* As lbk_cut and lbk_cut_before, for UTF-16 as lbk_breaks_utf16 reads it: `size`, `at` and the result count units. No
- * part begins inside a surrogate pair, with a corrupt table, too.
- *
- * UTF-16 that arrives in pieces has no call as lbk_feed. Keep the units that arrived, break those before
- * lbk_cut_before_utf16 of the last one with LBK_GOES_ON, and move the others to the front: so many are kept as the
- * longest paragraph has. */
+ * part begins inside a surrogate pair, with a corrupt table, too. */
 size_t lbk_cut_utf16(const lbk_table *table, const uint16_t *text, size_t size, size_t at);
 size_t lbk_cut_before_utf16(const lbk_table *table, const uint16_t *text, size_t size, size_t at);
 

@@ -959,21 +959,25 @@ private:
     call start_;
 };
 
-/// The breaks of a text that arrives in pieces, cut anywhere. It refers to its table; the table must outlive it. Copies are
-/// independent.
-class stream {
+namespace detail {
+
+/// The breaks of a text of units that arrives in pieces. A unit is a Number to C.
+template <typename Unit, typename Number, auto Feed>
+class unit_stream {
+    static_assert(sizeof(Unit) == sizeof(Number) && alignof(Unit) == alignof(Number));
+
 public:
-    explicit stream(const lbk_table &by, profile rules = profile::first) noexcept : table_(&by)
+    explicit unit_stream(const lbk_table &by, profile rules = profile::first) noexcept : table_(&by)
     {
         state_.profile = static_cast<std::uint8_t>(rules);
     }
 
-    explicit stream(const lbk_table &&, profile = profile::first) = delete;
-    explicit stream(const table &&, profile = profile::first) = delete;
+    explicit unit_stream(const lbk_table &&, profile = profile::first) = delete;
+    explicit unit_stream(const table &&, profile = profile::first) = delete;
 
     /// Takes the next piece, and calls `found` with each break that it settles. Offsets count from the start of the text.
     template <typename Found>
-    void feed(std::string_view piece, Found &&found)
+    void feed(std::basic_string_view<Unit> piece, Found &&found)
     {
         take(piece, false, found);
     }
@@ -990,19 +994,28 @@ private:
     lbk_stream state_ = {};
 
     template <typename Found>
-    void take(std::string_view piece, bool last, Found &found)
+    void take(std::basic_string_view<Unit> piece, bool last, Found &found)
     {
         constexpr std::size_t room = 64;
         lbk_break block[room];
         lbk_fed fed;
         do {
-            fed = lbk_feed(table_, &state_, piece.data(), piece.size(), last, block, room);
+            fed = Feed(table_, &state_, reinterpret_cast<const Number *>(piece.data()), piece.size(), last, block, room);
             piece.remove_prefix(fed.taken);
             for (std::size_t k = 0; k < fed.count; k++)
                 found(block[k]);
         } while (fed.count == room);
     }
 };
+
+} // namespace detail
+
+/// The breaks of a text that arrives in pieces, cut anywhere. It refers to its table; the table must outlive it. Copies are
+/// independent.
+using stream = detail::unit_stream<char, char, lbk_feed>;
+
+/// The same for a text in UTF-16, which may also be cut inside a surrogate pair. Offsets are in units.
+using stream_utf16 = detail::unit_stream<char16_t, std::uint16_t, lbk_feed_utf16>;
 
 /// The name of a rule without `LB`, such as "8a"; empty for a number that no rule has.
 inline std::string label(std::uint8_t rule) { return lbk_label(rule).text; }
