@@ -247,6 +247,40 @@ static void run_in_thread(const char *what, void *(*call)(void *))
 }
 
 /* The calls over a text, in both profiles. */
+/* The bytes of the text in pieces, as if they were units of 16 bits. */
+static void *do_unit_feed(void *none)
+{
+    const uint16_t *units = (const void *)text.at;
+    lbk_stream stream = {0};
+    size_t from = 0, whole = text.size / 2;
+    bool last;
+    stream.profile = profile;
+    do {
+        size_t size = whole - from < PIECE ? whole - from : PIECE;
+        last = from + size == whole;
+        lbk_fed fed;
+        do {
+            fed = lbk_feed_utf16(&table, &stream, units + from, size, last, block, ROOM);
+            from += fed.taken;
+            size -= fed.taken;
+            total += fed.count;
+        } while (fed.count == ROOM);
+    } while (!last);
+    return none;
+}
+
+static void *do_unit_breaks(void *none)
+{
+    lbk_state state = {0};
+    size_t count;
+    state.profile = profile;
+    do {
+        count = lbk_breaks_utf16(&table, &state, (const void *)text.at, text.size / 2, block, ROOM);
+        total += count;
+    } while (count == ROOM);
+    return none;
+}
+
 static void try_text(void)
 {
     for (profile = 0; profile < 2; profile++) {
@@ -267,6 +301,10 @@ static void try_text(void)
         told("lbk_positions gives positions", total > breaks);
         run_in_thread("UTF-16, UTF-32", do_units);
         told("each unit of 32 bits has a position, and the end", total > text.size / 4);
+        run_in_thread("lbk_breaks_utf16", do_unit_breaks);
+        breaks = total;
+        run_in_thread("lbk_feed_utf16", do_unit_feed);
+        told("lbk_feed_utf16 gives as many breaks as lbk_breaks_utf16", total == breaks);
     }
     run_in_thread("lbk_words", do_words);
     told("lbk_words gives words", total > 0 || text.size == 0);
