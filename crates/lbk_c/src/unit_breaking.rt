@@ -13,6 +13,7 @@ ghost use Rattle.lbk_bytes.specs.Shown.{given_in};
 ghost use Rattle.lbk_units.specs.Encodings.{encode_utf16_all, placed_in};
 ghost use Rattle.lbk_units.specs.Units.{breaks_of_part_of, breaks_of_utf16, breaks_of_utf32, pieces_of_utf16};
 ghost use Rattle.lbk_units.specs.Units.{pieces_of_utf32};
+ghost use Rattle.lbk_calls.specs.Calls.{GivesNext, GoesOver};
 ghost use Rattle.lbk_calls.specs.State.{part_start, start_in};
 ghost use Rattle.lbk_calls.specs.UnitsComing.{UnitsCome};
 
@@ -34,16 +35,7 @@ pub extern "C" fn lbk_breaks_utf16(
     text: &[u16],
     out: &mut [RawBreak],
 ) -> usize
-    ensures within { result ≤ length out.old }
-    ensures profile_same { state.new.profile ≡ state.old.profile }
-    ensures in_order { AreInOrder out.new result state.old.at (suc (length text.now)) }
-    ensures before_state { state.new.ended ≡ 0 → AreInOrder out.new result state.old.at state.new.at }
-    ensures forward { 0 < result → (state.old.at < state.new.at) ⊎ (0 < state.new.ended) }
-    ensures onward { state.old.at ≤ state.new.at }
-    ensures inside { state.old.at ≤ length text.now → state.new.at ≤ length text.now }
-    ensures at_end { state.old.ended ≡ 0 → 0 < state.new.ended → state.new.at ≡ length text.now }
-    ensures all { state.old.profile ≤ 3 → state.old.at ≤ length text.now → result < length out.old
-        → 0 < state.new.ended }
+    ensures goes_over { GoesOver AreInOrder state.old state.new (length text.now) (length out.old) out.new result }
     ensures start { (cell : ℕ → Cell) (profile : Profile) → IsFlatOf table.now cell → state.old ≡ start_in profile
         → UnitsCome pieces_of_utf16 cell table.now text.now state.old (breaks_of_utf16 profile cell text.now) }
     // A part of the text that begins at any of its units, and after which the text may go on.
@@ -52,24 +44,15 @@ pub extern "C" fn lbk_breaks_utf16(
         → state.old ≡ part_start goes_on profile at
         → UnitsCome pieces_of_utf16 cell table.now text.now state.old
         (map (moved at) (breaks_of_part_of goes_on profile cell (pieces_of_utf16 (drop at text.now)))) }
-    ensures count { (cell : ℕ → Cell) (to_come : List Break)
-        → UnitsCome pieces_of_utf16 cell table.now text.now state.old to_come
-        → result ≡ min (length out.old) (length to_come) }
-    ensures front { (cell : ℕ → Cell) (to_come : List Break)
-        → UnitsCome pieces_of_utf16 cell table.now text.now state.old to_come
-        → given_in out.new result ≡ take result to_come }
-    ensures rest { (cell : ℕ → Cell) (to_come : List Break)
-        → UnitsCome pieces_of_utf16 cell table.now text.now state.old to_come
-        → UnitsCome pieces_of_utf16 cell table.now text.now state.new (drop result to_come) }
+    ensures gives { (cell : ℕ → Cell) (to_come : List Break) → UnitsCome pieces_of_utf16 cell table.now text.now
+        state.old to_come
+        → GivesNext (UnitsCome pieces_of_utf16 cell table.now text.now) state.new (length out.old) out.new result
+        to_come }
     // Of well-formed text the breaks are those of its scalars.
     ensures well_formed { (cell : ℕ → Cell) (profile : Profile) (scalars : List ℕ) → all_scalars scalars ≡ true
         → text.now ≡ encode_utf16_all scalars
         → breaks_of_utf16 profile cell text.now
         ≡ map (placed_in encode_utf16_all scalars) (breaks_of_utf32 profile cell scalars) }
-    ensures ended { 0 < state.old.ended → (result ≡ 0) × (state.new ≡ state.old) }
-    ensures past { length text.now < state.old.at → (result ≡ 0) × (state.new ≡ state.old) }
-    ensures unknown { 3 < state.old.profile → (result ≡ 0) × (state.new ≡ state.old) }
-    ensures no_room { length out.old ≡ 0 → (result ≡ 0) × (state.new ≡ state.old) }
 {
     lbk_calls::lbk_breaks_utf16(table, state, text, out)
 }
@@ -88,16 +71,7 @@ pub extern "C" fn lbk_breaks_utf32(
     text: &[u32],
     out: &mut [RawBreak],
 ) -> usize
-    ensures within { result ≤ length out.old }
-    ensures profile_same { state.new.profile ≡ state.old.profile }
-    ensures in_order { AreInOrder out.new result state.old.at (suc (length text.now)) }
-    ensures before_state { state.new.ended ≡ 0 → AreInOrder out.new result state.old.at state.new.at }
-    ensures forward { 0 < result → (state.old.at < state.new.at) ⊎ (0 < state.new.ended) }
-    ensures onward { state.old.at ≤ state.new.at }
-    ensures inside { state.old.at ≤ length text.now → state.new.at ≤ length text.now }
-    ensures at_end { state.old.ended ≡ 0 → 0 < state.new.ended → state.new.at ≡ length text.now }
-    ensures all { state.old.profile ≤ 3 → state.old.at ≤ length text.now → result < length out.old
-        → 0 < state.new.ended }
+    ensures goes_over { GoesOver AreInOrder state.old state.new (length text.now) (length out.old) out.new result }
     ensures start { (cell : ℕ → Cell) (profile : Profile) → IsFlatOf table.now cell → state.old ≡ start_in profile
         → UnitsCome pieces_of_utf32 cell table.now text.now state.old (breaks_of_utf32 profile cell text.now) }
     ensures part { (cell : ℕ → Cell) (profile : Profile) (goes_on : Bool) (at : ℕ) → IsFlatOf table.now cell
@@ -105,23 +79,14 @@ pub extern "C" fn lbk_breaks_utf32(
         → state.old ≡ part_start goes_on profile at
         → UnitsCome pieces_of_utf32 cell table.now text.now state.old
         (map (moved at) (breaks_of_part_of goes_on profile cell (pieces_of_utf32 (drop at text.now)))) }
-    ensures count { (cell : ℕ → Cell) (to_come : List Break)
-        → UnitsCome pieces_of_utf32 cell table.now text.now state.old to_come
-        → result ≡ min (length out.old) (length to_come) }
-    ensures front { (cell : ℕ → Cell) (to_come : List Break)
-        → UnitsCome pieces_of_utf32 cell table.now text.now state.old to_come
-        → given_in out.new result ≡ take result to_come }
-    ensures rest { (cell : ℕ → Cell) (to_come : List Break)
-        → UnitsCome pieces_of_utf32 cell table.now text.now state.old to_come
-        → UnitsCome pieces_of_utf32 cell table.now text.now state.new (drop result to_come) }
+    ensures gives { (cell : ℕ → Cell) (to_come : List Break) → UnitsCome pieces_of_utf32 cell table.now text.now
+        state.old to_come
+        → GivesNext (UnitsCome pieces_of_utf32 cell table.now text.now) state.new (length out.old) out.new result
+        to_come }
     // Of well-formed text the breaks are those of its scalars, which the rules know by their places in UTF-8.
     ensures well_formed { (cell : ℕ → Cell) (profile : Profile) → all_scalars text.now ≡ true
         → breaks profile cell text.now
         ≡ map (placed_in encode_utf8_all text.now) (breaks_of_utf32 profile cell text.now) }
-    ensures ended { 0 < state.old.ended → (result ≡ 0) × (state.new ≡ state.old) }
-    ensures past { length text.now < state.old.at → (result ≡ 0) × (state.new ≡ state.old) }
-    ensures unknown { 3 < state.old.profile → (result ≡ 0) × (state.new ≡ state.old) }
-    ensures no_room { length out.old ≡ 0 → (result ≡ 0) × (state.new ≡ state.old) }
 {
     next_breaks(table, state, text, out)
 }

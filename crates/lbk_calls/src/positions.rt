@@ -15,6 +15,7 @@ ghost use Rattle.lbk_units.specs.Encodings.{placed_in};
 ghost use Rattle.lbk_units.specs.Positions.{breaks_among, positions_of_bytes, positions_of_part_of};
 ghost use Rattle.lbk_units.specs.Positions.{positions_of_pieces, positions_of_utf32};
 ghost use Rattle.lbk_units.specs.Reached.{UnitsReachedBy, on_from};
+ghost use Rattle.lbk_calls.specs.Calls.{GivesNext, GoesOver};
 ghost use Rattle.lbk_calls.specs.Coming.{IsGoing, from_state};
 ghost use Rattle.lbk_calls.specs.State.{part_start, plain, start_in};
 ghost use Rattle.lbk_calls.specs.UnitsComing.{PositionsCome, UnitsGo, positions_in};
@@ -41,16 +42,8 @@ pub extern "C" fn lbk_positions(
     text: &[u8],
     out: &mut [RawBreak],
 ) -> usize
-    ensures within { result ≤ length out.old }
-    ensures profile_same { state.new.profile ≡ state.old.profile }
-    ensures in_order { ArePositionsInOrder out.new result state.old.at (suc (length text.now)) }
-    ensures before_state { state.new.ended ≡ 0 → ArePositionsInOrder out.new result state.old.at state.new.at }
-    ensures forward { 0 < result → (state.old.at < state.new.at) ⊎ (0 < state.new.ended) }
-    ensures onward { state.old.at ≤ state.new.at }
-    ensures inside { state.old.at ≤ length text.now → state.new.at ≤ length text.now }
-    ensures at_end { state.old.ended ≡ 0 → 0 < state.new.ended → state.new.at ≡ length text.now }
-    ensures all { state.old.profile ≤ 3 → state.old.at ≤ length text.now → result < length out.old
-        → 0 < state.new.ended }
+    ensures goes_over { GoesOver ArePositionsInOrder state.old state.new (length text.now) (length out.old) out.new
+        result }
     ensures start { (cell : ℕ → Cell) (profile : Profile) → IsFlatOf table.now cell → state.old ≡ start_in profile
         → PositionsCome pieces cell table.now text.now state.old (positions_of_bytes profile cell text.now) }
     // A part of the text that begins at any of its bytes, and after which the text may go on.
@@ -59,15 +52,9 @@ pub extern "C" fn lbk_positions(
         → state.old ≡ part_start goes_on profile at
         → PositionsCome pieces cell table.now text.now state.old
         (map (moved at) (positions_of_part_of goes_on profile cell (pieces (drop at text.now)))) }
-    ensures count { (cell : ℕ → Cell) (to_come : List Break)
-        → PositionsCome pieces cell table.now text.now state.old to_come
-        → result ≡ min (length out.old) (length to_come) }
-    ensures front { (cell : ℕ → Cell) (to_come : List Break)
-        → PositionsCome pieces cell table.now text.now state.old to_come
-        → given_in out.new result ≡ take result to_come }
-    ensures rest { (cell : ℕ → Cell) (to_come : List Break)
-        → PositionsCome pieces cell table.now text.now state.old to_come
-        → PositionsCome pieces cell table.now text.now state.new (drop result to_come) }
+    ensures gives { (cell : ℕ → Cell) (to_come : List Break) → PositionsCome pieces cell table.now text.now state.old
+        to_come
+        → GivesNext (PositionsCome pieces cell table.now text.now) state.new (length out.old) out.new result to_come }
     // The breaks of a text are those of its positions where a line may or must end.
     ensures breaks { (cell : ℕ → Cell) (profile : Profile)
         → breaks_among (positions_of_bytes profile cell text.now) ≡ breaks_of_bytes profile cell text.now }
@@ -76,10 +63,6 @@ pub extern "C" fn lbk_positions(
         → text.now ≡ encode_utf8_all scalars
         → positions_of_bytes profile cell text.now
         ≡ map (placed_in encode_utf8_all scalars) (positions_of_utf32 profile cell scalars) }
-    ensures ended { 0 < state.old.ended → (result ≡ 0) × (state.new ≡ state.old) }
-    ensures past { length text.now < state.old.at → (result ≡ 0) × (state.new ≡ state.old) }
-    ensures unknown { 3 < state.old.profile → (result ≡ 0) × (state.new ≡ state.old) }
-    ensures no_room { length out.old ≡ 0 → (result ≡ 0) × (state.new ≡ state.old) }
 {
     next_positions(table, state, text, out)
 }

@@ -24,7 +24,8 @@ pub(crate) fn take_piece<U: StreamUnit>(
     out: &mut [RawBreak],
 ) -> Feeding<U>
     requires { (start.cut.size ≤ U.widest) × (start.count ≤ length out.old) × (start.taken ≤ length piece.now) }
-    ensures within { (result.cut.size ≤ U.widest) × (result.count ≤ length out.old) × (result.taken ≤ length piece.now) }
+    ensures within { (result.cut.size ≤ U.widest) × (result.count ≤ length out.old) × (result.taken
+        ≤ length piece.now) }
     ensures all { result.count < length out.old → result.taken ≡ length piece.now }
     ensures unfinished { result.count < length out.old → (result.cut.size ≡ 0)
         ⊎ (U.could_go_on (front_of result.cut) ≡ true) }

@@ -80,7 +80,8 @@ pub trait StreamUnit: Unit {
             → IsInOrder out.new result.count from result.at }
         ensures reached { (cell : ℕ → Cell) (more : List Self) (all : Ahead)
             → IsFlatOf table.now cell
-            → UnitsReached profile cell (on_from Self.pieces_of (piece.now ++ more)) all start (given_in out.old start.count)
+            → UnitsReached profile cell (on_from Self.pieces_of (piece.now ++ more)) all start (given_in out.old
+            start.count)
             → UnitsReached profile cell (on_from Self.pieces_of (piece.now ++ more)) all result
             (given_in out.new result.count) };
 

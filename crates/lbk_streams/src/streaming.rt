@@ -43,7 +43,8 @@ pub fn feed<U: StreamUnit>(
     ensures profile_same { stream.new.profile ≡ stream.old.profile }
     // Of any table and stream: at most one break for each unit, one that waited and the end.
     ensures breaks { AreBreaks out.new result.count }
-    ensures few { result.count + most_left_in U.carried stream.new + (length piece.now - result.taken) ≤ most_left_in U.carried stream.old
+    ensures few { result.count + most_left_in U.carried stream.new + (length piece.now - result.taken)
+        ≤ most_left_in U.carried stream.old
         + length piece.now }
     // And of any table, from a stream's start on: their places rise, in a call and from one call to the next.
     ensures in_order { IsSoundIn U.carried stream.old (length piece.now)
@@ -51,14 +52,17 @@ pub fn feed<U: StreamUnit>(
     ensures before_stream { IsSoundIn U.carried stream.old (length piece.now) → stream.new.ended ≡ 0
         → (next_place (place_of stream.old) ≤ next_place (place_of stream.new))
         × AreInOrder out.new result.count (next_place (place_of stream.old)) (next_place (place_of stream.new)) }
-    ensures sound { IsSoundIn U.carried stream.old (length piece.now) → IsSoundIn U.carried stream.new (length piece.now - result.taken) }
+    ensures sound { IsSoundIn U.carried stream.old (length piece.now)
+        → IsSoundIn U.carried stream.new (length piece.now - result.taken) }
     ensures place { IsSoundIn U.carried stream.old (length piece.now) → stream.old.ended ≡ 0 → stream.old.profile ≤ 3
-        → stream.new.at + length (cut_units U.carried stream.new) ≡ stream.old.at + length (cut_units U.carried stream.old) + result.taken }
+        → stream.new.at + length (cut_units U.carried stream.new)
+        ≡ stream.old.at + length (cut_units U.carried stream.old) + result.taken }
     ensures only_last { last ≡ false → stream.new.ended ≡ stream.old.ended }
     ensures start { (cell : ℕ → Cell) (profile : Profile) (text : List U) → IsFlatOf table.now cell
         → length text < 2 ^ 64
         → stream.old ≡ stream_start profile
-        → StreamsIn U.pieces_of U.carried cell table.now stream.old text (breaks_of_pieces profile cell (U.pieces_of text)) }
+        → StreamsIn U.pieces_of U.carried cell table.now stream.old text (breaks_of_pieces profile cell (U.pieces_of
+        text)) }
     // A part of a text: places count from the text's start, if the part's place is given, and the text may go on
     // after it.
     ensures part { (cell : ℕ → Cell) (profile : Profile) (goes_on : Bool) (at : ℕ) (text : List U)
@@ -73,7 +77,8 @@ pub fn feed<U: StreamUnit>(
     ensures rest { (cell : ℕ → Cell) (more : List U) (to_come : List Break)
         → StreamsIn U.pieces_of U.carried cell table.now stream.old (piece.now ++ more) to_come
         → (last ≡ true → more ≡ [])
-        → StreamsIn U.pieces_of U.carried cell table.now stream.new (drop result.taken piece.now ++ more) (drop result.count to_come) }
+        → StreamsIn U.pieces_of U.carried cell table.now stream.new (drop result.taken piece.now ++ more) (drop
+        result.count to_come) }
     ensures settled { (cell : ℕ → Cell) (more : List U) (to_come : List Break)
         → StreamsIn U.pieces_of U.carried cell table.now stream.old (piece.now ++ more) to_come
         → last ≡ false → stream.old.ended ≡ 0 → result.count < length out.old
@@ -81,11 +86,13 @@ pub fn feed<U: StreamUnit>(
     ensures seen { (cell : ℕ → Cell) (more : List U) (to_come : List Break)
         → StreamsIn U.pieces_of U.carried cell table.now stream.old (piece.now ++ more) to_come
         → (last ≡ true → more ≡ []) → stream.old.ended ≡ 0
-        → stream.new.at + length (cut_units U.carried stream.new) ≡ stream.old.at + length (cut_units U.carried stream.old) + result.taken }
+        → stream.new.at + length (cut_units U.carried stream.new)
+        ≡ stream.old.at + length (cut_units U.carried stream.old) + result.taken }
     ensures cut { stream.old.cut_size ≤ U.widest → stream.new.cut_size ≤ U.widest }
     ensures closed { last ≡ true → stream.old.ended ≡ 0 → stream.old.profile ≤ 3 → result.count < length out.old
         → (stream.new.cut_size ≡ 0) × (stream.new.held_code ≡ 0) }
-    ensures end { (cell : ℕ → Cell) (to_come : List Break) → StreamsIn U.pieces_of U.carried cell table.now stream.old piece.now to_come
+    ensures end { (cell : ℕ → Cell) (to_come : List Break) → StreamsIn U.pieces_of U.carried cell table.now stream.old
+        piece.now to_come
         → last ≡ true → result.count < length out.old → result.count ≡ length to_come }
     ensures ended { last ≡ true → result.count < length out.old → 0 < stream.new.ended ⊎ (3 < stream.old.profile) }
     ensures stays { 0 < stream.old.ended ⊎ ((3 < stream.old.profile) ⊎ (length out.old ≡ 0)) → (result.count ≡ 0)
@@ -118,16 +125,19 @@ fn go_with<U: StreamUnit>(
     ensures all_taken { result.count < length out.old → result.taken ≡ length piece.now }
     ensures profile_same { stream.new.profile ≡ stream.old.profile }
     ensures breaks { AreBreaks out.new result.count }
-    ensures few { result.count + most_left_in U.carried stream.new + (length piece.now - result.taken) ≤ most_left_in U.carried stream.old
+    ensures few { result.count + most_left_in U.carried stream.new + (length piece.now - result.taken)
+        ≤ most_left_in U.carried stream.old
         + length piece.now }
     ensures in_order { IsSoundIn U.carried stream.old (length piece.now)
         → AreInOrder out.new result.count (next_place (place_of stream.old)) (suc stream.new.at) }
     ensures before_stream { IsSoundIn U.carried stream.old (length piece.now) → stream.new.ended ≡ 0
         → (next_place (place_of stream.old) ≤ next_place (place_of stream.new))
         × AreInOrder out.new result.count (next_place (place_of stream.old)) (next_place (place_of stream.new)) }
-    ensures sound { IsSoundIn U.carried stream.old (length piece.now) → IsSoundIn U.carried stream.new (length piece.now - result.taken) }
+    ensures sound { IsSoundIn U.carried stream.old (length piece.now)
+        → IsSoundIn U.carried stream.new (length piece.now - result.taken) }
     ensures place { IsSoundIn U.carried stream.old (length piece.now)
-        → stream.new.at + length (cut_units U.carried stream.new) ≡ stream.old.at + length (cut_units U.carried stream.old) + result.taken }
+        → stream.new.at + length (cut_units U.carried stream.new)
+        ≡ stream.old.at + length (cut_units U.carried stream.old) + result.taken }
     ensures only_last { last ≡ false → stream.new.ended ≡ stream.old.ended }
     ensures ended { last ≡ true → result.count < length out.old → 0 < stream.new.ended }
     ensures cut { stream.new.cut_size ≤ U.widest }
@@ -136,7 +146,8 @@ fn go_with<U: StreamUnit>(
     ensures gives { (cell : ℕ → Cell) (more : List U) (to_come : List Break)
         → StreamsIn U.pieces_of U.carried cell table.now stream.old (piece.now ++ more) to_come
         → (last ≡ true → more ≡ [])
-        → Gives U.pieces_of U.carried U.could_go_on cell table.now stream.old stream.new piece.now more last to_come result
+        → Gives U.pieces_of U.carried U.could_go_on cell table.now stream.old stream.new piece.now more last to_come
+        result
         (given_in out.new result.count) (length out.old) }
 {
     let start = start_of(stream);
@@ -187,7 +198,8 @@ fn start_of<U: StreamUnit>(stream: &Stream) -> Feeding<U>
 fn keep<U: StreamUnit>(stream: &mut Stream, here: Feeding<U>)
     requires { here.cut.size ≤ U.widest }
     ensures place { place_of stream.new ≡ here.place }
-    ensures cut { (cut_units U.carried stream.new ≡ front_of here.cut) × (length (cut_units U.carried stream.new) ≡ here.cut.size)
+    ensures cut { (cut_units U.carried stream.new ≡ front_of here.cut) × (length (cut_units U.carried stream.new)
+        ≡ here.cut.size)
         × (stream.new.cut_size ≡ here.cut.size) }
     ensures same { (stream.new.profile ≡ stream.old.profile) × (stream.new.ended ≡ stream.old.ended) }
 {
@@ -232,7 +244,8 @@ fn close<U: StreamUnit>(stream: &mut Stream, here: Feeding<U>, out: &mut [RawBre
     requires { (here.cut.size ≤ U.widest) × (here.count ≤ length out.old) }
     ensures within { (result.count ≤ length out.old) × (result.taken ≡ here.taken) }
     ensures breaks { AreBreaks out.old here.count → AreBreaks out.new result.count }
-    ensures few { result.count + most_left_in U.carried stream.new ≤ here.count + min here.place.held_code 1 + here.cut.size + 1 }
+    ensures few { result.count + most_left_in U.carried stream.new
+        ≤ here.count + min here.place.held_code 1 + here.cut.size + 1 }
     ensures in_order { (base from : ℕ) → IsOrdered out.old base from here
         → AreInOrder out.new result.count from (suc here.place.at) }
     ensures placed { (base from : ℕ) → IsOrdered out.old base from here → stream.new.ended ≡ 0

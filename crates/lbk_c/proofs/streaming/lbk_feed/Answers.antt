@@ -1,6 +1,5 @@
-use Rattle.std.proofs.Common.{map, sym, subst, ◌∙◌}
+use Rattle.std.proofs.Common.{sym, subst, ◌∙◌}
 use Rattle.bstr.specs.Utf8.{pieces}
-use Rattle.lbk_rules.specs.Joins.{moved}
 use Rattle.lbk_bytes.proofs.PartLemmas.{part-onward}
 use Rattle.lbk_calls.proofs.UnitsComingLemmas.{pieces-part}
 use Rattle.lbk_streams.specs.Stands.{Streams}
