@@ -317,8 +317,8 @@ lbk_fault lbk_read_published(lbk_table *table, const void *line_break, size_t li
  * file: the missing code points then have the property's default value. Allocates nothing. */
 bool lbk_is_cut(const void *file, size_t size);
 
-/* Describes, in English, a file that Unicode 15.0.0 did not publish: its version ("this is Unicode 14.0.0, and lbk
- * needs 15.0.0"), that it was changed or cut, or that it is another file. `file` is the number of the file that was
+/* Describes, in English, a file that Unicode 15.0.0 did not publish: one of another version ("this is Unicode 14.0.0,
+ * and lbk needs 15.0.0"), one that was changed or cut, or another file. `file` is the number of the file that was
  * expected (lbk_fault.file); the text is empty for any other number. Allocates nothing. */
 lbk_text lbk_claim_text(uint32_t file, const void *contents, size_t size);
 
