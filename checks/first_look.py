@@ -36,6 +36,7 @@ WORDS = [
     ["mark", *FILES, "--sign", "|", "--sign", "+"], ["mark", *FILES, "--sign"], ["show", *FILES, "--name", "x"], ["replay", "--kind"],
 ]  # fmt: skip
 SECONDS = 1  # of processor time
+SAID = ("nothing of this run is proved", "./lbk --prove", "rt ci")
 # The interpreter of `rt try` has no answer for a program that reads files, and is given one step.
 INTERPRETER = ["--steps", "1"]
 STAND_IN = """#!/bin/sh
@@ -127,7 +128,7 @@ def handed_over(tally, clone):
     out = b"==> handed-over-4 <==\n==> handed-over-4\nwrote"
     tally.equal("what the program wrote and its status", (ended.out, ended.status), (out, 1))
     head = ended.err.decode().splitlines()[0]
-    tally.tell("it is said that nothing is proved, and how to go on", None if "nothing of this run is proved" in head and "./lbk --prove" in head else head)
+    tally.tell("it is said that nothing is proved, and how to go on", None if all(it in head for it in SAID) else head)
     ended, _ = clone.run(["--unproved", "mark", "--ucd", "ucd", "text", "--limit=9", "other"])
     tally.equal("the same is handed over with --unproved", clone.tried(), wanted)
     ended, _ = clone.run(["mark", *FILES, "-", "text"], b"read")
