@@ -75,7 +75,7 @@ shared_app app = with_rule (with_rule (with_rule app profile_rule) (flag_rule (c
 abbrev pub ranged_app : App → App
 ranged_app app = shared_app (with_rule (with_rule (with_rule app
     (number_rule (codes "limit") greatest_limit default_limit_text)) (byte_rule (codes "from")))
-        (byte_rule (codes "to")))
+    (byte_rule (codes "to")))
 
 -- `show` and `segment`, and `mark`, which has one more
 abbrev pub limited_app : Text → App

@@ -9,7 +9,6 @@ use Rattle.lbk_chunk_reader.specs.declared.held.Held.{Held}
 use Rattle.lbk_chunk_reader.specs.Cuts.{cuts_between}
 use Rattle.lbk_chunk_reader.specs.Held.{IsHeld}
 use Rattle.lbk_chunks.specs.declared.chunk.Here.{Here}
-
 use Rattle.lbk_chunk_reader.specs.Numbered.{numbered}
 
 abbrev pub cuts_in : Window → List Cut

@@ -62,29 +62,29 @@ pub record TextRuns (Written : List ℕ → Option (List ℕ) → Option (List �
 abbrev pub Writes : Lines → (ℕ → Cell) → ℕ → Profile → Devices → Devices → Result (Unit {0}) CmdFault → Type 0
 Writes lines cell limit profile =
     TextRuns (λ input before after. Appends before after
-        (lines_from (lines_of lines cell) 0 (passages profile cell (chars input))))
+    (lines_from (lines_of lines cell) 0 (passages profile cell (chars input))))
     (by_passage (engine_of lines cell profile limit))
 
 abbrev pub Marks : List ℕ → (ℕ → Cell) → ℕ → Profile → Devices → Devices → Result (Unit {0}) CmdFault → Type 0
 Marks mark cell limit profile =
     TextRuns (λ input before after. Appends before after (signed_text mark cell (passages profile cell (chars input))))
-        (by_passage (marking mark cell profile limit))
+    (by_passage (marking mark cell profile limit))
 
 abbrev pub Shows : (ℕ → Cell) → ℕ → Profile → Devices → Devices → Result (Unit {0}) CmdFault → Type 0
 Shows cell limit profile =
     TextRuns (λ input before after. Appends before after (show_text (passages profile cell (chars input))))
-        (by_passage (showing cell profile limit))
+    (by_passage (showing cell profile limit))
 
 abbrev pub Segments : (ℕ → Cell) → ℕ → Profile → Devices → Devices → Result (Unit {0}) CmdFault → Type 0
 Segments cell limit profile =
     TextRuns (λ input before after. Appends before after (segment_text cell (passages profile cell (chars input))))
-        (by_passage (segmenting cell profile limit))
+    (by_passage (segmenting cell profile limit))
 
 -- `chunk`, as the task asks for it
 abbrev pub Chunks : Asked → Limits → (ℕ → Cell) → ℕ → Profile → Devices → Devices → Result (Unit {0}) CmdFault → Type 0
 Chunks asked limits cell limit profile =
     TextRuns (λ input before after. (out : List ℕ)
-        × AreLinesOf asked limits cell (passages profile cell (chars input)) out × Appends before after out)
+    × AreLinesOf asked limits cell (passages profile cell (chars input)) out × Appends before after out)
     (chunking asked limits cell profile limit)
 
 -- what `replay` does
@@ -114,30 +114,30 @@ ShowsSamples before after ending =
     ((fault : CellsFault) × IsSampleFault fault × (ending ≡ ending_of_files fault) × (after ≡ before))
     ⊎ ((cell : ℕ → Cell) × AreSampleCells cell
     × ((answer : Result (Unit {0}) CmdFault) × Shows cell default_limit First before after answer
-        × (ending ≡ ending_of_text answer)))
+    × (ending ≡ ending_of_text answer)))
 
 -- `chunk` runs, and the run ends as its result says
 abbrev pub ChunksEnd : Asked → Limits → (ℕ → Cell) → ℕ → Profile → Devices → Devices → Ending → Type 0
 ChunksEnd asked limits cell limit profile before after ending =
     (answer : Result (Unit {0}) CmdFault) × Chunks asked limits cell limit profile before after answer
-        × (ending ≡ ending_of_text answer)
+    × (ending ≡ ending_of_text answer)
 
 -- the engine runs with its option, `mark` with this sign, and the run ends as its result says
 abbrev pub EngineRuns : Engine → List ℕ → Profile → (ℕ → Cell) → Devices → Devices → Ending → Type 0
 EngineRuns (Mark limit) mark profile cell before after ending =
     (answer : Result (Unit {0}) CmdFault) × Marks mark cell limit profile before after answer
-        × (ending ≡ ending_of_text answer)
+    × (ending ≡ ending_of_text answer)
 EngineRuns (Show limit) mark profile cell before after ending =
     (answer : Result (Unit {0}) CmdFault) × Shows cell limit profile before after answer
-        × (ending ≡ ending_of_text answer)
+    × (ending ≡ ending_of_text answer)
 EngineRuns (Segment limit) mark profile cell before after ending =
     (answer : Result (Unit {0}) CmdFault) × Segments cell limit profile before after answer
-        × (ending ≡ ending_of_text answer)
+    × (ending ≡ ending_of_text answer)
 EngineRuns (Chunk limit sizes texts) mark profile cell before after ending =
     ChunksEnd (record { range = None; texts = texts }) (limits_of sizes) cell limit profile before after ending
 EngineRuns (Replay kinds) mark profile cell before after ending =
     (answer : Result Report ReplayFault) × Replays cell (form_of kinds) profile before after answer
-        × (ending ≡ ending_of_replay answer)
+    × (ending ≡ ending_of_replay answer)
 
 -- an engine writes the passages of a range, and the run ends as its result says
 abbrev pub RangeEnds : Part → TextEngine → Devices → Devices → Ending → Type 0
@@ -170,7 +170,7 @@ abbrev pub Performs : {F : Type 0} → SourceMembers F → (List ℕ → Option 
     → LoadCounts → LoadCounts → Standing → Standing → Type 0
 Performs source file text task counts counts' before after =
     (StopsBefore (IsStoppedAt file task counts counts') before.devices after.devices after.ending
-        × (after.refused ≡ before.refused))
+    × (after.refused ≡ before.refused))
     ⊎ ((cell : ℕ → Cell) × AreCellsFrom (files_of file task.files) cell
     × Reads source text (RunsTask task cell) task.texts before after)
 

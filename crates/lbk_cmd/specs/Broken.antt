@@ -60,4 +60,4 @@ abbrev pub IsLinesFault : Files → ℕ → Profile → Devices → Devices → 
 IsLinesFault files limit profile before after (files_fault fault) = IsCellsRefusal files fault × (after ≡ before)
 IsLinesFault files limit profile before after (text_fault fault) = (cell : ℕ → Cell) × AreCellsOf files cell
     × (ShowStops cell limit profile before after fault
-        ⊎ ((fault ≡ Memory) × Shows cell limit profile before after (Ok tt)))
+    ⊎ ((fault ≡ Memory) × Shows cell limit profile before after (Ok tt)))

@@ -26,7 +26,7 @@ use Rattle.lbk_cmd.specs.declared.chunked.Asked.{Asked}
 abbrev pub chunk_line : Chunk → List ℕ
 chunk_line c = part (codes "C") c.start c.end
     ++ (32 ∷ (decimal c.words
-        ++ (32 ∷ (kind_name (kind_numbered c.kind) ++ (32 ∷ (label_of (rule_numbered c.rule) ++ 10 ∷ []))))))
+    ++ (32 ∷ (kind_name (kind_numbered c.kind) ++ (32 ∷ (label_of (rule_numbered c.rule) ++ 10 ∷ []))))))
 
 -- an object with a chunk's start and end, its number of words, and this text
 abbrev pub object_of : List ℕ → Chunk → List Token
@@ -63,7 +63,7 @@ abbrev pub lines_by_ranges : Bool → List ℕ → ℕ → List ℕ → List Chu
 lines_by_ranges texts text from [] chunks = []
 lines_by_ranges texts text from (to ∷ tos) chunks =
     chunk_lines (record { range = Some (record { from = from; to = to }); texts = texts }) text chunks
-        ++ lines_by_ranges texts text to tos chunks
+    ++ lines_by_ranges texts text to tos chunks
 
 -- the lines of the chunks of a text with these passages, and of the chunks that its first passages settle
 abbrev pub AreLinesOf : Asked → Limits → (ℕ → Cell) → List (List Marked) → List ℕ → Type 0

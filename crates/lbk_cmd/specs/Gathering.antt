@@ -24,7 +24,7 @@ Puts e s (Ok None) before after at answer = (answer ≡ Ok false) × (after ≡ 
 Puts e s (Ok (Some p)) before after at answer =
     ((answer ≡ Ok true) × (at ≡ p.start + length p.text.now)
     × ((ms : List Marked) → s.cell ≡ e.cell → s.profile ≡ e.profile → IsPassage s ms p → after ≡ before
-        ++ e.lines p.start ms))
+    ++ e.lines p.start ms))
     ⊎ ((answer ≡ Err Memory) × (after ≡ before))
 Puts e s (Err why) before after at answer = (answer ≡ Err (Passage why)) × (after ≡ before)
 

@@ -117,7 +117,7 @@ than_limit (Some limit) = codes "than " ++ (decimal limit ++ rest_of_limit limit
 abbrev pub invalid_text : Bool → List ℕ
 invalid_text is_utf16 =
     if is_utf16 then codes "invalid UTF-8; it begins as UTF-16 does: iconv -f UTF-16 -t UTF-8 makes UTF-8 of it"
-        else codes "invalid UTF-8"
+    else codes "invalid UTF-8"
 
 -- what failed, that it failed, and why
 abbrev pub failed_text : List ℕ → List ℕ → Option Reason → Option (List ℕ)

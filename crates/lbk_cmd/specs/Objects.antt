@@ -6,4 +6,4 @@ use Rattle.lbk_chunks.specs.declared.chunk.Chunk.{Chunk}
 abbrev pub front_of_object : Chunk → List ℕ
 front_of_object c =
     codes "{\"start\":" ++ (decimal c.start
-        ++ (codes ",\"end\":" ++ (decimal c.end ++ (codes ",\"words\":" ++ (decimal c.words ++ codes ",\"text\":\"")))))
+    ++ (codes ",\"end\":" ++ (decimal c.end ++ (codes ",\"words\":" ++ (decimal c.words ++ codes ",\"text\":\"")))))

@@ -56,7 +56,7 @@ abbrev pub ReadsText : {F : Type 0} → SourceMembers F → (List ℕ → Option
     → (List ℕ → Devices → Devices → Ending → Type 0) → List ℕ → Devices → Devices → Ending → Type 0
 ReadsText source told Runs name before after ending = ((name ≡ codes "-") × Runs name before after ending)
     ⊎ ((name ≢ codes "-") × (IsUnopened (told name) before after ending
-        ⊎ ReadsFile source (told name) (Runs name) before after ending))
+    ⊎ ReadsFile source (told name) (Runs name) before after ending))
 
 -- what was refused, after a text that ended so
 abbrev pub refused_after : Refusals → List ℕ → Ending → Refusals

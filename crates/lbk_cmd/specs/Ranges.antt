@@ -103,10 +103,10 @@ pub record RangeRuns (part : Part) (engine : Engine) (before after : Devices)
     (answer : Result (Unit {0}) CmdFault) : Type 0 where
   pub shown : OnOk answer (IfSome before.unread (λ input. IsUtf8 input
       → Appends before.written after.written
-          (text_within engine.lines part.from part.to (passages_by (by_passage engine) (chars input)))))
+      (text_within engine.lines part.from part.to (passages_by (by_passage engine) (chars input)))))
   pub run : Ran (is_failed_read answer) before.unread after.unread before.written after.written
       (IsRangeRun (by_passage (within part engine)) part.from part.to before.reads after.reads after.has_ended
-          (IsTrue after.has_ended × IsAtEnd after.unread) answer)
+      (IsTrue after.has_ended × IsAtEnd after.unread) answer)
   pub reads : after.reads.count ≤ before.reads.count + (longest_text + 1)
   pub limit : IsErrOf answer (CmdFault.Passage PassageFault.Limit) ↔ (¬ (IsLimit engine.limit))
   pub failed_reads : after.failed_reads ≡ failed_reads_with before.failed_reads answer

@@ -25,7 +25,7 @@ kind_name Must = codes "Must"
 abbrev pub segment_line : ℕ → Segment → List ℕ
 segment_line start s =
     part (codes "S") (start + s.start) (start + s.end)
-        ++ (32 ∷ (kind_name s.kind ++ (32 ∷ (label_of s.rule ++ 10 ∷ []))))
+    ++ (32 ∷ (kind_name s.kind ++ (32 ∷ (label_of s.rule ++ 10 ∷ []))))
 
 -- W and a word; other pieces have no line
 abbrev pub word_line : ℕ → Piece → List ℕ
@@ -36,7 +36,7 @@ word_line start piece =
 abbrev pub passage_lines : ℕ → ℕ → List Segment → List Piece → List ℕ
 passage_lines start len segments pieces =
     part (codes "P") start (start + len)
-        ++ (10 ∷ (flat_map (segment_line start) segments ++ flat_map (word_line start) pieces))
+    ++ (10 ∷ (flat_map (segment_line start) segments ++ flat_map (word_line start) pieces))
 
 -- the lines of a passage that begins at `start`
 abbrev pub segmented_passage : (ℕ → Cell) → ℕ → List Marked → List ℕ

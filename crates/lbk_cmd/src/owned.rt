@@ -39,8 +39,12 @@ impl Model for OwnedPassage {
 
     ghost Value = { Owned };
 
-    ghost view = { λ p. record { start = p.start; text = string_bytes p.text; breaks = p.breaks.items;
-        words = p.words.items } };
+    ghost view = { λ p. record {
+      start = p.start;
+      text = string_bytes p.text;
+      breaks = p.breaks.items;
+      words = p.words.items;
+    } };
 }
 
 impl OwnedPassage {

@@ -37,7 +37,7 @@ pub fn push_signed<C: CellSource>(
 ) -> Result<(), AllocError>
     ensures text { OnOk result (out.new.items ≡ out.old.items
         ++ (signed_from mark.now text.now 0 (breaks profile (C.cell_of cells.now) (chars text.now))
-            ++ missing_line_end (C.cell_of cells.now) (chars text.now))) }
+        ++ missing_line_end (C.cell_of cells.now) (chars text.now))) }
     ensures kept { take (length out.old.items) out.new.items ≡ out.old.items }
 {
     push_text(out, mark, cells, profile, text, block)?;

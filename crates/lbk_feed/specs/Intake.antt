@@ -10,8 +10,13 @@ use Rattle.lbk_feed.specs.View.{View, BeginsWith, CanGoOn, IsStill, AreDue}
 
 -- the intake as callers of the feed see it
 unfoldable pub view_of : Intake → View
-view_of i = record { held = items i.block; ready = take i.ready_len (items i.block); given = i.given;
-    is_ended = i.is_ended; is_spent = i.is_spent }
+view_of i = record {
+  held = items i.block;
+  ready = take i.ready_len (items i.block);
+  given = i.given;
+  is_ended = i.is_ended;
+  is_spent = i.is_spent;
+}
 
 -- nothing is ready, and the held bytes may continue: a read is needed
 pub record WantsMore (i : Intake) : Type 0 where

@@ -1,6 +1,5 @@
 //! A source over a reader of std, and a sink over a writer of std.
-#![tactic(auto, unfolding(crate::specs::Device::inner_of, crate::specs::Device::reads_of,
-    crate::specs::Device::failures_of, crate::specs::Device::has_met_end))]
+#![tactic(auto, unfolding(crate::specs::Device::inner_of, crate::specs::Device::reads_of, crate::specs::Device::failures_of, crate::specs::Device::has_met_end))]
 
 ghost use Rattle.std.specs.Prelude.{◌≡◌, false};
 ghost use Rattle.lbk_feed.specs.Device.{inner_of, reads_of, failures_of, has_met_end};

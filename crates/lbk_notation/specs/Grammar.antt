@@ -78,7 +78,7 @@ pub data IsAfter (form : Form) : List ℕ → List Mark → List ℕ → Type 0 
       → IsGap gap → IsToken digits
       → IsGap gap' → Has form mark → IsAfter form scalars marks rest
       → IsAfter form (number_of digits ∷ scalars) (mark ∷ marks)
-          (gap ++ (token_bytes digits ++ (gap' ++ (mark_bytes mark ++ rest))))
+      (gap ++ (token_bytes digits ++ (gap' ++ (mark_bytes mark ++ rest))))
 
 -- a line, with its meaning: ws* and its end, or ws*, a mark and what may follow it
 pub data IsLine (form : Form) : List ℕ → Option Line → Type 0 where

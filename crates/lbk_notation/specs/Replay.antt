@@ -60,7 +60,7 @@ failed_writes_with n _ = n
 abbrev pub IsStoppedReplay : (ℕ → Cell) → Form → Profile → Type 0 → List ℕ → List ℕ → Type 0
 IsStoppedReplay cell form profile ended read out =
     IsStopped (IsEndedText cell form profile)
-        (λ bytes all. (report : Report) × IsReplayText cell form profile bytes report all)
+    (λ bytes all. (report : Report) × IsReplayText cell form profile bytes report all)
     ended read out
 
 -- out of memory: the output is that of the lines that ended before some offset, or, once the end was reached, that of

@@ -56,4 +56,4 @@ report_of findings = record {
 abbrev pub total_text : Report → List ℕ
 total_text report =
     row_text (codes "T" ∷ decimal report.lines ∷ decimal report.agreed ∷ decimal report.differed
-        ∷ decimal report.refused ∷ [])
+    ∷ decimal report.refused ∷ [])

@@ -22,9 +22,9 @@ abbrev pub digits_of : ℕ → List ℕ
 digits_of scalar =
     if ltb scalar 0x10000 then scalar / 4096 ∷ scalar / 256 % 16 ∷ scalar / 16 % 16 ∷ scalar % 16 ∷ []
     else (if ltb scalar 0x100000
-        then scalar / 65536 ∷ scalar / 4096 % 16 ∷ scalar / 256 % 16 ∷ scalar / 16 % 16 ∷ scalar % 16 ∷ []
+    then scalar / 65536 ∷ scalar / 4096 % 16 ∷ scalar / 256 % 16 ∷ scalar / 16 % 16 ∷ scalar % 16 ∷ []
     else scalar / 1048576 ∷ scalar / 65536 % 16 ∷ scalar / 4096 % 16 ∷ scalar / 256 % 16 ∷ scalar / 16 % 16
-        ∷ scalar % 16 ∷ [])
+    ∷ scalar % 16 ∷ [])
 
 abbrev pub token : ℕ → List ℕ
 token scalar = token_bytes (digits_of scalar)

@@ -62,7 +62,7 @@ by_rule rule b = record { at = b.at; kind = b.kind; rule = rule }
 abbrev pub breaks_before : Profile → (ℕ → Cell) → Bool → List ℕ → List Break
 breaks_before profile cell follows part =
     if follows then with_last (by_rule (end_before_more cell part).rule) (breaks profile cell part)
-        else breaks profile cell part
+    else breaks profile cell part
 
 -- and at their offsets in the text
 abbrev pub breaks_in : Profile → (ℕ → Cell) → ℕ → Bool → List ℕ → List Break

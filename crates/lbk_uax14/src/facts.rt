@@ -69,10 +69,7 @@ impl Before {
 
 impl Left {
     /// The facts at the start of a text.
-    #[tactic(auto, unfolding(crate::specs::Classes::is, crate::specs::Asked::asked_of_cell,
-        crate::specs::Asked::asked_before_spaces, crate::specs::Asked::asked_class,
-        crate::specs::Asked::asked_of_unit, crate::specs::Facts::facts, crate::specs::Sides::before_spaces,
-        crate::specs::Sides::at_odd_run, crate::specs::Sides::opens_quotation))]
+    #[tactic(auto, unfolding(crate::specs::Classes::is, crate::specs::Asked::asked_of_cell, crate::specs::Asked::asked_before_spaces, crate::specs::Asked::asked_class, crate::specs::Asked::asked_of_unit, crate::specs::Facts::facts, crate::specs::Sides::before_spaces, crate::specs::Sides::at_odd_run, crate::specs::Sides::opens_quotation))]
     pub fn start() -> Left
         ensures { result ≡ facts [] }
     {

@@ -18,8 +18,7 @@ use lbk_values::Profile;
 impl Left {
     /// The verdict before `right`. `closes` says, in the second profile, whether the unit after the one that `right`
     /// heads leaves a closing quotation mark closed.
-    #[tactic(auto, unfolding(crate::specs::Rules::cell_rules, crate::specs::Facts::facts,
-        crate::specs::Chain::from_cells))]
+    #[tactic(auto, unfolding(crate::specs::Rules::cell_rules, crate::specs::Facts::facts, crate::specs::Chain::from_cells))]
     pub fn verdict(self, profile: Profile, right: Cell, closes: bool) -> Verdict
         ensures { (side more : Side) → facts side ≡ self
             → closes_in profile (units_after (hard right.class) more) ≡ closes
@@ -33,8 +32,7 @@ impl Left {
     }
 
     /// The verdict at the end of the text.
-    #[tactic(auto, unfolding(crate::specs::Rules::cell_rules, crate::specs::Facts::facts,
-        crate::specs::Chain::from_cells))]
+    #[tactic(auto, unfolding(crate::specs::Rules::cell_rules, crate::specs::Facts::facts, crate::specs::Chain::from_cells))]
     pub fn verdict_at_end(self) -> Verdict
         ensures { (profile : Profile) (side : Side) → facts side ≡ self → result ≡ from_cells profile side [] }
     {

@@ -44,7 +44,7 @@ module _ {V : Type 0} where
   abbrev pub valued : Format V → Entry → Option (Row V)
   valued format entry =
       option_map (λ value. record { first = entry.first; last = entry.last; value = value })
-          (named format.names entry.name)
+      (named format.names entry.name)
 
   -- the kept row of a line's meaning, if it is one
   abbrev pub row_meant : Format V → Option Meaning → Option (Row V)
@@ -103,7 +103,7 @@ module _ {V : Type 0} where
   abbrev pub cause_after : Format V → List (List ℕ) → List ℕ → Option UcdCause
   cause_after format earlier line =
       cause_beside format (rows_in format earlier)
-          (length (rows_in format earlier) + length (defaults_in format earlier)) line
+      (length (rows_in format earlier) + length (defaults_in format earlier)) line
 
   -- the cause of the line at an index, and that none of the lines before an index has one
   abbrev pub cause_at : Format V → List (List ℕ) → ℕ → Option UcdCause

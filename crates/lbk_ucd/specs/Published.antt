@@ -25,7 +25,7 @@ abbrev pub EndsVersion : List ℕ → ℕ → Type 0
 EndsVersion text update =
     ((rest : List ℕ) × (after : List ℕ) × (text ≡ 46 ∷ rest) × BeginsWithNumber rest update after)
     ⊎ ((update ≡ 0) × (¬ ((number : ℕ) × (rest : List ℕ) × (after : List ℕ) × (text ≡ 46 ∷ rest)
-        × BeginsWithNumber rest number after)))
+    × BeginsWithNumber rest number after)))
 
 -- a text begins with a version: two numbers with a dot between them, and its third number
 abbrev pub BeginsWithVersion : List ℕ → Numbers → Type 0

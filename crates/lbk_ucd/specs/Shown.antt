@@ -25,8 +25,12 @@ shown_names names = map (λ entry. (entry.0.now, entry.1)) names
 
 abbrev pub shown_format : {V : Type 0} → CodeFormat V → Format V
 shown_format format =
-    record { names = shown_names format.names.now; others = format.others; defaults = format.defaults;
-        unlisted = format.unlisted }
+    record {
+      names = shown_names format.names.now;
+      others = format.others;
+      defaults = format.defaults;
+      unlisted = format.unlisted;
+    }
 
 -- the lines of what follows an LF, none where there was none
 abbrev pub lines_left : Option (Bor (List ℕ)) → List (List ℕ)

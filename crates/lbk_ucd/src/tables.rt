@@ -75,8 +75,7 @@ impl Tables {
 
     /// The tables of four files without a fault. Otherwise the first fault of the first file that has one, or `Memory`
     /// at a line where the tables could not grow. Lines count from 1; a file that is too long is refused at line 0.
-    #[tactic(auto, unfolding(crate::specs::Tables::line_break_of, crate::specs::Tables::east_asian_of,
-        crate::specs::Tables::category_of, crate::specs::Tables::is_pictographic_of))]
+    #[tactic(auto, unfolding(crate::specs::Tables::line_break_of, crate::specs::Tables::east_asian_of, crate::specs::Tables::category_of, crate::specs::Tables::is_pictographic_of))]
     pub fn read(alloc: Global, files: Files<'_>) -> Result<Tables, UcdFault>
         ensures lawful { OnOk result (AreLawful files.entry) }
         ensures line_break { IfOk result
@@ -144,8 +143,7 @@ impl Tables {
     /// The four properties of a code point, at most 10FFFF, and a last code point up to which all have them. To visit
     /// all code points range by range, start at 0 and continue with the one after `last`, with the hint found, until
     /// `last` is 10FFFF.
-    #[tactic(auto, unfolding(crate::specs::Tables::line_break_of, crate::specs::Tables::east_asian_of,
-        crate::specs::Tables::category_of, crate::specs::Tables::is_pictographic_of))]
+    #[tactic(auto, unfolding(crate::specs::Tables::line_break_of, crate::specs::Tables::east_asian_of, crate::specs::Tables::category_of, crate::specs::Tables::is_pictographic_of))]
     pub fn run(&self, code: u32, near: Places) -> Run
         requires { code ≤ 0x10FFFF }
         ensures last { (code ≤ result.last) × (result.last ≤ 0x10FFFF) }

@@ -1,6 +1,5 @@
 //! A sink into memory of a given size.
-#![tactic(auto, unfolding(crate::specs::MemorySink::sink_bytes, crate::specs::MemorySink::sink_room,
-    crate::specs::MemorySink::most_in_a_write, crate::specs::MemorySink::sink_tally))]
+#![tactic(auto, unfolding(crate::specs::MemorySink::sink_bytes, crate::specs::MemorySink::sink_room, crate::specs::MemorySink::most_in_a_write, crate::specs::MemorySink::sink_tally))]
 
 ghost use Rattle.std.specs.Prelude.{◌≡◌, ◌<◌, ◌≤◌, ◌-◌, ◌↔◌, [], min, max, length, vec_capacity, Some, IfOk, IsErr};
 ghost use Rattle.lbk_feed.specs.Devices.{failures_after, Puts};
@@ -74,7 +73,7 @@ impl MemorySink {
         ensures some { 0 < length bytes.now → IfOk result (λ n. 0 < n) }
         ensures size { IfOk result (λ n.
             n ≡ min (min (length bytes.now) (most_in_a_write self.old))
-                (sink_room self.old - length (sink_bytes self.old))) }
+            (sink_room self.old - length (sink_bytes self.old))) }
         ensures fails { IsErr result ↔ ((0 < length bytes.now) × (sink_room self.old ≤ length (sink_bytes self.old))) }
         ensures bytes { Puts (Some (sink_bytes self.old)) (Some (sink_bytes self.new)) result bytes.now }
         ensures room { sink_room self.new ≡ sink_room self.old }
@@ -111,7 +110,7 @@ impl Sink for MemorySink {
         ensures fails { IsErr result ↔ ((0 < length bytes.now) × (sink_room self.old ≤ length (sink_bytes self.old))) }
         ensures size { IfOk result (λ n.
             n ≡ min (min (length bytes.now) (most_in_a_write self.old))
-                (sink_room self.old - length (sink_bytes self.old))) }
+            (sink_room self.old - length (sink_bytes self.old))) }
         ensures room { sink_room self.new ≡ sink_room self.old }
         ensures most { most_in_a_write self.new ≡ most_in_a_write self.old }
     {

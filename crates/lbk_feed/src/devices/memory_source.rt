@@ -1,6 +1,5 @@
 //! A source over bytes in memory, with reads of given sizes, and one that fails.
-#![tactic(auto, unfolding(crate::specs::MemorySource::source_bytes, crate::specs::MemorySource::source_sizes,
-    crate::specs::MemorySource::failing_read, crate::specs::MemorySource::source_tally))]
+#![tactic(auto, unfolding(crate::specs::MemorySource::source_bytes, crate::specs::MemorySource::source_sizes, crate::specs::MemorySource::failing_read, crate::specs::MemorySource::source_tally))]
 
 ghost use Rattle.std.specs.Prelude.{◌≡◌, ◌≤◌, ◌↔◌, [], min, length, Some, None, IsErr, IfOk, OnOk, OnErr};
 ghost use Rattle.lbk_feed.specs.Devices.{count_up, given_by, failures_after, ended_after, Takes};
