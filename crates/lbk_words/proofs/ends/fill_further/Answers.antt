@@ -1,4 +1,4 @@
-use Rattle.std.proofs.Common.{◌≡◌, ℕ, ◌+◌, ◌<◌, ◌≤◌, length, arith}
+use Rattle.std.proofs.Common.{◌+◌, arith}
 use Rattle.lbk_words.proofs.PartLemmas.{lone-part, parts-written}
 use Rattle.lbk_words.proofs.ends.fill_further.Goals as goal
 

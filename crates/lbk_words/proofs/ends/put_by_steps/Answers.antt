@@ -1,5 +1,4 @@
-use Rattle.std.proofs.Common.{◌≡◌, ℕ, ◌+◌, ◌<◌, ◌≤◌, length, refl, sym, ap, subst, ◌∙◌, arith}
-use Rattle.std.specs.Int.{from_bool}
+use Rattle.std.proofs.Common.{ℕ, ◌+◌, ◌<◌, sym, subst, arith}
 use Rattle.std.proofs.Math.ListN.{length-set, set}
 use Rattle.lbk_words.specs.Ends.{IsReading}
 use Rattle.lbk_words.specs.Rows.{row_word}
@@ -29,11 +28,10 @@ scalars-preserved c =
     let l = c.scalars in
     let next = c.scalar_at-next in
     let step = c.step_of-step in
-    let few = from_bool-few step.result.cuts in
     record {
       few = step.ensures.next;
       within = next.ensures.read.within;
-      count = (omega (arith, l.invariant.count), omega (arith, length-set l.out l.count l.at, c.from-count.ensures, few));
+      count = (omega (arith, l.invariant.count), omega (arith, length-set {A = ℕ}, c.from-count.ensures, from_bool-few));
       some = λ told. subst (λ n. c.args.count < l.count + n) (sym c.from-count.ensures) (let more = some-ended step.result.cuts c.may_tell.result l.count told in omega (arith, l.invariant.count));
       reads = λ from parts. subst (λ n. IsReading c.args.text.now from next.result.end step.result.next (l.count + n) (set l.out l.count l.at)) (sym c.from-count.ensures)
           (reading-taken c.args.text.now from l.at l.row l.count next.result.code next.result.end l.out step.result (l.invariant.reads from parts) (omega arith) next.ensures.read step.ensures);

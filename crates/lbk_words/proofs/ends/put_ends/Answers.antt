@@ -1,4 +1,4 @@
-use Rattle.std.proofs.Common.{◌≡◌, ℕ, ◌+◌, ◌<◌, ◌≤◌, inl, inr, List, length, ⊎_elim, arith}
+use Rattle.std.proofs.Common.{ℕ, ◌+◌, inl, inr, arith}
 use Rattle.std.proofs.Math.ListN.{length-set}
 use Rattle.lbk_words.proofs.PartLemmas.{bit-taken, none-taken}
 use Rattle.lbk_words.proofs.ends.put_ends.Goals as goal
@@ -17,7 +17,7 @@ ends-preserved c =
     let within = c.first_set.ensures.within in
     let lowest = c.first_set.ensures.lowest in
     record {
-      count = (omega (arith, l.invariant.count), omega (arith, length-set l.out l.count (c.args.base + end)));
+      count = (omega (arith, l.invariant.count), omega (arith, length-set {A = ℕ}));
       some = inr (omega (arith, l.invariant.count));
       parts = λ text from told parts.
           bit-taken text from c.args.base l.left l.count end c.without_first-left.result l.out (l.invariant.parts text from told parts) (omega arith) (omega arith) within lowest
