@@ -1,5 +1,5 @@
 -- The words before cuts.
-use Rattle.std.proofs.Common.{◌≡◌, ℕ, ◌+◌, ◌<◌, ◌≤◌, ◌==◌, Bool, true, false, cond, nat_le, nat_lt, List, [], ◌∷◌, ◌++◌, refl, sym, ap, ap₂, subst, ◌∙◌, arith}
+use Rattle.std.proofs.Common.{◌≡◌, ℕ, ◌+◌, ◌<◌, ◌≤◌, ◌==◌, Bool, true, false, cond, nat_le, nat_lt, List, [], ◌∷◌, ◌++◌, length, refl, sym, ap, ap₂, subst, ◌∙◌, arith}
 use Rattle.std.proofs.lemmas.Bool.Decides.{nat_tests}
 use Rattle.std.proofs.lemmas.List.Sums.{sum_by-cons}
 use Rattle.lbk_rules.specs.declared.Break.{Break}
@@ -7,6 +7,7 @@ use Rattle.lbk_rules.specs.Codes.{kind_number, rule_number}
 use Rattle.lbk_calls.specs.declared.interface.State.{State}
 use Rattle.lbk_words.specs.declared.word.Word.{Word}
 use Rattle.lbk_words.specs.Words.{words_on}
+use Rattle.lbk_words.proofs.FillLemmas.{words-end}
 use Rattle.lbk_chunks.specs.declared.cut.Cut.{Cut}
 use Rattle.lbk_chunks.specs.declared.cut.Place.{Place}
 use Rattle.lbk_chunks.specs.Coming.{AreBreaksPast, AreOnward, IsPassed, held, words_ahead}
@@ -97,6 +98,10 @@ word-first text place some = let no : (place.word.end == 0) ≡ false = grind (a
 pub word-none : (text : List ℕ) (place : Place) → place.word.end ≡ 0 → words_ahead text place ≡ words_on text place.from
 word-none text place none = let no : (place.word.end == 0) ≡ true = grind (arith, nat_tests) in
     ap (λ t. cond t [] (place.word ∷ []) ++ words_on text place.from) no
+
+-- none comes behind the end of a text
+pub none-ahead : (text : List ℕ) (place : Place) (at : ℕ) → place.word.end ≡ 0 → length text ≤ at → words_ahead text (record place { from = at }) ≡ []
+none-ahead text place at none past = word-none text (record place { from = at }) none ∙ words-end text at past
 
 pub held-some : (w : Word) → 0 < w.end → held w ≡ 1
 held-some w some = let no : (w.end == 0) ≡ false = grind (arith, nat_tests) in ap (λ t. cond t 0 1) no

@@ -59,7 +59,11 @@ fn loaded(text: &[u8], place: Place, words: &mut WordBlock) -> Place
         return place;
     }
     let Some(word) = words.first_from(text, place.from) else {
-        return place;
+        // The next call does not look for one again.
+        return Place {
+            from: place.from.max(text.len()),
+            ..place
+        };
     };
     with_word(place, word)
 }
