@@ -12,15 +12,11 @@ use Rattle.lbk_rules.specs.FlatTable.{AreFlatKinds, KnowsTaken}
 use Rattle.lbk_rules.specs.Kinds.{kind_cell, real_kind}
 use Rattle.lbk_rules.specs.Normal.{normal}
 use Rattle.lbk_rules.specs.RowMachineFits.{normals}
-use Rattle.lbk_rules.specs.Rows.{left_at, step_by, steps_in, verdict_shown}
+use Rattle.lbk_rules.specs.Rows.{left_at, step_by, steps_in}
 use Rattle.lbk_rules.specs.Verdict.{verdict_between_in}
-use Rattle.lbk_bytes.specs.declared.raw_break.RawBreak.{RawBreak}
-use Rattle.lbk_bytes.specs.Bytes.{with_break}
-use Rattle.lbk_bytes.specs.Reached.{Ahead, Reached}
-use Rattle.lbk_bytes.specs.Shown.{given_in}
+use Rattle.lbk_bytes.specs.Decided.{IsDecided}
 use Rattle.lbk_bytes.proofs.CutLemmas.{four-more}
 use Rattle.lbk_bytes.proofs.PieceLemmas.{Reads, piece-within, read-scalar, rest-of, scalar-below}
-use Rattle.lbk_bytes.proofs.ReachedLemmas.{Reached-step}
 use Rattle.lbk_bytes.proofs.StepLemmas.{IsSwiftStep, decides-text, knows-more, swift-step}
 
 -- what begins here is read as this scalar, and takes so many bytes
@@ -81,27 +77,23 @@ reads-as-more text more at code size four r =
       within = (let within = r.within in omega arith);
     }
 
--- a step more, by such a piece
-pub Reached-read : (profile : Profile) (cell : ℕ → Cell) (text : List ℕ) (all : Ahead) (steps : List (List Step)) (kinds : List ℕ)
-    (out after : List RawBreak) (count next row at code size : ℕ) (step : Step)
-    → steps ≡ steps_in profile → AreFlatKinds kinds cell → ReadsAs text at code size → at < length text
+-- a step by such a piece decides the position before it
+pub read-decided : (profile : Profile) (cell : ℕ → Cell) (text : List ℕ) (steps : List (List Step)) (kinds : List ℕ) (row at code size : ℕ) (step : Step)
+    → steps ≡ steps_in profile → AreFlatKinds kinds cell → ReadsAs text at code size
     → step ≡ step_by steps row (get_or kinds code 0) → ¬ (step.shown ≡ HELD)
-    → (given_in after next ≡ given_in out count ++ with_break at (verdict_shown step.shown) [])
-    → Reached profile cell text all (record { count = count; row = row; at = at }) (given_in out count)
-    → Reached profile cell text all (record { count = next; row = step.next; at = at + size }) (given_in after next)
-Reached-read profile cell text all steps kinds out after count next row at code size step are are_kinds reads inside same apart front r =
+    → (taken : List ℕ) → KnowsTaken cell row taken
+    → IsDecided profile cell text at taken (record { shown = step.shown; row = step.next; at = at + size })
+read-decided profile cell text steps kinds row at code size step are are_kinds reads same apart taken known =
     let kind = real_kind (get_or kinds code 0) in
     let is_kind = are_kinds code reads.scalar in
     let here : IsSwiftStep profile (left_at row) (kind_cell kind) step =
-    subst (λ s. IsSwiftStep profile (left_at row) (kind_cell kind) s) (sym same) (swift-step profile steps row (get_or kinds code 0) are r.knows.0) in
+    subst (λ s. IsSwiftStep profile (left_at row) (kind_cell kind) s) (sym same) (swift-step profile steps row (get_or kinds code 0) are known.0) in
     let right = map cell (lossy_chars (drop (at + size) text)) in
-    let p = decoded (drop at text) in
-    Reached-step profile cell text all (record { count = count; row = row; at = at }) (record { count = next; row = step.next; at = at + size })
-    (given_in out count) (given_in after next) p (verdict_shown step.shown) refl inside (ap (λ n. at + n) reads.is_size)
-    (λ taken known. subst (λ x. KnowsTaken cell step.next (taken ++ x ∷ [])) reads.is_char
-    (knows-more cell row step.next code kind is_kind here.begins here.leads taken known))
-    (λ taken known.
-    decides-text profile cell taken code kind step.shown right is_kind
-    (here.decides apart (reverse (normals cell taken)) (map normal right) (sym known.1))
-    ∙ ap (λ x. verdict_between_in profile (map cell taken) (cell x ∷ right)) reads.is_char)
-    front r
+    record {
+      moved = ap (λ n. at + n) reads.is_size;
+      knows = subst (λ x. KnowsTaken cell step.next (taken ++ x ∷ [])) reads.is_char
+          (knows-more cell row step.next code kind is_kind here.begins here.leads taken known);
+      decides = decides-text profile cell taken code kind step.shown right is_kind
+          (here.decides apart (reverse (normals cell taken)) (map normal right) (sym known.1))
+          ∙ ap (λ x. verdict_between_in profile (map cell taken) (cell x ∷ right)) reads.is_char;
+    }

@@ -19,4 +19,3 @@ pub mod MarkLemmas
 pub mod MarkPlaceLemmas
 pub mod MarkBitLemmas
 pub mod MarkBlockLemmas
-pub mod GatherLemmas

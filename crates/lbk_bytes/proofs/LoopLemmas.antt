@@ -18,20 +18,10 @@ use Rattle.lbk_bytes.specs.Bytes.{with_break}
 use Rattle.lbk_bytes.specs.Decided.{IsDecided}
 use Rattle.lbk_bytes.specs.Reached.{Ahead, Reached}
 use Rattle.lbk_bytes.specs.Shown.{given_in}
-use Rattle.lbk_bytes.proofs.AnyPieceLemmas.{Reached-read, as-read}
+use Rattle.lbk_bytes.proofs.AnyPieceLemmas.{as-read, read-decided}
 use Rattle.lbk_bytes.proofs.PieceLemmas.{Reads}
 use Rattle.lbk_bytes.proofs.ReachedLemmas.{Reached-step}
 use Rattle.lbk_bytes.proofs.StepLemmas.{IsSwiftStep, knows-more, swift-step}
-
-pub Reached-swift : (profile : Profile) (cell : ℕ → Cell) (text : List ℕ) (all : Ahead) (steps : List (List Step)) (kinds : List ℕ)
-    (out after : List RawBreak) (count next row at code size : ℕ) (step : Step)
-    → steps ≡ steps_in profile → AreFlatKinds kinds cell → Reads text at code size → at < length text
-    → step ≡ step_by steps row (get_or kinds code 0) → ¬ (step.shown ≡ HELD)
-    → (given_in after next ≡ given_in out count ++ with_break at (verdict_shown step.shown) [])
-    → Reached profile cell text all (record { count = count; row = row; at = at }) (given_in out count)
-    → Reached profile cell text all (record { count = next; row = step.next; at = at + size }) (given_in after next)
-Reached-swift profile cell text all steps kinds out after count next row at code size step are are_kinds reads =
-    Reached-read profile cell text all steps kinds out after count next row at code size step are are_kinds (as-read text at code size reads)
 
 pub Decided-one : (profile : Profile) (cell : ℕ → Cell) (text taken kinds : List ℕ)
     (row at c size shown : ℕ) (rest : List ℕ) (step : Step)
@@ -66,3 +56,14 @@ Reached-decided profile cell text all out after here next found inside decided f
     Reached-step profile cell text all here (record { count = next; row = found.row; at = found.at })
     (given_in out here.count) (given_in after next) (decoded (drop here.at text)) (verdict_shown found.shown) refl inside d.moved
     (λ taken known. (decided taken known).knows) (λ taken known. (decided taken known).decides) front r
+
+pub Reached-swift : (profile : Profile) (cell : ℕ → Cell) (text : List ℕ) (all : Ahead) (steps : List (List Step)) (kinds : List ℕ)
+    (out after : List RawBreak) (count next row at code size : ℕ) (step : Step)
+    → steps ≡ steps_in profile → AreFlatKinds kinds cell → Reads text at code size → at < length text
+    → step ≡ step_by steps row (get_or kinds code 0) → ¬ (step.shown ≡ HELD)
+    → (given_in after next ≡ given_in out count ++ with_break at (verdict_shown step.shown) [])
+    → Reached profile cell text all (record { count = count; row = row; at = at }) (given_in out count)
+    → Reached profile cell text all (record { count = next; row = step.next; at = at + size }) (given_in after next)
+Reached-swift profile cell text all steps kinds out after count next row at code size step are are_kinds reads inside same apart front r =
+    Reached-decided profile cell text all out after (record { count = count; row = row; at = at }) next (record { shown = step.shown; row = step.next; at = at + size })
+    inside (read-decided profile cell text steps kinds row at code size step are are_kinds (as-read text at code size reads) same apart) front r

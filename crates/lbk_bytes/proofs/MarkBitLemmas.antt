@@ -53,6 +53,17 @@ first-only index bits i fits whole =
     (⊎_elim (λ (less : i / 64 < index / 64). inl less) (λ (more : index / 64 ≤ i / 64). inr (omega arith)) (cases_lt (i / 64) (index / 64)))))
     (cases_eq (i / 64) (index / 64))
 
+last-only : (index bits i : ℕ) → bits < 2 ^ 64 → i / 64 ≤ index / 64
+    → ((i / 64 == index / 64) && is_set (bits * 2 ^ (index % 64) % 2 ^ 64) (i % 64)) ≡ (leb index i && is_set bits (i - index))
+last-only index bits i fits within =
+    ⊎_elim
+    (λ (same : i / 64 ≡ index / 64).
+    ap (λ b. b && is_set (bits * 2 ^ (index % 64) % 2 ^ 64) (i % 64)) (eq-eqb (i / 64) (index / 64) same) ∙ in-first index bits i same)
+    (λ (apart : i / 64 ≡ index / 64 → ⊥).
+    and_left (i / 64 == index / 64) (is_set (bits * 2 ^ (index % 64) % 2 ^ 64) (i % 64)) (ne_eqb (i / 64) (index / 64) apart)
+    ∙ sym (in-none index bits i fits (inl (omega arith))))
+    (cases_eq (i / 64) (index / 64))
+
 both : (index bits i : ℕ) → bits < 2 ^ 64
     → (((i / 64 == index / 64) && is_set (bits * 2 ^ (index % 64) % 2 ^ 64) (i % 64)) || ((i / 64 == index / 64 + 1) && is_set (bits / 2 ^ (64 - index % 64)) (i % 64)))
     ≡ (leb index i && is_set bits (i - index))
@@ -90,3 +101,9 @@ marked-both words some new index bits i fits once twice =
     let low = (i / 64 == index / 64) && is_set (bits * 2 ^ (index % 64) % 2 ^ 64) (i % 64) in
     let high = (i / 64 == index / 64 + 1) && is_set (bits / 2 ^ (64 - index % 64)) (i % 64) in
     twice ∙ ap (λ b. b || high) once ∙ or-assoc (is_marked words i) low high ∙ ap (λ b. is_marked words i || b) (both index bits i fits)
+
+-- in the last of the words
+pub marked-last : (words new : List ℕ) (index bits i : ℕ) → bits < 2 ^ 64 → i / 64 ≤ index / 64
+    → is_marked new i ≡ (is_marked words i || ((i / 64 == index / 64) && is_set (bits * 2 ^ (index % 64) % 2 ^ 64) (i % 64)))
+    → is_marked new i ≡ (is_marked words i || (leb index i && is_set bits (i - index)))
+marked-last words new index bits i fits within once = once ∙ ap (λ b. is_marked words i || b) (last-only index bits i fits within)

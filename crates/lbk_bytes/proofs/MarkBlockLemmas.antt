@@ -168,7 +168,7 @@ pub record BlockTaken (profile : Profile) (cell : ℕ → Cell) (text : List ℕ
 
 pub block-taken : (profile : Profile) (cell : ℕ → Cell) (text more : List ℕ) (all : Ahead) (steps : List (List Step)) (kinds : List ℕ) (pairs : Neighbours) (row at begin taken standing since kept : ℕ)
     → begin ≤ taken → IsBlock profile cell steps kinds pairs text at begin taken
-    → ((i : ℕ) → i < 64 → is_set standing i ≡ stands_at pairs text (at + i)) → AreKeptFrom begin standing since → AreKeptBelow taken since kept
+    → ((i : ℕ) → i < taken → is_set standing i ≡ stands_at pairs text (at + i)) → AreKeptFrom begin standing since → AreKeptBelow taken since kept
     → row ≡ row_before pairs text (at + begin) → byte_at text (at + begin - 1) < 192
     → Reached profile cell (text ++ more) all (record { count = 0; row = row; at = at + begin }) []
     → BlockTaken profile cell (text ++ more) all pairs text at taken kept
@@ -207,7 +207,7 @@ block-taken profile cell text more all steps kinds pairs row at begin taken stan
           (λ (earlier : k < begin). are_since.none k earlier ∙ sym (from-none here (from + i) t.given t.from (omega arith)))
           (λ (later : begin ≤ k).
           let on : here + (k - begin) ≡ at + k = omega arith in
-          are_since.same k later (omega arith) ∙ stands k (omega arith)
+          are_since.same k later (omega arith) ∙ stands k inside
           ∙ sym (subst (λ p. stands_among p t.given ≡ stands_at pairs text p) on (t.told (k - begin) (omega arith)))
           ∙ ap (λ p. stands_among p t.given) same)
           (cases_lt k begin))

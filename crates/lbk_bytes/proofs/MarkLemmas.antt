@@ -3,7 +3,7 @@ use Rattle.std.proofs.Common.{◌≡◌, ℕ, suc, ◌+◌, ◌-◌, ◌*◌, �
 use Rattle.std.specs.Int.{from_bool}
 use Rattle.std.specs.Int.Bits.{bit_or}
 use Rattle.std.proofs.lemmas.Bool.{and_right, cases_eq, eq-eqb, ne_eqb}
-use Rattle.std.proofs.lemmas.List.{get_or-take, length-take, length-take-le, map-append, take-append-drop, take_more}
+use Rattle.std.proofs.lemmas.List.{append-nil, get_or_past, length-take-le, take-append-drop}
 use Rattle.std.proofs.lemmas.Nat.{one_shl}
 use Rattle.std.proofs.lemmas.Nat.Bits.{bit_at-pow_other, bit_at-pow_same}
 use Rattle.bstr.specs.Utf8.{pieces}
@@ -66,6 +66,10 @@ marked-one words index i s within =
     ∙ or-none (is_marked words i) (s && (index == i)) (and_right s (index == i) (ne_eqb index i (λ e. apart (ap (λ n. n / 64) (sym e))))))
     (cases_eq (i / 64) (index / 64))
 
+-- behind the last word no bit is set
+pub marked-past : (words : List ℕ) (i : ℕ) → 64 * length words ≤ i → is_marked words i ≡ false
+marked-past words i past = ap (λ n. is_set n (i % 64)) (get_or_past words (i / 64) 0 (omega arith)) ∙ set-none (i % 64)
+
 -- Breaks
 
 pub among-append : (place : ℕ) (xs ys : List Break) → stands_among place (xs ++ ys) ≡ (stands_among place xs || stands_among place ys)
@@ -87,17 +91,6 @@ pub below-wider : (stop further : ℕ) (bs : List Break) → stop ≤ further �
 below-wider stop further [] wider below = tt
 below-wider stop further (b ∷ bs) wider below = (let first = below.0 in omega arith, below-wider stop further bs wider below.1)
 
-below-each : (stop : ℕ) (block : List RawBreak) → ((k : ℕ) → k < length block → (get_or block k no_break).at < stop) → AreBelow stop (map shown block)
-below-each stop [] each = tt
-below-each stop (b ∷ bs) each = (each 0 (omega arith), below-each stop bs (λ k h. each (suc k) (omega arith)))
-
--- those of a block are below where they end
-pub below-given : (block : List RawBreak) (count from to : ℕ) → count ≤ length block → AreInOrder block count from to → AreBelow to (given_in block count)
-below-given block count from to few order =
-    below-each to (take count block) (λ k h.
-    let inside : k < count = omega (arith, length-take count block) in
-    subst (λ (b : RawBreak). b.at < to) (sym (get_or-take count block k no_break inside)) (order.within k inside).1)
-
 -- Further
 
 -- what comes from a state on is what is left of all
@@ -111,7 +104,7 @@ pub record Adds (profile : Profile) (cell : ℕ → Cell) (text : List ℕ) (all
   pub given : List Break
   pub reached : Reached profile cell text all (uncounted there) given
   pub below : AreBelow stop given
-  pub marked : (i : ℕ) → is_marked new i ≡ (is_marked old i || stands_among (from + i) given)
+  pub marked : (i : ℕ) → i < 64 * length old → is_marked new i ≡ (is_marked old i || stands_among (from + i) given)
   pub boundary : boundary_from text there.at stop ≡ boundary_from text here.at stop
 
 pub Marked-more : (profile : Profile) (cell : ℕ → Cell) (text : List ℕ) (all : Ahead) (from stop : ℕ) (here there : FillState) (old new : List ℕ)
@@ -133,7 +126,7 @@ Marked-more profile cell text all from stop here there old new same adds m =
       };
       below = below-append stop m.given more.given m.below more.below;
       marked = λ i h.
-          more.marked i
+          more.marked i (omega arith)
           ∙ ap (λ s. s || stands_among (from + i) more.given) (m.marked i (omega arith))
           ∙ sym (among-append (from + i) m.given more.given);
       boundary = more.boundary ∙ m.boundary;
@@ -151,18 +144,6 @@ from-or from at i after =
     (λ (apart : at ≡ from + i → ⊥). ne_eqb (at - from) i (λ e. apart (omega arith)) ∙ sym (ne_eqb at (from + i) apart))
     (cases_eq at (from + i))
 
--- a break more
-pub break-more : (breaks : List RawBreak) (k from i : ℕ) → k < length breaks → from ≤ (get_or breaks k no_break).at
-    → (stands_among (from + i) (map shown (take k breaks)) || (true && ((get_or breaks k no_break).at - from == i))) ≡ stands_among (from + i) (map shown (take (k + 1) breaks))
-break-more breaks k from i inside after =
-    let found = get_or breaks k no_break in
-    let last : (found.at - from == i) ≡ stands_among (from + i) (shown found ∷ []) = from-or from found.at i after ∙ or-none (found.at == from + i) false refl in
-    sym
-    (ap (λ l. stands_among (from + i) (map shown l)) (take_more breaks k no_break inside)
-    ∙ ap (stands_among (from + i)) (map-append shown (take k breaks) (found ∷ []))
-    ∙ among-append (from + i) (map shown (take k breaks)) (shown found ∷ [])
-    ∙ ap (λ b. stands_among (from + i) (map shown (take k breaks)) || b) (sym last))
-
 -- what is decided before one scalar
 pub break-among : (b : Bool) (from at i : ℕ) (verdict : Verdict) → b ≡ not (is_no verdict.kind) → from ≤ at
     → (b && (at - from == i)) ≡ stands_among (from + i) (with_break at verdict [])
@@ -176,25 +157,27 @@ pub break-below : (stop at : ℕ) (verdict : Verdict) → at < stop → AreBelow
 break-below stop at verdict below =
     elim (is_no verdict.kind) as (λ no. AreBelow stop (cond no [] (break_by at verdict ∷ []))) [ true ↦ tt | false ↦ (below, tt) ]
 
--- a state, whatever it counts
-pub Reached-uncounted : (profile : Profile) (cell : ℕ → Cell) (text : List ℕ) (all : Ahead) (here : FillState) (given : List Break)
-    → Reached profile cell text all here given → Reached profile cell text all (uncounted here) given
-Reached-uncounted profile cell text all here given r = record { taken = r.taken; knows = r.knows; some = r.some; joined = r.joined }
+-- what is done with the front of a text is done with the text
+pub Marked-by-front : (profile : Profile) (cell : ℕ → Cell) (text : List ℕ) (all : Ahead) (from stop : ℕ) (here there : FillState) (old new : List ℕ) → stop ≤ length text
+    → (Marked profile cell (take stop text ++ drop stop text) all from (length (take stop text)) here old
+    → Marked profile cell (take stop text ++ drop stop text) all from (length (take stop text)) there new)
+    → Marked profile cell text all from stop here old → Marked profile cell text all from stop there new
+Marked-by-front profile cell text all from stop here there old new within further m =
+    let ends = length-take-le stop text within in
+    let whole = take-append-drop stop text in
+    subst (λ t. Marked profile cell t all from stop there new) whole
+    (subst (λ n. Marked profile cell (take stop text ++ drop stop text) all from n there new) ends
+    (further
+    (subst (λ n. Marked profile cell (take stop text ++ drop stop text) all from n here old) (sym ends)
+    (subst (λ t. Marked profile cell t all from stop here old) (sym whole) m))))
 
--- the front of a text, and what is behind it
-pub Marked-front : (profile : Profile) (cell : ℕ → Cell) (text : List ℕ) (all : Ahead) (from stop : ℕ) (here : FillState) (words : List ℕ) → stop ≤ length text
-    → Marked profile cell text all from stop here words
-    → Marked profile cell (take stop text ++ drop stop text) all from (length (take stop text)) here words
-Marked-front profile cell text all from stop here words within m =
-    subst (λ n. Marked profile cell (take stop text ++ drop stop text) all from n here words) (sym (length-take-le stop text within))
-    (subst (λ t. Marked profile cell t all from stop here words) (sym (take-append-drop stop text)) m)
-
-pub Marked-whole : (profile : Profile) (cell : ℕ → Cell) (text : List ℕ) (all : Ahead) (from stop : ℕ) (here : FillState) (words : List ℕ) → stop ≤ length text
-    → Marked profile cell (take stop text ++ drop stop text) all from (length (take stop text)) here words
-    → Marked profile cell text all from stop here words
-Marked-whole profile cell text all from stop here words within m =
-    subst (λ t. Marked profile cell t all from stop here words) (take-append-drop stop text)
-    (subst (λ n. Marked profile cell (take stop text ++ drop stop text) all from n here words) (length-take-le stop text within) m)
+-- where nothing follows it
+pub Marked-alone : (profile : Profile) (cell : ℕ → Cell) (text : List ℕ) (all : Ahead) (from stop : ℕ) (here there : FillState) (old new : List ℕ)
+    → (Marked profile cell (text ++ []) all from stop here old → Marked profile cell (text ++ []) all from stop there new)
+    → Marked profile cell text all from stop here old → Marked profile cell text all from stop there new
+Marked-alone profile cell text all from stop here there old new further m =
+    subst (λ t. Marked profile cell t all from stop there new) (append-nil text)
+    (further (subst (λ t. Marked profile cell t all from stop here old) (sym (append-nil text)) m))
 
 -- where nothing was given yet
 pub Marked-none : (profile : Profile) (cell : ℕ → Cell) (text : List ℕ) (all : Ahead) (stop : ℕ) (here : FillState) (words : List ℕ)

@@ -1,5 +1,5 @@
 -- How far a call has come that sets a bit for each break.
-use Rattle.std.specs.Prelude.{◌≡◌, ℕ, ◌+◌, ◌*◌, ◌<◌, ◌≤◌, List, [], ◌∷◌, length}
+use Rattle.std.specs.Prelude.{◌≡◌, ℕ, ◌+◌, ◌*◌, ◌<◌, ◌≤◌, false, List, [], ◌∷◌, length}
 use Rattle.lbk_rules.specs.declared.Break.{Break}
 use Rattle.lbk_rules.specs.declared.Cell.{Cell}
 use Rattle.lbk_values.specs.declared.profile.Profile.{Profile}
@@ -16,6 +16,10 @@ AreBelow stop (b ∷ bs) = (b.at < stop) × AreBelow stop bs
 abbrev pub AreFrom : ℕ → List Break → Type 0
 AreFrom place [] = Unit {0}
 AreFrom place (b ∷ bs) = (place ≤ b.at) × AreFrom place bs
+
+-- counted from byte `from` on, no bit is set from byte `at` on
+abbrev pub AreClear : ℕ → ℕ → List ℕ → Type 0
+AreClear from at words = (i : ℕ) → at ≤ from + i → is_marked words i ≡ false
 
 -- a state, whatever it counts
 abbrev pub uncounted : FillState → FillState

@@ -14,9 +14,11 @@ ghost use Rattle.lbk_bytes.specs.Reached.{Ahead, IsInOrder, Reached};
 ghost use Rattle.lbk_bytes.specs.Shown.{given_in};
 
 use crate::fill_state::FillState;
-use crate::filling::{put, runs};
+use crate::filling::put;
 use crate::raw_break::RawBreak;
-use crate::tries::are_many;
+use crate::stepping::runs;
+use crate::target::Breaks;
+use crate::tries::are_too_many;
 use lbk_masks::{first_set, kept_below, kept_from, without_first};
 use lbk_rules::{Neighbours, Rows, place_by, step_at};
 
@@ -110,7 +112,7 @@ fn begun(
     if start.at != 0 || text.is_empty() {
         return start;
     }
-    runs(kinds, steps, start, 1, text, out)
+    runs(Breaks, kinds, steps, start, 1, text, out)
 }
 
 /// Takes the bytes of one block: those that its marks tell by them, and the others by steps.
@@ -145,7 +147,7 @@ fn block(
         if end <= there.at {
             return there;
         }
-        here = runs(kinds, steps, there, there.at + 1, text, out);
+        here = runs(Breaks, kinds, steps, there, there.at + 1, text, out);
         if here.at == there.at {
             return here;
         }
@@ -169,12 +171,13 @@ pub(crate) fn marks_ahead(pairs: &Neighbours, at: usize, text: &[u8]) -> Option<
     let ahead = &text[at..];
     let before = pairs.sets.left_of(text[at - 1]);
     let masks = pairs.sets.masks(before, ahead);
-    if are_many(masks.strays, ahead.len()) {
+    let left = masks.special | masks.strays;
+    if are_too_many(left, ahead.len()) {
         return None;
     }
     Some(Marks {
         standing: masks.standing,
-        stops: masks.special | masks.strays | past_end(ahead.len()),
+        stops: left | past_end(ahead.len()),
     })
 }
 

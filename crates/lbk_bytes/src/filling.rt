@@ -2,25 +2,21 @@
 
 ghost use Rattle.std.specs.Prelude.{◌≡◌, ℕ, ◌+◌, ◌<◌, ◌≤◌, ◌++◌, [], List, false, length, take};
 ghost use Rattle.lbk_rules.specs.declared.Cell.{Cell};
-ghost use Rattle.lbk_values.specs.declared.profile.Profile.{Profile};
-ghost use Rattle.lbk_rules.specs.FlatTable.{AreFlatKinds, IsFlatOf};
-ghost use Rattle.lbk_rules.specs.Neighbours.{AreTold};
-ghost use Rattle.lbk_rules.specs.Rows.{AreSteps, IsPlace, IsShown, steps_in, verdict_shown};
+ghost use Rattle.lbk_rules.specs.FlatTable.{IsFlatOf};
+ghost use Rattle.lbk_rules.specs.Rows.{IsPlace, IsShown, steps_in, verdict_shown};
 ghost use Rattle.lbk_bytes.specs.Bytes.{with_break};
-ghost use Rattle.lbk_bytes.specs.Marks.{boundary_from};
 ghost use Rattle.lbk_bytes.specs.Order.{AreBreaks, AreInOrder};
 ghost use Rattle.lbk_bytes.specs.Reached.{Ahead, IsInOrder, Reached};
 ghost use Rattle.lbk_bytes.specs.Shown.{given_in};
 
-use crate::blocks::{BLOCK, CODES, LEAST, blocks};
-use crate::deciding::decide_one;
-use crate::decoding::{Width, scalar_of};
+use crate::blocks::{BLOCK, LEAST, blocks};
 use crate::fill_state::FillState;
 use crate::held::take_ones;
-use crate::pieces::pieces;
 use crate::raw_break::RawBreak;
-use crate::tries::{are_short, next_try};
-use lbk_rules::{FlatTable, HELD, Neighbours, Profile, Rows, rows_of, shows_break, step_at};
+use crate::stepping::{quick, scalars};
+use crate::target::Breaks;
+use crate::tries::{are_near, next_try};
+use lbk_rules::{FlatTable, Neighbours, Profile, Rows, rows_of, shows_break};
 
 /// Goes on until the block is full or the text ends, and writes the breaks before the scalars taken after those in
 /// the front of the block. In a text of fewer than 64 bytes the scalars that no block takes are gone over here, with
@@ -47,16 +43,36 @@ pub fn fill<const MASKS: bool>(
     if start.count == out.len() {
         return start;
     }
+    let begun = short::<MASKS>(table, profile, start, text, out);
+    if begun.count == out.len() || begun.at == text.len() {
+        return begun;
+    }
+    copied(fill_on::<MASKS>(table, profile, copied(begun), text, out))
+}
+
+/// Takes the common scalars of a text of fewer than 64 bytes.
+#[inline(always)]
+fn short<const MASKS: bool>(
+    table: &FlatTable,
+    profile: Profile,
+    start: FillState,
+    text: &[u8],
+    out: &mut [RawBreak],
+) -> FillState
+    requires { (start.count ≤ length out.old) × IsPlace start.row × (start.at ≤ length text.now) }
+    ensures within { (result.count ≤ length out.old) × IsPlace result.row × (result.at ≤ length text.now) }
+    ensures in_order { (from : ℕ) → IsInOrder out.old start.count from start.at
+        → IsInOrder out.new result.count from result.at }
+    ensures reached { (cell : ℕ → Cell) (all : Ahead) → IsFlatOf table.now cell
+        → Reached profile cell text.now all start (given_in out.old start.count)
+        → Reached profile cell text.now all result (given_in out.new result.count) }
+{
     if BLOCK <= text.len() - start.at {
-        return copied(fill_on::<MASKS>(table, profile, start, text, out));
+        return start;
     }
     let steps = rows_of(profile);
     let begun = few::<MASKS>(table, profile, steps, start, text, out);
-    let here = scalars(&table.kinds, steps, begun, text.len(), text, out);
-    if here.count == out.len() || here.at == text.len() {
-        return here;
-    }
-    copied(fill_on::<MASKS>(table, profile, copied(here), text, out))
+    scalars(Breaks, &table.kinds, steps, begun, text.len(), text, out)
 }
 
 /// Takes a block of a text of fewer than 64 bytes, unless they are very few or of scalars that a block leaves to steps.
@@ -83,7 +99,7 @@ fn few<const MASKS: bool>(
     if !MASKS || text.len() - start.at < LEAST {
         return start;
     }
-    if !are_short(&text[start.at..]) {
+    if !are_near(&text[start.at..]) {
         return start;
     }
     copied(blocks::<MASKS>(&table.pairs, &table.kinds, steps, start, text, out))
@@ -179,7 +195,7 @@ fn further<const MASKS: bool>(
 {
     let part = common_part::<MASKS>(table, profile, here, text, out);
     if part.here.at < part.until && part.here.count < out.len() {
-        return take_ones(table, profile, part.here, text, out);
+        return take_ones(Breaks, table, profile, part.here, text.len(), text, out);
     }
     part.here
 }
@@ -218,199 +234,8 @@ fn common_part<const MASKS: bool>(
     let there = blocks::<MASKS>(&table.pairs, &table.kinds, steps, here, text, out);
     let until = next_try::<MASKS>(there.at, text);
     Part {
-        here: quick(&table.kinds, steps, there, until, text, out),
+        here: quick(Breaks, &table.kinds, steps, there, until, text, out),
         until,
-    }
-}
-
-/// Takes scalars and ill-formed bytes that begin before a byte, up to a held position or the text's last bytes,
-/// whatever may follow the text. The loop for common scalars calls nothing, so that all it has stays in registers.
-#[inline(never)]
-pub(crate) fn quick(
-    kinds: &[u8; CODES],
-    steps: &Rows,
-    start: FillState,
-    stop: usize,
-    text: &[u8],
-    out: &mut [RawBreak],
-) -> FillState
-    requires place { (start.count ≤ length out.old) × IsPlace start.row × (start.at ≤ length text.now)
-        × (stop ≤ length text.now) }
-    requires steps { AreSteps steps.now }
-    ensures within { (result.count ≤ length out.old) × IsPlace result.row × (result.at ≤ length text.now) }
-    ensures onward { (start.at ≤ result.at) × (start.count ≤ result.count) }
-    ensures in_order { (from : ℕ) → IsInOrder out.old start.count from start.at
-        → IsInOrder out.new result.count from result.at }
-    ensures near { start.at ≤ stop → result.at ≤ stop + 3 }
-    ensures before { (from place : ℕ) → stop ≤ place → start.at ≤ place → IsInOrder out.old start.count from start.at
-        → AreInOrder out.new result.count from place }
-    ensures boundary { (more : List ℕ) (place : ℕ) → stop ≤ place
-        → boundary_from (text.now ++ more) result.at place ≡ boundary_from (text.now ++ more) start.at place }
-    ensures reached { (profile : Profile) (cell : ℕ → Cell) (more : List ℕ) (all : Ahead)
-        → steps.now ≡ steps_in profile → AreFlatKinds kinds.now cell
-        → Reached profile cell (text.now ++ more) all start (given_in out.old start.count)
-        → Reached profile cell (text.now ++ more) all result (given_in out.new result.count) }
-{
-    let mut here = start;
-    while here.at < stop {
-        let common = scalars(kinds, steps, here, stop, text, out);
-        if stop <= common.at || common.count == out.len() {
-            return common;
-        }
-        here = pieces(kinds, steps, common, stop, text, out);
-        if here.at == common.at {
-            return here;
-        }
-    }
-    here
-}
-
-/// Takes common scalars that begin before a byte: of at most three bytes, and where no position is held.
-#[inline(always)]
-fn scalars(
-    kinds: &[u8; CODES],
-    steps: &Rows,
-    start: FillState,
-    stop: usize,
-    text: &[u8],
-    out: &mut [RawBreak],
-) -> FillState
-    requires place { (start.count ≤ length out.old) × IsPlace start.row × (start.at ≤ length text.now)
-        × (stop ≤ length text.now) }
-    requires steps { AreSteps steps.now }
-    ensures within { (result.count ≤ length out.old) × IsPlace result.row × (result.at ≤ length text.now) }
-    ensures onward { (start.at ≤ result.at) × (start.count ≤ result.count) }
-    ensures in_order { (from : ℕ) → IsInOrder out.old start.count from start.at
-        → IsInOrder out.new result.count from result.at }
-    ensures near { start.at ≤ stop → result.at ≤ stop + 3 }
-    ensures before { (from place : ℕ) → stop ≤ place → start.at ≤ place → IsInOrder out.old start.count from start.at
-        → AreInOrder out.new result.count from place }
-    ensures boundary { (more : List ℕ) (place : ℕ) → stop ≤ place
-        → boundary_from (text.now ++ more) result.at place ≡ boundary_from (text.now ++ more) start.at place }
-    ensures reached { (profile : Profile) (cell : ℕ → Cell) (more : List ℕ) (all : Ahead)
-        → steps.now ≡ steps_in profile → AreFlatKinds kinds.now cell
-        → Reached profile cell (text.now ++ more) all start (given_in out.old start.count)
-        → Reached profile cell (text.now ++ more) all result (given_in out.new result.count) }
-{
-    let mut here = start;
-    while here.at < stop {
-        let past = runs(kinds, steps, here, stop, text, out);
-        if past.at == here.at {
-            return past;
-        }
-        here = past;
-    }
-    here
-}
-
-/// A run of scalars of one byte, and then one of those that the next byte may begin. Each may be empty.
-#[inline(always)]
-pub(crate) fn runs(
-    kinds: &[u8; CODES],
-    steps: &Rows,
-    start: FillState,
-    stop: usize,
-    text: &[u8],
-    out: &mut [RawBreak],
-) -> FillState
-    requires place { (start.count ≤ length out.old) × IsPlace start.row × (start.at ≤ length text.now)
-        × (stop ≤ length text.now) }
-    requires steps { AreSteps steps.now }
-    ensures within { (result.count ≤ length out.old) × IsPlace result.row × (result.at ≤ length text.now) }
-    ensures onward { (start.at ≤ result.at) × (start.count ≤ result.count) }
-    ensures in_order { (from : ℕ) → IsInOrder out.old start.count from start.at
-        → IsInOrder out.new result.count from result.at }
-    ensures near { start.at ≤ stop → result.at ≤ stop + 3 }
-    ensures before { (from place : ℕ) → stop ≤ place → start.at ≤ place → IsInOrder out.old start.count from start.at
-        → AreInOrder out.new result.count from place }
-    ensures boundary { (more : List ℕ) (place : ℕ) → stop ≤ place
-        → boundary_from (text.now ++ more) result.at place ≡ boundary_from (text.now ++ more) start.at place }
-    ensures reached { (profile : Profile) (cell : ℕ → Cell) (more : List ℕ) (all : Ahead)
-        → steps.now ≡ steps_in profile → AreFlatKinds kinds.now cell
-        → Reached profile cell (text.now ++ more) all start (given_in out.old start.count)
-        → Reached profile cell (text.now ++ more) all result (given_in out.new result.count) }
-{
-    let behind_one = run(Width::One, kinds, steps, start, stop, text, out);
-    if stop <= behind_one.at {
-        return behind_one;
-    }
-    if text[behind_one.at] < 0xE0 {
-        return run(Width::Two, kinds, steps, behind_one, stop, text, out);
-    }
-    run(Width::Three, kinds, steps, behind_one, stop, text, out)
-}
-
-/// A run of scalars of one width. In a text most scalars have the width of the one before, so a loop of its own for
-/// each width seldom goes where the processor does not expect it.
-#[inline(always)]
-fn run(
-    width: Width,
-    kinds: &[u8; CODES],
-    steps: &Rows,
-    start: FillState,
-    stop: usize,
-    text: &[u8],
-    out: &mut [RawBreak],
-) -> FillState
-    requires place { (start.count ≤ length out.old) × IsPlace start.row × (start.at ≤ length text.now)
-        × (stop ≤ length text.now) }
-    requires steps { AreSteps steps.now }
-    ensures within { (result.count ≤ length out.old) × IsPlace result.row × (result.at ≤ length text.now) }
-    ensures onward { (start.at ≤ result.at) × (start.count ≤ result.count) }
-    ensures in_order { (from : ℕ) → IsInOrder out.old start.count from start.at
-        → IsInOrder out.new result.count from result.at }
-    ensures near { start.at ≤ stop → result.at ≤ stop + 3 }
-    ensures before { (from place : ℕ) → stop ≤ place → start.at ≤ place → IsInOrder out.old start.count from start.at
-        → AreInOrder out.new result.count from place }
-    ensures boundary { (more : List ℕ) (place : ℕ) → stop ≤ place
-        → boundary_from (text.now ++ more) result.at place ≡ boundary_from (text.now ++ more) start.at place }
-    ensures reached { (profile : Profile) (cell : ℕ → Cell) (more : List ℕ) (all : Ahead)
-        → steps.now ≡ steps_in profile → AreFlatKinds kinds.now cell
-        → Reached profile cell (text.now ++ more) all start (given_in out.old start.count)
-        → Reached profile cell (text.now ++ more) all result (given_in out.new result.count) }
-{
-    let mut count = start.count;
-    let mut row = start.row;
-    let mut at = start.at;
-    let end = stop.min(text.len().saturating_sub(width.more()));
-    while count < out.len() && at < end {
-        let Some(scalar) = scalar_of(width, &text[at..]) else {
-            break;
-        };
-        let step = step_at(steps, row, kinds[scalar.code as usize]);
-        if step.shown == HELD {
-            break;
-        }
-        count = put(out, count, at, step.shown);
-        row = step.next as usize;
-        at += scalar.size;
-    }
-    FillState { count, row, at }
-}
-
-/// Takes one scalar, whatever it is, and writes the break before it.
-pub(crate) fn take_one(
-    table: &FlatTable,
-    profile: Profile,
-    here: FillState,
-    text: &[u8],
-    out: &mut [RawBreak],
-) -> FillState
-    requires { (here.count < length out.old) × IsPlace here.row × (here.at < length text.now) }
-    ensures within { (result.count ≤ length out.old) × IsPlace result.row × (result.at ≤ length text.now) }
-    ensures onward { (here.at < result.at) × (here.count ≤ result.count) }
-    ensures in_order { (from : ℕ) → IsInOrder out.old here.count from here.at
-        → IsInOrder out.new result.count from result.at }
-    ensures reached { (cell : ℕ → Cell) (all : Ahead) → IsFlatOf table.now cell
-        → Reached profile cell text.now all here (given_in out.old here.count)
-        → Reached profile cell text.now all result (given_in out.new result.count) }
-{
-    let decided = decide_one(table, profile, here.row, here.at, text);
-    let count = put(out, here.count, here.at, decided.shown);
-    FillState {
-        count,
-        row: decided.row,
-        at: decided.at,
     }
 }
 

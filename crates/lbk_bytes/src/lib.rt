@@ -11,12 +11,13 @@ mod fill_state;
 mod filling;
 mod held;
 mod mark_blocks;
-mod mark_runs;
 mod marking;
 mod marks;
 mod pieces;
 mod profiles;
 mod raw_break;
+mod stepping;
+mod target;
 mod tries;
 
 pub use deciding::{Decided, decide_one};

@@ -7,27 +7,24 @@ ghost use Rattle.lbk_rules.specs.declared.steps.Step.{Step};
 ghost use Rattle.lbk_rules.specs.FlatTable.{AreFlatKinds};
 ghost use Rattle.lbk_rules.specs.Neighbours.{AreTold};
 ghost use Rattle.lbk_rules.specs.Rows.{AreSteps, IsPlace, steps_in};
-ghost use Rattle.lbk_bytes.specs.Blocks.{AreMarks};
-ghost use Rattle.lbk_bytes.specs.Marking.{Marked};
+ghost use Rattle.lbk_bytes.specs.Blocks.{AreEnded, AreMarks};
+ghost use Rattle.lbk_bytes.specs.Marking.{AreClear, Marked};
 ghost use Rattle.lbk_bytes.specs.Marks.{is_marked};
 ghost use Rattle.lbk_bytes.specs.Reached.{Ahead};
 
 use crate::blocks::{BLOCK, CODES, Marks, behind_byte, kept_up_to, marks_ahead};
 use crate::fill_state::FillState;
-use crate::mark_runs::{NO_BREAK, mark_left};
 use crate::marks::mark_bits;
-use crate::raw_break::RawBreak;
-use crate::tries::are_long;
+use crate::stepping::runs;
+use crate::target::Bits;
+use crate::tries::{SEEN, are_left};
 use lbk_masks::kept_from;
 use lbk_rules::{Neighbours, Rows};
 
-/// How many breaks before bytes that are left to steps are examined together.
-const ROOM: usize = 8;
-
 /// Takes blocks of bytes, as many as come one after the other, up to a scalar that no step takes, or from which on
-/// fewer than 64 bytes are left, or many of them to steps. Where the next bytes are of scalars of three
-/// bytes or more, it takes none.
-#[inline(never)]
+/// few bytes are left, or many of them to steps. Where the next bytes are of scalars that blocks leave to
+/// steps, it takes none.
+#[inline(always)]
 pub(crate) fn mark_blocks(
     pairs: &Neighbours,
     kinds: &[u8; CODES],
@@ -41,27 +38,27 @@ pub(crate) fn mark_blocks(
         × (length text.now ≤ from + 64 * length words.old) }
     requires steps { AreSteps steps.now }
     ensures within { IsPlace result.row × (start.at ≤ result.at) × (result.at ≤ length text.now) }
-    ensures after { (i : ℕ) → result.at ≤ from + i → is_marked words.new i ≡ is_marked words.old i }
+    ensures none { AreClear from start.at words.old → AreClear from result.at words.new }
     ensures marked { (profile : Profile) (cell : ℕ → Cell) (more : List ℕ) (all : Ahead)
         → steps.now ≡ steps_in profile → AreFlatKinds kinds.now cell → AreTold steps.now kinds.now pairs.now
         → Marked profile cell (text.now ++ more) all from (length text.now) start words.old
         → Marked profile cell (text.now ++ more) all from (length text.now) result words.new }
 {
-    if text.len() - start.at < BLOCK || are_long(&text[start.at..]) {
+    if text.len() - start.at < SEEN || are_left(&text[start.at..]) {
         return start;
     }
-    let mut block = [NO_BREAK; ROOM];
-    let mut behind = start.at;
-    let mut here = mark_block(pairs, kinds, steps, start, from, text, &mut block, words);
-    while BLOCK <= here.at - behind {
-        behind = here.at;
-        here = mark_block(pairs, kinds, steps, here, from, text, &mut block, words);
+    let mut here = start;
+    loop {
+        let behind = here.at;
+        here = mark_block(pairs, kinds, steps, here, from, text, words);
+        if here.at - behind < BLOCK {
+            return here;
+        }
     }
-    here
 }
 
 /// Takes the bytes of one block: those that its marks tell by them, and the others by steps.
-#[inline(always)]
+#[inline(never)]
 fn mark_block(
     pairs: &Neighbours,
     kinds: &[u8; CODES],
@@ -69,26 +66,22 @@ fn mark_block(
     start: FillState,
     from: usize,
     text: &[u8],
-    block: &mut [RawBreak],
     words: &mut [u64],
 ) -> FillState
     requires place { IsPlace start.row × (from ≤ start.at) × (start.at ≤ length text.now)
         × (length text.now ≤ from + 64 * length words.old) }
     requires steps { AreSteps steps.now }
     ensures within { IsPlace result.row × (start.at ≤ result.at) × (result.at ≤ length text.now) }
-    ensures after { (i : ℕ) → result.at ≤ from + i → is_marked words.new i ≡ is_marked words.old i }
+    ensures none { AreClear from start.at words.old → AreClear from result.at words.new }
     ensures marked { (profile : Profile) (cell : ℕ → Cell) (more : List ℕ) (all : Ahead)
         → steps.now ≡ steps_in profile → AreFlatKinds kinds.now cell → AreTold steps.now kinds.now pairs.now
         → Marked profile cell (text.now ++ more) all from (length text.now) start words.old
         → Marked profile cell (text.now ++ more) all from (length text.now) result words.new }
 {
-    if text.len() - start.at < BLOCK {
-        return start;
-    }
     let Some(marks) = marks_ahead(pairs, start.at, text) else {
         return start;
     };
-    let end = start.at + BLOCK;
+    let end = start.at + BLOCK.min(text.len() - start.at);
     let mut here = start;
     while here.at < end {
         let there = mark_told(pairs, start.at, marks, here, from, text, words);
@@ -96,7 +89,7 @@ fn mark_block(
             return there;
         }
         let stop = behind_stops(marks.stops, start.at, there.at, end);
-        here = mark_left(kinds, steps, there, stop, from, text, block, words);
+        here = runs(Bits { from }, kinds, steps, there, stop, text, words);
         if here.at == there.at {
             return here;
         }
@@ -128,7 +121,8 @@ fn mark_told(
     words: &mut [u64],
 ) -> FillState
     requires place { IsPlace here.row × (0 < at) × (from ≤ at) × (at ≤ here.at) × (here.at < at + 64)
-        × (at + 64 ≤ length text.now) × (length text.now ≤ from + 64 * length words.old) }
+        × (here.at < length text.now) × (length text.now ≤ from + 64 * length words.old) }
+    requires ends { AreEnded text.now at marks.stops }
     ensures within { IsPlace result.row × (here.at ≤ result.at) × (result.at ≤ length text.now) }
     ensures after { (i : ℕ) → result.at ≤ from + i → is_marked words.new i ≡ is_marked words.old i }
     ensures marked { (profile : Profile) (cell : ℕ → Cell) (steps : List (List Step))

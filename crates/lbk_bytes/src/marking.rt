@@ -6,18 +6,17 @@ ghost use Rattle.lbk_values.specs.declared.profile.Profile.{Profile};
 ghost use Rattle.lbk_rules.specs.FlatTable.{IsFlatOf, KnowsTaken};
 ghost use Rattle.lbk_rules.specs.Rows.{IsPlace};
 ghost use Rattle.lbk_bytes.specs.Bytes.{end_in};
-ghost use Rattle.lbk_bytes.specs.Marking.{Marked, uncounted};
+ghost use Rattle.lbk_bytes.specs.Marking.{AreClear, Marked, uncounted};
 ghost use Rattle.lbk_bytes.specs.Marks.{is_marked, stands_among};
 ghost use Rattle.lbk_bytes.specs.Reached.{Ahead, Reached};
 
-use crate::deciding::decide_one;
 use crate::ends::end_shown;
 use crate::fill_state::FillState;
-use crate::filling::Part;
-use crate::held::mark_ones;
+use crate::held::take_ones;
 use crate::mark_blocks::mark_blocks;
-use crate::mark_runs::mark_scalars;
 use crate::marks::{BITS, clear, mark};
+use crate::stepping::quick;
+use crate::target::Bits;
 use crate::tries::next_try;
 use lbk_rules::{FlatTable, Profile, rows_of, shows_break};
 
@@ -61,7 +60,7 @@ fn stop_of(from: usize, text: &[u8], words: usize) -> usize
     from + BITS * words
 }
 
-/// Takes one scalar or more.
+/// Takes blocks of bytes and then scalars, at least one, that begin before a byte.
 fn mark_further(
     table: &FlatTable,
     profile: Profile,
@@ -75,75 +74,31 @@ fn mark_further(
         × (stop ≤ from + 64 * length words.old) }
     ensures within { IsPlace result.row × (here.at < result.at) × (result.at ≤ length text.now) }
     ensures near { result.at ≤ stop + 3 }
-    ensures after { (i : ℕ) → result.at ≤ from + i → is_marked words.new i ≡ is_marked words.old i }
+    ensures none { AreClear from here.at words.old → AreClear from result.at words.new }
     ensures marked { (cell : ℕ → Cell) (all : Ahead) → IsFlatOf table.now cell
         → Marked profile cell text.now all from stop here words.old
         → Marked profile cell text.now all from stop result words.new }
-{
-    let part = mark_common(table, profile, here, from, stop, text, words);
-    if part.until <= part.here.at {
-        return part.here;
-    }
-    mark_ones(table, profile, part.here, from, stop, text, words)
-}
-
-/// Takes blocks of bytes and then scalars that begin in the front of a text, up to where blocks are tried again, unless
-/// a held position or the text's last bytes come before.
-fn mark_common(
-    table: &FlatTable,
-    profile: Profile,
-    here: FillState,
-    from: usize,
-    stop: usize,
-    text: &[u8],
-    words: &mut [u64],
-) -> Part
-    requires { IsPlace here.row × (from ≤ here.at) × (here.at < stop) × (stop ≤ length text.now)
-        × (stop ≤ from + 64 * length words.old) }
-    ensures within { IsPlace result.here.row × (here.at ≤ result.here.at) × (result.here.at ≤ length text.now)
-        × (here.at < result.until) × (result.until ≤ stop) }
-    ensures near { result.here.at ≤ stop + 3 }
-    ensures after { (i : ℕ) → result.here.at ≤ from + i → is_marked words.new i ≡ is_marked words.old i }
-    ensures marked { (cell : ℕ → Cell) (all : Ahead) → IsFlatOf table.now cell
-        → Marked profile cell text.now all from stop here words.old
-        → Marked profile cell text.now all from stop result.here words.new }
 {
     let steps = rows_of(profile);
     let front = &text[..stop];
     let there = mark_blocks(&table.pairs, &table.kinds, steps, here, from, front, words);
+    if there.at == stop {
+        return there;
+    }
     let until = next_try::<true>(there.at, front);
-    Part {
-        here: mark_scalars(&table.kinds, steps, there, until, from, text, words),
+    let past = quick(
+        Bits { from },
+        &table.kinds,
+        steps,
+        there,
         until,
+        text,
+        words,
+    );
+    if until <= past.at {
+        return past;
     }
-}
-
-/// Takes one scalar, whatever it is.
-pub(crate) fn mark_one(
-    table: &FlatTable,
-    profile: Profile,
-    here: FillState,
-    from: usize,
-    text: &[u8],
-    words: &mut [u64],
-) -> FillState
-    requires { IsPlace here.row × (from ≤ here.at) × (here.at < length text.now)
-        × (here.at < from + 64 * length words.old) }
-    ensures within { IsPlace result.row × (here.at < result.at) × (result.at ≤ length text.now) }
-    ensures near { result.at ≤ here.at + 4 }
-    ensures after { (i : ℕ) → result.at ≤ from + i → is_marked words.new i ≡ is_marked words.old i }
-    ensures marked { (cell : ℕ → Cell) (all : Ahead) (stop : ℕ) → IsFlatOf table.now cell
-        → here.at < stop
-        → Marked profile cell text.now all from stop here words.old
-        → Marked profile cell text.now all from stop result words.new }
-{
-    let decided = decide_one(table, profile, here.row, here.at, text);
-    mark(words, here.at - from, shows_break(decided.shown));
-    FillState {
-        count: 0,
-        row: decided.row,
-        at: decided.at,
-    }
+    take_ones(Bits { from }, table, profile, past, stop, text, words)
 }
 
 /// Sets the bit of a text's end, or of the end of a part of one, if a line may or must end there.

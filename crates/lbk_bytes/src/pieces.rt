@@ -5,16 +5,12 @@ ghost use Rattle.lbk_rules.specs.declared.Cell.{Cell};
 ghost use Rattle.lbk_values.specs.declared.profile.Profile.{Profile};
 ghost use Rattle.lbk_rules.specs.FlatTable.{AreFlatKinds};
 ghost use Rattle.lbk_rules.specs.Rows.{AreSteps, IsPlace, steps_in};
-ghost use Rattle.lbk_bytes.specs.Marks.{boundary_from};
-ghost use Rattle.lbk_bytes.specs.Order.{AreInOrder};
-ghost use Rattle.lbk_bytes.specs.Reached.{Ahead, IsInOrder, Reached};
-ghost use Rattle.lbk_bytes.specs.Shown.{given_in};
+ghost use Rattle.lbk_bytes.specs.Reached.{Ahead};
 
 use crate::blocks::CODES;
 use crate::decoding::{ENOUGH, REPLACEMENT, piece_of};
 use crate::fill_state::FillState;
-use crate::filling::put;
-use crate::raw_break::RawBreak;
+use crate::target::Target;
 use lbk_rules::{HELD, Rows, step_at};
 
 /// How many common scalars are taken here behind one that is not. Behind more of them the loops for scalars of one
@@ -26,43 +22,41 @@ const PATIENCE: usize = 4;
 /// are left.
 #[cold]
 #[inline(never)]
-pub(crate) fn pieces(
+pub(crate) fn pieces<T: Target>(
+    target: T,
     kinds: &[u8; CODES],
     steps: &Rows,
     start: FillState,
     stop: usize,
     text: &[u8],
-    out: &mut [RawBreak],
+    out: &mut [T::Place],
 ) -> FillState
-    requires place { (start.count ≤ length out.old) × IsPlace start.row × (start.at ≤ length text.now)
-        × (stop ≤ length text.now) }
+    requires place { T.fits target out.old start.count start.at stop × IsPlace start.row
+        × (start.at ≤ length text.now) × (stop ≤ length text.now) }
     requires steps { AreSteps steps.now }
-    ensures within { (result.count ≤ length out.old) × IsPlace result.row × (result.at ≤ length text.now) }
+    ensures within { T.fits target out.new result.count result.at stop × IsPlace result.row
+        × (result.at ≤ length text.now) }
     ensures onward { (start.at ≤ result.at) × (start.count ≤ result.count) }
-    ensures in_order { (from : ℕ) → IsInOrder out.old start.count from start.at
-        → IsInOrder out.new result.count from result.at }
+    ensures in_order { (from : ℕ) → T.in_order target out.old start.count from start.at
+        → T.in_order target out.new result.count from result.at }
     ensures near { start.at ≤ stop → result.at ≤ stop + 3 }
-    ensures before { (from place : ℕ) → stop ≤ place → start.at ≤ place → IsInOrder out.old start.count from start.at
-        → AreInOrder out.new result.count from place }
-    ensures boundary { (more : List ℕ) (place : ℕ) → stop ≤ place
-        → boundary_from (text.now ++ more) result.at place ≡ boundary_from (text.now ++ more) start.at place }
-    ensures reached { (profile : Profile) (cell : ℕ → Cell) (more : List ℕ) (all : Ahead)
-        → steps.now ≡ steps_in profile → AreFlatKinds kinds.now cell
-        → Reached profile cell (text.now ++ more) all start (given_in out.old start.count)
-        → Reached profile cell (text.now ++ more) all result (given_in out.new result.count) }
+    ensures reached { (profile : Profile) (cell : ℕ → Cell) (more : List ℕ) (all : Ahead) (last : ℕ)
+        → steps.now ≡ steps_in profile → AreFlatKinds kinds.now cell → stop ≤ last
+        → T.reached target profile cell (text.now ++ more) all last start out.old
+        → T.reached target profile cell (text.now ++ more) all last result out.new }
 {
     let mut count = start.count;
     let mut row = start.row;
     let mut at = start.at;
     let mut patience = PATIENCE;
     let end = stop.min(text.len().saturating_sub(ENOUGH - 1));
-    while count < out.len() && at < end && 0 < patience {
+    'taking: while target.has_room(out, count) && at < end && 0 < patience {
         let piece = piece_of(&text[at..]);
         let step = step_at(steps, row, kinds[piece.code as usize]);
         if step.shown == HELD {
             break;
         }
-        count = put(out, count, at, step.shown);
+        count = target.put(out, count, at, step.shown);
         row = step.next as usize;
         at += piece.size;
         patience = patience_behind(piece.code, patience);

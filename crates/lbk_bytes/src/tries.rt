@@ -3,10 +3,13 @@
 ghost use Rattle.std.specs.Prelude.{◌<◌, ◌≤◌, length};
 
 use crate::blocks::BLOCK;
-use lbk_masks::{long_scalars, strays};
+use lbk_masks::{far_scalars, strays};
 
 /// Where more bytes than this of 64 are of scalars of three bytes or more, such scalars are usual.
 const FEW: usize = 12;
+
+/// Where more than this are left to steps, a block costs more than it saves.
+const MOST: usize = 20;
 
 /// How many bytes are then taken one by one.
 const MANY: usize = 1024;
@@ -14,24 +17,52 @@ const MANY: usize = 1024;
 /// Whether these bytes of the first 64 of a text, or of all where it has fewer, a bit each, are so many that a block
 /// costs more than it saves.
 #[inline(always)]
-pub(crate) fn are_many(strays: u64, length: usize) -> bool {
-    FEW * length.min(BLOCK) < BLOCK * strays.count_ones() as usize
+pub(crate) fn are_too_many(left: u64, length: usize) -> bool {
+    MOST * length.min(BLOCK) < BLOCK * left.count_ones() as usize
 }
 
-/// Whether scalars of three bytes or more seem to be rare in a text, by its first bytes.
+/// Whether these bytes of 64, a bit each, are usual.
 #[inline(always)]
-pub(crate) fn are_short(text: &[u8]) -> bool
-    requires { 16 ≤ length text.now }
-{
-    long_scalars(text) < 2
+fn are_many(strays: u64) -> bool {
+    FEW < strays.count_ones() as usize
 }
 
-/// Whether a text begins with scalars of three bytes or more, which fill its first sixteen.
+/// Whether scalars from U+0580 on seem to be rare in a text, by its first bytes. Blocks leave these to steps.
 #[inline(always)]
-pub(crate) fn are_long(text: &[u8]) -> bool
+pub(crate) fn are_near(text: &[u8]) -> bool
     requires { 16 ≤ length text.now }
 {
-    3 < long_scalars(text)
+    far_scalars(text) < 2
+}
+
+/// How many bytes at the front of a text tell whether such scalars are usual.
+pub(crate) const SEEN: usize = 32;
+
+/// Whether they are, by the first of a text's bytes.
+#[inline(always)]
+fn are_far(text: &[u8]) -> bool
+    requires { 32 ≤ length text.now }
+{
+    FEW < 2 * far_in(text)
+}
+
+/// How many of them begin in the first 32 bytes of a text.
+#[inline(always)]
+fn far_in(text: &[u8]) -> usize
+    requires { 32 ≤ length text.now }
+    ensures { result ≤ 128 }
+{
+    (far_scalars(text) + far_scalars(&text[16..])) as usize
+}
+
+/// Whether a block of these bytes would leave many of them to steps. Where no scalar from U+0580 on is among the first,
+/// the masks tell it.
+#[inline(always)]
+pub(crate) fn are_left(text: &[u8]) -> bool
+    requires { 32 ≤ length text.now }
+{
+    let far = far_in(text);
+    FEW < 2 * far || (0 < far && BLOCK <= text.len() && are_many(strays(text)))
 }
 
 /// Up to where scalars are taken one by one, before blocks are tried again; without masks that is the text's end.
@@ -57,7 +88,7 @@ fn pause(text: &[u8]) -> usize
     requires { 64 ≤ length text.now }
     ensures { 0 < result }
 {
-    if are_many(strays(text), BLOCK) {
+    if are_many(strays(text)) || are_far(text) {
         MANY
     } else {
         BLOCK

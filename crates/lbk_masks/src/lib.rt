@@ -154,12 +154,13 @@ pub fn strays(text: &[u8]) -> u64
     strays_by(edges_further(block_of(&text[48..]), 48, three))
 }
 
-/// How many of the first 16 bytes of a text begin scalars of three bytes or more.
+/// How many of the first 16 bytes of a text begin scalars from U+0580 on. These have two bytes or more.
 #[inline(always)]
-pub fn long_scalars(text: &[u8]) -> u32
+pub fn far_scalars(text: &[u8]) -> u32
     requires { 16 ≤ length text.now }
+    ensures { result ≤ 64 }
 {
-    least(224, block_of(text)).count_ones()
+    least(0xD6, block_of(text)).count_ones()
 }
 
 /// Which bytes are strays, by which are from 128 on and from 192 on.

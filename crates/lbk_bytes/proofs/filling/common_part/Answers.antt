@@ -1,3 +1,4 @@
+use Rattle.std.proofs.Common.{length, arith}
 use Rattle.lbk_bytes.proofs.StepLemmas.{told-as}
 use Rattle.lbk_bytes.proofs.filling.common_part.Goals as goal
 
@@ -13,4 +14,4 @@ returns-clause-reached g c = λ cell more all flat start.
     let steps = c.rows_of-steps in
     let there = c.blocks-there in
     let told = told-as profile c.args.table.now cell steps.result.now flat steps.ensures in
-    c.quick.ensures.reached profile cell more all steps.ensures flat.kinds (there.ensures.reached profile cell more all steps.ensures flat.kinds told start)
+    c.quick.ensures.reached profile cell more all (length c.args.text.now) steps.ensures flat.kinds (omega arith) (there.ensures.reached profile cell more all steps.ensures flat.kinds told start)

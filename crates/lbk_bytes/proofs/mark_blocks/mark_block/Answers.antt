@@ -10,7 +10,7 @@ returns-then-end-there-clause-marked c = λ profile cell more all swift are_kind
 pub returns-then-here-there-clause-marked : goal.returns-then-here-there-clause-marked
 returns-then-here-there-clause-marked c = λ profile cell more all swift are_kinds told start.
     let l = c.loop-here in
-    c.mark_left-here.ensures.marked profile cell more all (length c.args.text.now) swift are_kinds (omega arith)
+    c.runs-here.ensures.reached profile cell more all (length c.args.text.now) swift are_kinds (omega arith)
     (c.mark_told-there.ensures.marked profile cell c.args.steps.now c.args.kinds.now more all swift are_kinds told c.in-Some.ensures
     (l.invariant.marked profile cell more all swift are_kinds told start))
 
@@ -18,14 +18,20 @@ pub loop-here-preserved : goal.loop-here-preserved
 loop-here-preserved c =
     let l = c.loop-here in
     let there = c.mark_told-there.ensures in
-    let here = c.mark_left-here.ensures in
+    let here = c.runs-here.ensures in
     record {
-      row = here.within.0;
+      row = here.within.1;
       within = here.within.2;
-      onward = omega (arith, there.within.1, here.within.1);
-      after = λ i past. here.after i past ∙ there.after i (omega (arith, here.within.1)) ∙ l.invariant.after i (omega (arith, here.within.1, there.within.1));
+      onward = omega (arith, there.within.1, here.onward.0);
+      none = λ clear. here.in_order 0 (λ i past. there.after i past ∙ l.invariant.none clear i (omega (arith, there.within.1)));
       marked = λ profile cell more all swift are_kinds told start.
-          here.marked profile cell more all (length c.args.text.now) swift are_kinds (omega arith)
+          here.reached profile cell more all (length c.args.text.now) swift are_kinds (omega arith)
           (there.marked profile cell c.args.steps.now c.args.kinds.now more all swift are_kinds told c.in-Some.ensures
           (l.invariant.marked profile cell more all swift are_kinds told start));
     }
+
+pub returns-then-here-there-clause-none : goal.returns-then-here-there-clause-none
+returns-then-here-there-clause-none c = λ none.
+    let l = c.loop-here in
+    let there = c.mark_told-there.ensures in
+    c.runs-here.ensures.in_order 0 (λ i past. there.after i past ∙ l.invariant.none none i (omega (arith, there.within.1)))

@@ -4,8 +4,7 @@ use Rattle.lbk_values.specs.declared.profile.Profile.{Profile}
 use Rattle.lbk_rules.specs.FlatTable.{AreFlatKinds}
 use Rattle.lbk_rules.specs.Neighbours.{AreTold}
 use Rattle.lbk_rules.specs.Rows.{IsPlace, steps_in}
-use Rattle.lbk_bytes.specs.Marking.{Marked}
-use Rattle.lbk_bytes.specs.Marks.{is_marked}
+use Rattle.lbk_bytes.specs.Marking.{AreClear, Marked}
 use Rattle.lbk_bytes.specs.Reached.{Ahead}
 use Rattle.lbk_bytes.proofs.mark_blocks.mark_block.Given as goal
 
@@ -14,7 +13,7 @@ invariant-loop-here l = record {
   row : IsPlace l.here.row;
   within : l.here.at ≤ length l.text;
   onward : l.fn.start.at ≤ l.here.at;
-  after : (i : ℕ) → l.here.at ≤ l.from + i → is_marked l.words i ≡ is_marked l.fn.words i;
+  none : AreClear l.from l.fn.start.at l.fn.words → AreClear l.from l.here.at l.words;
   marked : (profile : Profile) (cell : ℕ → Cell) (more : List ℕ) (all : Ahead) → l.steps ≡ steps_in profile
       → AreFlatKinds l.kinds cell → AreTold l.steps l.kinds l.pairs
       → Marked profile cell (l.text ++ more) all l.from (length l.text) l.fn.start l.fn.words

@@ -1,4 +1,4 @@
-use Rattle.std.proofs.Common.{◌≡◌, [], ◌<◌, ◌≤◌, ◌^◌, ◌+◌, ◌-◌, ◌&&◌, ◌||◌, ◌++◌, false, leb, length, refl, sym, ap, subst, ◌∙◌, ⊎_elim, arith, w64}
+use Rattle.std.proofs.Common.{◌≡◌, [], ◌<◌, ◌≤◌, ◌^◌, ◌+◌, ◌-◌, ◌*◌, ◌&&◌, ◌||◌, ◌++◌, false, leb, length, refl, sym, ap, subst, ◌∙◌, ⊎_elim, arith, w64}
 use Rattle.std.specs.Int.{trailing_zeros}
 use Rattle.std.proofs.lemmas.Bool.{and_right, cases_lt}
 use Rattle.lbk_masks.specs.Sets.{is_set}
@@ -6,22 +6,29 @@ use Rattle.lbk_bytes.specs.Blocks.{Rests, byte_at, end_at, row_before}
 use Rattle.lbk_bytes.specs.Marking.{uncounted}
 use Rattle.lbk_bytes.specs.Marks.{boundary_from, is_marked}
 use Rattle.lbk_bytes.specs.Reached.{Reached}
-use Rattle.lbk_bytes.proofs.BitLemmas.{lowest-from, zeros-below, zeros-end, zeros-few}
+use Rattle.lbk_bytes.proofs.BitLemmas.{lowest-from, lowest-inside, zeros-below, zeros-end, zeros-few}
 use Rattle.lbk_bytes.proofs.BlockBeginLemmas.{is-block}
 use Rattle.lbk_bytes.proofs.BlockScalarLemmas.{end-low, rest-row}
 use Rattle.lbk_bytes.proofs.BoundaryLemmas.{block-boundary}
 use Rattle.lbk_bytes.proofs.MarkBitLemmas.{none-past}
 use Rattle.lbk_bytes.proofs.MarkBlockLemmas.{block-from, block-taken, recount}
-use Rattle.lbk_bytes.proofs.MarkLemmas.{Marked-more, below-wider, or-false}
+use Rattle.lbk_bytes.proofs.MarkLemmas.{Marked-more, below-wider, marked-past, or-false}
 use Rattle.lbk_bytes.proofs.mark_blocks.mark_told.Goals as goal
+
+pub behind_byte-requires : goal.behind_byte-requires
+behind_byte-requires c = (
+  omega arith,
+  lowest-inside c.args.text.now c.args.at c.args.marks.stops (c.args.here.at - c.args.at) c.kept_from.result (omega arith) (omega arith) (omega arith) c.requires.ends c.kept_from.ensures,
+)
 
 pub returns-clause-within : goal.returns-clause-within
 returns-clause-within c =
     let stops = c.kept_from.result in
-    let some = lowest-from c.args.marks.stops (c.args.here.at - c.args.at) stops (omega arith) (omega arith) c.kept_from.ensures in
-    let few = zeros-few stops in
+    let begin = c.args.here.at - c.args.at in
+    let some = lowest-from c.args.marks.stops begin stops (omega arith) (omega arith) c.kept_from.ensures in
+    let inside = lowest-inside c.args.text.now c.args.at c.args.marks.stops begin stops (omega arith) (omega arith) (omega arith) c.requires.ends c.kept_from.ensures in
     let place = c.behind_byte.ensures.place.1 in
-    (omega arith, omega (arith, some, place), omega (arith, few, place))
+    (omega arith, omega (arith, some, place), omega (arith, inside, place))
 
 pub returns-clause-after : goal.returns-clause-after
 returns-clause-after c = λ i past.
@@ -30,7 +37,13 @@ returns-clause-after c = λ i past.
     let is_at = c.behind_byte.ensures.place.1 in
     let none : is_set kept (i - index) ≡ false =
     ⊎_elim (λ (few : i - index < 64). c.kept_up_to.ensures.none (i - index) (omega arith) few) (λ (far : 64 ≤ i - index). none-past kept (i - index) (omega arith) far) (cases_lt (i - index) 64) in
-    c.mark_bits.ensures i ∙ or-false (is_marked c.args.words.now i) (leb index i && is_set kept (i - index)) (and_right (leb index i) (is_set kept (i - index)) none)
+    ⊎_elim
+    (λ (within : i < 64 * length c.args.words.now).
+    c.mark_bits.ensures i within
+    ∙ or-false (is_marked c.args.words.now i) (leb index i && is_set kept (i - index)) (and_right (leb index i) (is_set kept (i - index)) none))
+    (λ (behind : 64 * length c.args.words.now ≤ i).
+    marked-past c.mark_bits.new.words i (omega arith) ∙ sym (marked-past c.args.words.now i behind))
+    (cases_lt i (64 * length c.args.words.now))
 
 pub returns-clause-marked : goal.returns-clause-marked
 returns-clause-marked c = λ profile cell steps kinds more all swift are_kinds told are_marks m.
@@ -48,7 +61,7 @@ returns-clause-marked c = λ profile cell steps kinds more all swift are_kinds t
     let some = lowest-from marks.stops begin stops fits (omega arith) c.kept_from.ensures in
     let few = zeros-few stops in
     let kept = c.kept_up_to.result in
-    let room : at + taken ≤ length text = omega arith in
+    let room : at + taken ≤ length text = lowest-inside text at marks.stops begin stops fits (omega arith) (omega arith) c.requires.ends c.kept_from.ensures in
     let rests : Rests pairs here text = record { below = omega arith; row = omega arith } in
     Marked-more profile cell (text ++ more) all c.args.from (length text) here there c.args.words.now c.mark_bits.new.words (omega arith)
     (λ rest start.
@@ -60,7 +73,7 @@ returns-clause-marked c = λ profile cell steps kinds more all swift are_kinds t
     let is_row : here.row ≡ row_before pairs text (at + begin) = subst (λ n. here.row ≡ row_before pairs text n) is_at (rest-row pairs here text start.knows.0 rests) in
     let begun = subst (λ n. Reached profile cell (text ++ more) rest (record { count = 0; row = here.row; at = n }) []) is_at start in
     let all_taken = block-taken profile cell text more rest steps kinds pairs here.row at begin taken marks.standing c.kept_from-2.result kept some block
-    (λ i h. are_marks.standing i h (omega arith)) c.kept_from-2.ensures c.kept_up_to.ensures is_row low begun in
+    (λ i h. are_marks.standing i (omega arith) (omega arith)) c.kept_from-2.ensures c.kept_up_to.ensures is_row low begun in
     let place = c.behind_byte.ensures.place.1 in
     let left = taken - begin in
     let whole : at + taken ≡ at + begin + left = omega arith in
@@ -70,7 +83,7 @@ returns-clause-marked c = λ profile cell steps kinds more all swift are_kinds t
       reached = recount profile cell (text ++ more) rest _ (uncounted there) all_taken.given all_taken.given
           (c.behind_byte.ensures.row) place refl all_taken.reached;
       below = below-wider (at + taken) (length text) all_taken.given (omega arith) all_taken.below;
-      marked = λ i. c.mark_bits.ensures i ∙ ap (λ b. is_marked c.args.words.now i || b) (all_taken.bits c.args.from i (omega arith) (omega arith));
+      marked = λ i h. c.mark_bits.ensures i h ∙ ap (λ b. is_marked c.args.words.now i || b) (all_taken.bits c.args.from i (omega arith) (omega arith));
       boundary =
           ap (λ n. boundary_from (text ++ more) n (length text)) (place ∙ sym (end-low text (at + taken) block.ends))
           ∙ ap (λ n. boundary_from (text ++ more) (end_at text n) (length text)) whole

@@ -1,4 +1,4 @@
-use Rattle.std.proofs.Common.{◌∙◌, arith}
+use Rattle.std.proofs.Common.{arith}
 use Rattle.lbk_bytes.proofs.marking.fill_marks.Goals as goal
 
 pub loop-here-preserved : goal.loop-here-preserved
@@ -11,6 +11,6 @@ loop-here-preserved c =
       within = more.within.2;
       near = more.near;
       no_room = λ none. absurd (omega arith);
-      after = λ i past. more.after i past ∙ l.invariant.after i (omega (arith, more.within.1));
+      none = more.none l.invariant.none;
       marked = λ cell all flat start. more.marked cell all flat (l.invariant.marked cell all flat start);
     }

@@ -1,9 +1,8 @@
-use Rattle.std.proofs.Common.{◌≡◌, ◌+◌, ◌-◌, ◌≤◌, ℕ, false, [], length}
+use Rattle.std.proofs.Common.{◌≡◌, ◌+◌, ◌-◌, ◌≤◌, ℕ, [], length}
 use Rattle.lbk_rules.specs.declared.Cell.{Cell}
 use Rattle.lbk_rules.specs.FlatTable.{IsFlatOf}
 use Rattle.lbk_rules.specs.Rows.{IsPlace}
-use Rattle.lbk_bytes.specs.Marking.{Marked, uncounted}
-use Rattle.lbk_bytes.specs.Marks.{is_marked}
+use Rattle.lbk_bytes.specs.Marking.{AreClear, Marked, uncounted}
 use Rattle.lbk_bytes.specs.Reached.{Ahead, Reached}
 use Rattle.lbk_bytes.proofs.marking.fill_marks.Given as goal
 
@@ -14,7 +13,7 @@ invariant-loop-here l = record {
   within : l.here.at ≤ length l.text;
   near : l.here.at ≤ l.stop + 3;
   no_room : length l.words ≡ 0 → l.here ≡ l.fn.start;
-  after : (i : ℕ) → l.here.at ≤ l.fn.start.at + i → is_marked l.words i ≡ false;
+  none : AreClear l.fn.start.at l.here.at l.words;
   marked : (cell : ℕ → Cell) (all : Ahead) → IsFlatOf l.fn.table cell
       → Reached l.fn.profile cell l.text all (uncounted l.fn.start) []
       → Marked l.fn.profile cell l.text all l.fn.start.at l.stop l.here l.words;

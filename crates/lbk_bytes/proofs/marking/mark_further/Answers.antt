@@ -1,7 +1,52 @@
+use Rattle.std.proofs.Common.{[], drop, length-take-le, arith}
+use Rattle.lbk_bytes.proofs.MarkLemmas.{Marked-alone, Marked-by-front}
+use Rattle.lbk_bytes.proofs.StepLemmas.{told-as}
 use Rattle.lbk_bytes.proofs.marking.mark_further.Goals as goal
 
-pub returns-then-part-clause-marked : goal.returns-then-part-clause-marked
-returns-then-part-clause-marked c = λ cell all flat m. c.mark_common-part.ensures.marked cell all flat m
+pub mark_blocks-there-requires-clause-steps : goal.mark_blocks-there-requires-clause-steps
+mark_blocks-there-requires-clause-steps c = (c.args.profile, c.rows_of-steps.ensures)
+
+pub quick-past-requires-clause-steps : goal.quick-past-requires-clause-steps
+quick-past-requires-clause-steps c = (c.args.profile, c.rows_of-steps.ensures)
+
+pub returns-then-there-stop-clause-marked : goal.returns-then-there-stop-clause-marked
+returns-then-there-stop-clause-marked c = λ cell all flat m.
+    let a = c.args in
+    let steps = c.rows_of-steps in
+    let told = told-as a.profile a.table.now cell steps.result.now flat steps.ensures in
+    let blocks = c.mark_blocks-there in
+    Marked-by-front a.profile cell a.text.now all a.from a.stop a.here blocks.result a.words.now blocks.new.words c.requires.3
+    (blocks.ensures.marked a.profile cell (drop a.stop a.text.now) all steps.ensures flat.kinds told) m
+
+pub returns-then-until-past-clause-marked : goal.returns-then-until-past-clause-marked
+returns-then-until-past-clause-marked c = λ cell all flat m.
+    let a = c.args in
+    let steps = c.rows_of-steps in
+    let told = told-as a.profile a.table.now cell steps.result.now flat steps.ensures in
+    let blocks = c.mark_blocks-there in
+    let there = Marked-by-front a.profile cell a.text.now all a.from a.stop a.here blocks.result a.words.now blocks.new.words c.requires.3
+    (blocks.ensures.marked a.profile cell (drop a.stop a.text.now) all steps.ensures flat.kinds told) m in
+    let past = c.quick-past in
+    let until = length-take-le a.stop a.text.now c.requires.3 in
+    Marked-alone a.profile cell a.text.now all a.from a.stop blocks.result past.result blocks.new.words past.new.out
+    (past.ensures.reached a.profile cell [] all a.stop steps.ensures flat.kinds (omega (arith, until))) there
 
 pub returns-clause-marked : goal.returns-clause-marked
-returns-clause-marked c = λ cell all flat m. c.mark_ones.ensures.marked cell all flat (c.mark_common-part.ensures.marked cell all flat m)
+returns-clause-marked c = λ cell all flat m.
+    let a = c.args in
+    let steps = c.rows_of-steps in
+    let told = told-as a.profile a.table.now cell steps.result.now flat steps.ensures in
+    let blocks = c.mark_blocks-there in
+    let there = Marked-by-front a.profile cell a.text.now all a.from a.stop a.here blocks.result a.words.now blocks.new.words c.requires.3
+    (blocks.ensures.marked a.profile cell (drop a.stop a.text.now) all steps.ensures flat.kinds told) m in
+    let past = c.quick-past in
+    let until = length-take-le a.stop a.text.now c.requires.3 in
+    c.take_ones.ensures.reached cell all a.stop flat (omega arith)
+    (Marked-alone a.profile cell a.text.now all a.from a.stop blocks.result past.result blocks.new.words past.new.out
+    (past.ensures.reached a.profile cell [] all a.stop steps.ensures flat.kinds (omega (arith, until))) there)
+
+pub returns-then-until-past-clause-none : goal.returns-then-until-past-clause-none
+returns-then-until-past-clause-none c = λ none. c.quick-past.ensures.in_order 0 (c.mark_blocks-there.ensures.none none)
+
+pub returns-clause-none : goal.returns-clause-none
+returns-clause-none c = λ none. c.take_ones.ensures.in_order 0 (c.quick-past.ensures.in_order 0 (c.mark_blocks-there.ensures.none none))

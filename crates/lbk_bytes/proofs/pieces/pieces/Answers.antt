@@ -1,25 +1,24 @@
-use Rattle.std.proofs.Common.{◌+◌, ◌<◌, ◌++◌, ◌∙◌, length, length-append, arith}
-use Rattle.lbk_bytes.proofs.AnyPieceLemmas.{Reached-read, reads-as, reads-as-more}
-use Rattle.lbk_bytes.proofs.BoundaryLemmas.{boundary-read-as}
+use Rattle.std.proofs.Common.{◌+◌, ◌<◌, ◌++◌, length, length-append, refl, arith}
+use Rattle.lbk_bytes.proofs.AnyPieceLemmas.{read-decided, reads-as, reads-as-more}
 use Rattle.lbk_bytes.proofs.pieces.pieces.Goals as goal
 
 pub bounds-kinds-piece : goal.bounds-kinds-piece
-bounds-kinds-piece c =
-    (reads-as c.args.text.now c.loop-count.at c.piece_of-piece.result.code c.piece_of-piece.result.size (omega arith) c.piece_of-piece.ensures.code c.piece_of-piece.ensures.size).below
+bounds-kinds-piece g c =
+    (reads-as c.args.text.now c.taking.at c.piece_of-piece.result.code c.piece_of-piece.result.size (omega arith) c.piece_of-piece.ensures.code c.piece_of-piece.ensures.size).below
 
 pub overflow_add-at : goal.overflow_add-at
-overflow_add-at c =
-    let r = reads-as c.args.text.now c.loop-count.at c.piece_of-piece.result.code c.piece_of-piece.result.size (omega arith) c.piece_of-piece.ensures.code c.piece_of-piece.ensures.size in
+overflow_add-at g c =
+    let r = reads-as c.args.text.now c.taking.at c.piece_of-piece.result.code c.piece_of-piece.result.size (omega arith) c.piece_of-piece.ensures.code c.piece_of-piece.ensures.size in
     omega (arith, r.within)
 
-pub loop-count-smaller : goal.loop-count-smaller
-loop-count-smaller c =
-    let r = reads-as c.args.text.now c.loop-count.at c.piece_of-piece.result.code c.piece_of-piece.result.size (omega arith) c.piece_of-piece.ensures.code c.piece_of-piece.ensures.size in
+pub taking-smaller : goal.taking-smaller
+taking-smaller g c =
+    let r = reads-as c.args.text.now c.taking.at c.piece_of-piece.result.code c.piece_of-piece.result.size (omega arith) c.piece_of-piece.ensures.code c.piece_of-piece.ensures.size in
     omega (arith, r.within, r.some)
 
-pub loop-count-preserved : goal.loop-count-preserved
-loop-count-preserved c =
-    let l = c.loop-count in
+pub taking-preserved : goal.taking-preserved
+taking-preserved g c =
+    let l = c.taking in
     let x = c.piece_of-piece.result.code in
     let size = c.piece_of-piece.result.size in
     let step = c.step_at-step.result.now in
@@ -29,22 +28,17 @@ loop-count-preserved c =
     let r = reads-as text l.at x size inside c.piece_of-piece.ensures.code c.piece_of-piece.ensures.size in
     let four : l.at + 3 < length text = omega arith in
     record {
-      room = omega (arith, put.ensures.within);
+      room = put.ensures.fits (l.at + size) c.args.stop (omega arith) l.invariant.room;
       row = c.step_at-step.ensures.begins;
       within = r.within;
       onward = omega (arith, l.invariant.onward);
-      more = omega (arith, l.invariant.more);
-      in_order = λ from order.
-          let here = l.invariant.in_order from order in
-          (omega (arith, here.0), put.ensures.in_order from (l.at + size) (omega (arith, r.some)) here);
+      more = omega (arith, l.invariant.more, put.ensures.counts);
+      in_order = λ from order. put.ensures.in_order from (l.at + size) (omega (arith, r.some)) (l.invariant.in_order from order);
       near = λ _. omega (arith, r.few);
-      before = λ from place stop _ order. put.ensures.in_order from place (omega (arith, stop)) (l.invariant.in_order from order);
-      boundary = λ more place before.
-          boundary-read-as (text ++ more) l.at x size place (omega (arith, length-append text more)) (omega arith)
-          (reads-as-more text more l.at x size four r)
-          ∙ l.invariant.boundary more place before;
-      reached = λ profile cell more all swift are_kinds start.
-          Reached-read profile cell (text ++ more) all c.args.steps.now c.args.kinds.now l.out put.new.out l.count put.result l.row l.at x size step
-          swift are_kinds (reads-as-more text more l.at x size four r) (omega (arith, length-append text more)) c.step_at-step.ensures.read c.if-step-eq-HELD.false
-          put.ensures.front (l.invariant.reached profile cell more all swift are_kinds start);
+      reached = λ profile cell more all last swift are_kinds stops start.
+          put.ensures.reached profile cell (text ++ more) all last l.row (record { shown = step.shown; row = step.next; at = l.at + size }) refl
+          (omega (arith, length-append text more)) (omega (arith, stops))
+          (read-decided profile cell (text ++ more) c.args.steps.now c.args.kinds.now l.row l.at x size step swift are_kinds
+          (reads-as-more text more l.at x size four r) c.step_at-step.ensures.read c.if-step-eq-HELD.false)
+          (l.invariant.reached profile cell more all last swift are_kinds stops start);
     }

@@ -1,9 +1,0 @@
-use Rattle.std.proofs.Common.{◌≡◌, ◌+◌, ◌/◌, ◌%◌, ◌==◌, ◌&&◌, ◌||◌, ℕ, map, take}
-use Rattle.lbk_masks.specs.Sets.{is_set}
-use Rattle.lbk_bytes.specs.Marks.{is_marked, stands_among}
-use Rattle.lbk_bytes.specs.Shown.{shown}
-use Rattle.lbk_bytes.proofs.marks.mark_word.Given as goal
-
-abbrev pub invariant-loop-found : goal.invariant-loop-found
-invariant-loop-found l = (i : ℕ) → (is_marked l.words i || ((i / 64 == 0) && is_set l.bits (i % 64)))
-    ≡ (is_marked l.words i || stands_among (l.from + i) (map shown (take l.found-index l.breaks)))

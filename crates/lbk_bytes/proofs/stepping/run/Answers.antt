@@ -1,0 +1,44 @@
+use Rattle.std.proofs.Common.{◌+◌, ◌<◌, ◌++◌, length, length-append, refl, arith}
+use Rattle.lbk_bytes.proofs.AnyPieceLemmas.{as-read, read-decided}
+use Rattle.lbk_bytes.proofs.CutLemmas.{reads-more}
+use Rattle.lbk_bytes.proofs.PieceLemmas.{reads}
+use Rattle.lbk_bytes.proofs.stepping.run.Goals as goal
+
+pub bounds-kinds-scalar : goal.bounds-kinds-scalar
+bounds-kinds-scalar g c =
+    (reads c.args.text.now c.taking.at c.in-Some.scalar.code c.in-Some.scalar.size (omega arith) c.in-Some.ensures).below
+
+pub overflow_add-at : goal.overflow_add-at
+overflow_add-at g c =
+    let r = reads c.args.text.now c.taking.at c.in-Some.scalar.code c.in-Some.scalar.size (omega arith) c.in-Some.ensures in
+    omega (arith, r.within)
+
+pub taking-smaller : goal.taking-smaller
+taking-smaller g c =
+    let r = reads c.args.text.now c.taking.at c.in-Some.scalar.code c.in-Some.scalar.size (omega arith) c.in-Some.ensures in
+    omega (arith, r.within, r.some)
+
+pub taking-preserved : goal.taking-preserved
+taking-preserved g c =
+    let l = c.taking in
+    let s = c.in-Some.scalar in
+    let step = c.step_at-step.result.now in
+    let put = c.put-count in
+    let inside : c.taking.at < length c.args.text.now = omega arith in
+    let r = reads c.args.text.now l.at s.code s.size inside c.in-Some.ensures in
+    let text = c.args.text.now in
+    record {
+      room = put.ensures.fits (l.at + s.size) c.args.stop (omega arith) l.invariant.room;
+      row = c.step_at-step.ensures.begins;
+      within = r.within;
+      onward = omega (arith, l.invariant.onward);
+      more = omega (arith, l.invariant.more, put.ensures.counts);
+      in_order = λ from order. put.ensures.in_order from (l.at + s.size) (omega (arith, r.some)) (l.invariant.in_order from order);
+      near = λ _. omega (arith, r.few);
+      reached = λ profile cell more all last swift are_kinds stops start.
+          put.ensures.reached profile cell (text ++ more) all last l.row (record { shown = step.shown; row = step.next; at = l.at + s.size }) refl
+          (omega (arith, length-append text more)) (omega (arith, stops))
+          (read-decided profile cell (text ++ more) c.args.steps.now c.args.kinds.now l.row l.at s.code s.size step swift are_kinds
+          (as-read (text ++ more) l.at s.code s.size (reads-more text more l.at s.code s.size inside r)) c.step_at-step.ensures.read c.if-step-eq-HELD.false)
+          (l.invariant.reached profile cell more all last swift are_kinds stops start);
+    }

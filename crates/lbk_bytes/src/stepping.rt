@@ -1,0 +1,190 @@
+//! The loops that take scalars by steps, whatever is written of their positions.
+
+ghost use Rattle.std.specs.Prelude.{◌≡◌, ℕ, ◌+◌, ◌≤◌, ◌++◌, List, length};
+ghost use Rattle.lbk_rules.specs.declared.Cell.{Cell};
+ghost use Rattle.lbk_values.specs.declared.profile.Profile.{Profile};
+ghost use Rattle.lbk_rules.specs.FlatTable.{AreFlatKinds};
+ghost use Rattle.lbk_rules.specs.Rows.{AreSteps, IsPlace, steps_in};
+ghost use Rattle.lbk_bytes.specs.Reached.{Ahead};
+
+use crate::blocks::CODES;
+use crate::decoding::{Width, scalar_of};
+use crate::fill_state::FillState;
+use crate::pieces::pieces;
+use crate::target::Target;
+use lbk_rules::{HELD, Rows, step_at};
+
+/// Takes scalars and ill-formed bytes that begin before a byte, up to a held position or the text's last bytes,
+/// whatever may follow the text. The loop for common scalars calls nothing, so that all it has stays in registers.
+#[inline(never)]
+pub(crate) fn quick<T: Target>(
+    target: T,
+    kinds: &[u8; CODES],
+    steps: &Rows,
+    start: FillState,
+    stop: usize,
+    text: &[u8],
+    out: &mut [T::Place],
+) -> FillState
+    requires place { T.fits target out.old start.count start.at stop × IsPlace start.row
+        × (start.at ≤ length text.now) × (stop ≤ length text.now) }
+    requires steps { AreSteps steps.now }
+    ensures within { T.fits target out.new result.count result.at stop × IsPlace result.row
+        × (result.at ≤ length text.now) }
+    ensures onward { (start.at ≤ result.at) × (start.count ≤ result.count) }
+    ensures in_order { (from : ℕ) → T.in_order target out.old start.count from start.at
+        → T.in_order target out.new result.count from result.at }
+    ensures near { start.at ≤ stop → result.at ≤ stop + 3 }
+    ensures reached { (profile : Profile) (cell : ℕ → Cell) (more : List ℕ) (all : Ahead) (last : ℕ)
+        → steps.now ≡ steps_in profile → AreFlatKinds kinds.now cell → stop ≤ last
+        → T.reached target profile cell (text.now ++ more) all last start out.old
+        → T.reached target profile cell (text.now ++ more) all last result out.new }
+{
+    let mut here = start;
+    while here.at < stop {
+        let common = scalars(target, kinds, steps, here, stop, text, out);
+        if stop <= common.at || target.is_full(out, common.count) {
+            return common;
+        }
+        here = pieces(target, kinds, steps, common, stop, text, out);
+        if here.at == common.at {
+            return here;
+        }
+    }
+    here
+}
+
+/// Takes common scalars that begin before a byte: of at most three bytes, and where no position is held.
+#[inline(always)]
+pub(crate) fn scalars<T: Target>(
+    target: T,
+    kinds: &[u8; CODES],
+    steps: &Rows,
+    start: FillState,
+    stop: usize,
+    text: &[u8],
+    out: &mut [T::Place],
+) -> FillState
+    requires place { T.fits target out.old start.count start.at stop × IsPlace start.row
+        × (start.at ≤ length text.now) × (stop ≤ length text.now) }
+    requires steps { AreSteps steps.now }
+    ensures within { T.fits target out.new result.count result.at stop × IsPlace result.row
+        × (result.at ≤ length text.now) }
+    ensures onward { (start.at ≤ result.at) × (start.count ≤ result.count) }
+    ensures in_order { (from : ℕ) → T.in_order target out.old start.count from start.at
+        → T.in_order target out.new result.count from result.at }
+    ensures near { start.at ≤ stop → result.at ≤ stop + 3 }
+    ensures reached { (profile : Profile) (cell : ℕ → Cell) (more : List ℕ) (all : Ahead) (last : ℕ)
+        → steps.now ≡ steps_in profile → AreFlatKinds kinds.now cell → stop ≤ last
+        → T.reached target profile cell (text.now ++ more) all last start out.old
+        → T.reached target profile cell (text.now ++ more) all last result out.new }
+{
+    let mut here = start;
+    while here.at < stop {
+        let past = runs(target, kinds, steps, here, stop, text, out);
+        if past.at == here.at {
+            return past;
+        }
+        here = past;
+    }
+    here
+}
+
+/// A run of scalars of one byte, and then one of those that the next byte may begin. Each may be empty.
+#[inline(always)]
+pub(crate) fn runs<T: Target>(
+    target: T,
+    kinds: &[u8; CODES],
+    steps: &Rows,
+    start: FillState,
+    stop: usize,
+    text: &[u8],
+    out: &mut [T::Place],
+) -> FillState
+    requires place { T.fits target out.old start.count start.at stop × IsPlace start.row
+        × (start.at ≤ length text.now) × (stop ≤ length text.now) }
+    requires steps { AreSteps steps.now }
+    ensures within { T.fits target out.new result.count result.at stop × IsPlace result.row
+        × (result.at ≤ length text.now) }
+    ensures onward { (start.at ≤ result.at) × (start.count ≤ result.count) }
+    ensures in_order { (from : ℕ) → T.in_order target out.old start.count from start.at
+        → T.in_order target out.new result.count from result.at }
+    ensures near { start.at ≤ stop → result.at ≤ stop + 3 }
+    ensures reached { (profile : Profile) (cell : ℕ → Cell) (more : List ℕ) (all : Ahead) (last : ℕ)
+        → steps.now ≡ steps_in profile → AreFlatKinds kinds.now cell → stop ≤ last
+        → T.reached target profile cell (text.now ++ more) all last start out.old
+        → T.reached target profile cell (text.now ++ more) all last result out.new }
+{
+    let behind_one = run(target, Width::One, kinds, steps, start, stop, text, out);
+    if stop <= behind_one.at {
+        return behind_one;
+    }
+    if text[behind_one.at] < 0xE0 {
+        return run(
+            target,
+            Width::Two,
+            kinds,
+            steps,
+            behind_one,
+            stop,
+            text,
+            out,
+        );
+    }
+    run(
+        target,
+        Width::Three,
+        kinds,
+        steps,
+        behind_one,
+        stop,
+        text,
+        out,
+    )
+}
+
+/// A run of scalars of one width. In a text most scalars have the width of the one before, so a loop of its own for
+/// each width seldom goes where the processor does not expect it.
+#[inline(always)]
+fn run<T: Target>(
+    target: T,
+    width: Width,
+    kinds: &[u8; CODES],
+    steps: &Rows,
+    start: FillState,
+    stop: usize,
+    text: &[u8],
+    out: &mut [T::Place],
+) -> FillState
+    requires place { T.fits target out.old start.count start.at stop × IsPlace start.row
+        × (start.at ≤ length text.now) × (stop ≤ length text.now) }
+    requires steps { AreSteps steps.now }
+    ensures within { T.fits target out.new result.count result.at stop × IsPlace result.row
+        × (result.at ≤ length text.now) }
+    ensures onward { (start.at ≤ result.at) × (start.count ≤ result.count) }
+    ensures in_order { (from : ℕ) → T.in_order target out.old start.count from start.at
+        → T.in_order target out.new result.count from result.at }
+    ensures near { start.at ≤ stop → result.at ≤ stop + 3 }
+    ensures reached { (profile : Profile) (cell : ℕ → Cell) (more : List ℕ) (all : Ahead) (last : ℕ)
+        → steps.now ≡ steps_in profile → AreFlatKinds kinds.now cell → stop ≤ last
+        → T.reached target profile cell (text.now ++ more) all last start out.old
+        → T.reached target profile cell (text.now ++ more) all last result out.new }
+{
+    let mut count = start.count;
+    let mut row = start.row;
+    let mut at = start.at;
+    let end = stop.min(text.len().saturating_sub(width.more()));
+    'taking: while target.has_room(out, count) && at < end {
+        let Some(scalar) = scalar_of(width, &text[at..]) else {
+            break;
+        };
+        let step = step_at(steps, row, kinds[scalar.code as usize]);
+        if step.shown == HELD {
+            break;
+        }
+        count = target.put(out, count, at, step.shown);
+        row = step.next as usize;
+        at += scalar.size;
+    }
+    FillState { count, row, at }
+}

@@ -1,0 +1,127 @@
+//! What is written of the positions that the loops decide: breaks into a block, or bits into words.
+
+ghost use Rattle.std.specs.Prelude.{◌≡◌, ℕ, ◌+◌, ◌*◌, ◌<◌, ◌≤◌, List, IsTrue, length};
+ghost use Rattle.lbk_rules.specs.declared.Cell.{Cell};
+ghost use Rattle.lbk_values.specs.declared.profile.Profile.{Profile};
+ghost use Rattle.lbk_rules.specs.FlatTable.{KnowsTaken};
+ghost use Rattle.lbk_rules.specs.Rows.{IsShown};
+ghost use Rattle.lbk_bytes.specs.declared.deciding.Decided.{Decided};
+ghost use Rattle.lbk_bytes.specs.declared.fill_state.FillState.{FillState};
+ghost use Rattle.lbk_bytes.specs.Decided.{IsDecided};
+ghost use Rattle.lbk_bytes.specs.Marking.{AreClear, Marked};
+ghost use Rattle.lbk_bytes.specs.Reached.{Ahead, IsInOrder, Reached};
+ghost use Rattle.lbk_bytes.specs.Shown.{given_in};
+
+use crate::filling::put;
+use crate::marks::mark;
+use crate::raw_break::RawBreak;
+use lbk_rules::shows_break;
+
+/// What is written, and where. Loops are the same for each.
+pub(crate) trait Target: Copy {
+    /// Where a break stands, or bits.
+    type Place;
+
+    // After so many breaks, all that is written before bytes from `at` to `stop` has its place.
+    ghost fits: { Self → List Self.Place → ℕ → ℕ → ℕ → Type 0 };
+
+    // After so many breaks, a verdict before byte `at` has its place.
+    ghost takes: { Self → List Self.Place → ℕ → ℕ → Type 0 };
+
+    // So many breaks stand in order, from byte `from` on and before byte `at`.
+    ghost in_order: { Self → List Self.Place → ℕ → ℕ → ℕ → Type 0 };
+
+    // The call stands here in the text, and what it gave of all is what was written. Its scalars begin before `last`.
+    ghost reached: { Self → Profile → (ℕ → Cell) → List ℕ → Ahead → ℕ → FillState → List Self.Place → Type 0 };
+
+    /// Whether there is a place for a position more.
+    fn has_room(self, out: &[Self::Place], count: usize) -> bool
+        ensures { (at stop : ℕ) → at < stop → fits self out.now count at stop → IsTrue result
+            → takes self out.now count at };
+
+    /// Whether there is none, whatever the position.
+    fn is_full(self, out: &[Self::Place], count: usize) -> bool
+        ensures { IsTrue result → (at : ℕ) → ¬ (takes self out.now count at) };
+
+    /// Writes the verdict of a number, before a byte, and returns how many breaks are counted then.
+    fn put(self, out: &mut [Self::Place], count: usize, at: usize, shown: u16) -> usize
+        requires room { takes self out.old count at }
+        requires shown { IsShown shown }
+        ensures counts { count ≤ result }
+        ensures fits { (next stop : ℕ) → at ≤ next → fits self out.old count at stop
+            → fits self out.new result next stop }
+        ensures in_order { (from to : ℕ) → at < to → in_order self out.old count from at
+            → in_order self out.new result from to }
+        ensures reached { (profile : Profile) (cell : ℕ → Cell) (text : List ℕ) (all : Ahead) (last row : ℕ)
+            (found : Decided) → found.shown ≡ shown → at < length text → at < last
+            → ((taken : List ℕ) → KnowsTaken cell row taken → IsDecided profile cell text at taken found)
+            → reached self profile cell text all last (record { count = count; row = row; at = at }) out.old
+            → reached self profile cell text all last (record { count = result; row = found.row; at = found.at })
+            out.new };
+}
+
+/// Breaks, one after another in the front of a block.
+#[derive(Clone, Copy)]
+pub(crate) struct Breaks;
+
+impl Target for Breaks {
+    type Place = RawBreak;
+
+    ghost fits = { λ _ out count at stop. count ≤ length out };
+
+    ghost takes = { λ _ out count at. count < length out };
+
+    ghost in_order = { λ _ out count from at. IsInOrder out count from at };
+
+    ghost reached = { λ _ profile cell text all last here out. Reached profile cell text all here (given_in out here.count) };
+
+    #[inline(always)]
+    fn has_room(self, out: &[RawBreak], count: usize) -> bool {
+        count < out.len()
+    }
+
+    #[inline(always)]
+    fn is_full(self, out: &[RawBreak], count: usize) -> bool {
+        count == out.len()
+    }
+
+    #[inline(always)]
+    fn put(self, out: &mut [RawBreak], count: usize, at: usize, shown: u16) -> usize {
+        put(out, count, at, shown)
+    }
+}
+
+/// A bit for each byte of a text from one on, in words of 64.
+#[derive(Clone, Copy)]
+pub(crate) struct Bits {
+    /// The byte that the first bit is for.
+    pub(crate) from: usize,
+}
+
+impl Target for Bits {
+    type Place = u64;
+
+    ghost fits = { λ bits words count at stop. (bits.from ≤ at) × (stop ≤ bits.from + 64 * length words) };
+
+    ghost takes = { λ bits words count at. (bits.from ≤ at) × (at < bits.from + 64 * length words) };
+
+    ghost in_order = { λ bits words count from at. AreClear bits.from at words };
+
+    ghost reached = { λ bits profile cell text all last here words. Marked profile cell text all bits.from last here words };
+
+    #[inline(always)]
+    fn has_room(self, _words: &[u64], _count: usize) -> bool {
+        true
+    }
+
+    #[inline(always)]
+    fn is_full(self, _words: &[u64], _count: usize) -> bool {
+        false
+    }
+
+    #[inline(always)]
+    fn put(self, words: &mut [u64], count: usize, at: usize, shown: u16) -> usize {
+        mark(words, at - self.from, shows_break(shown));
+        count
+    }
+}
