@@ -13,7 +13,7 @@ use crate::cut_block::{BLOCK, CutBlock, Mark};
 use crate::word_block::WordBlock;
 use lbk_rules::FlatTable;
 
-/// How many cuts are read first. Each further block has four times as many, up to the most that a block holds.
+/// How many cuts are read first. Each further block has twice as many, up to the most that a block holds.
 const FIRST: usize = 4;
 
 /// Two blocks of cuts, and a place from which others are read again.
@@ -128,7 +128,7 @@ impl Window {
     {
         self.older = self.newer;
         let behind = self.older.behind;
-        let room = (self.older.room * 4).min(BLOCK);
+        let room = (self.older.room * 2).min(BLOCK);
         self.newer.read(table, text, behind, room, &mut self.words);
     }
 

@@ -6,8 +6,8 @@ ghost use Rattle.lbk_chunks.specs.Coming.{AreRead, IsFirstWord};
 
 use lbk_words::{Word, fill};
 
-/// How many words are read first. Each further block has as many as it holds.
-const FIRST: usize = 8;
+/// How many words are read first. Each further block has four times as many, up to the most that a block holds.
+const FIRST: usize = 4;
 
 /// How many words a block holds.
 const BLOCK: usize = 64;
@@ -74,7 +74,7 @@ impl WordBlock {
         self.next = 0;
         self.count = filled.count;
         self.rest = filled.at;
-        self.room = BLOCK;
+        self.room = (self.room * 4).min(BLOCK);
     }
 
     /// The first word of those that were read.
