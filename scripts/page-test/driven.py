@@ -224,8 +224,8 @@ def try_schemes(count, page):
         page.tools("Emulation.setEmulatedMedia", features=[{"name": "prefers-color-scheme", "value": scheme}])
         papers.add(page.run("return getComputedStyle(document.body).backgroundColor"))
         least = page.run(CONTRASTS)
-        grounds = page.run(GROUNDS)
-        count.equal(f"chromedriver: signs of breaks have a ground in {scheme}, and others none", grounds, {"no": False, "may": True, "must": True})
+        what = f"chromedriver: signs of breaks have a ground in {scheme}, and others none"
+        count.equal(what, page.run(GROUNDS), {"no": False, "may": True, "must": True})
         count.equal(f"chromedriver: text can be read in {scheme}", {name: round(it, 2) for name, it in least.items() if it < LEAST_CONTRAST}, {})
     count.equal("chromedriver: light and dark differ", len(papers), 2)
 
