@@ -1,7 +1,7 @@
 //! The pieces of a passage.
 
-ghost use Rattle.std.specs.Prelude.{◌≡◌, ℕ, ◌+◌, ◌*◌, ◌<◌, ◌≤◌, ◌^◌, ◌++◌, drop, length, max, vec_capacity, vec_len, OnOk, OnErr};
-ghost use Rattle.std.specs.Prelude.{IfOk, IsUtf8};
+ghost use Rattle.std.specs.Prelude.{◌≡◌, ℕ, ◌+◌, ◌*◌, ◌<◌, ◌≤◌, ◌^◌, ◌++◌, drop, length, max, vec_capacity, vec_len};
+ghost use Rattle.std.specs.Prelude.{IfOk, IsUtf8, OnErr, OnOk};
 ghost use Rattle.lbk_passage.specs.Flags.{AreLetters};
 ghost use Rattle.lbk_passage.specs.Pieces.{is_word, pieces_of, pieces_on};
 ghost use Rattle.lbk_words.specs.Ends.{AreParts};
@@ -19,8 +19,8 @@ pub(crate) const ENDS: usize = 64;
 /// More bytes than a piece has.
 const ANY_LENGTH: usize = 1 << 32;
 
-/// Writes the pieces of a text in place of what the list held (UAX #29, section 4). What the block held does not matter,
-/// and what it holds then is unspecified. Where memory could not grow the list holds some of them.
+/// Writes the pieces of a text in place of what the list held (UAX #29, section 4). What the block held does not
+/// matter, and what it holds then is unspecified. Where memory could not grow the list holds some of them.
 pub fn cut_words<C: CellSource>(
     cells: &C,
     flags: &ByteFlags,

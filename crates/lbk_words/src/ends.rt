@@ -97,8 +97,8 @@ fn put_by_steps(text: &[u8], start: usize, count: usize, out: &mut [usize]) -> u
     count + 1
 }
 
-/// Puts the bytes that bits stand for, of which the first is that of the byte `base`, after the ends in the front of the
-/// block, as many as it holds, and returns how many ends these are now.
+/// Puts the bytes that bits stand for, the first for the byte `base`, after the ends in the front of the block, as many
+/// as it holds, and returns how many ends these are now.
 #[inline(always)]
 fn put_ends(base: usize, ends: u64, count: usize, out: &mut [usize]) -> usize
     requires base { base + 64 < 2 ^ 64 }
