@@ -8,8 +8,8 @@ ghost use Rattle.lbk_c.specs.ClaimTexts.{IsClaimText, which_numbered};
 use lbk_calls::{Text, padded};
 use lbk_ucd::{Which, claim_of, claim_text, remedy_text};
 
-/// What the file of a number is, where it is not the one that Unicode 15.0.0 published: of which version it is, that it
-/// was changed or cut, or that it is another file. ASCII, filled up by zeros. For a number that no file has it is zeros.
+/// What is wrong with the file of a number that is not the one that Unicode 15.0.0 published: it is of another version,
+/// it was changed or cut, or it is another file. ASCII, then zeros; only zeros for a number that no file has.
 #[unsafe(no_mangle)]
 pub extern "C" fn lbk_claim_text(file: u32, contents: &[u8]) -> Text
     ensures { IsClaimText (which_numbered file) contents.now result.text }

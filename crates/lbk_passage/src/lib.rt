@@ -2,8 +2,8 @@
 //!
 //! Segments end at line breaks (Unicode Standard Annex #14), and words are those of Annex #29.
 //!
-//! [`Breaks`] gives the breaks of a text in memory, a block at a time or one by one. It takes any source of cells, and is
-//! fast over `CellPages` of the crate `lbk_rules`. A [`Segmenter`] gives passages them one after another, of the bytes that a reader gives.
+//! [`Breaks`] finds the breaks of a text in memory, a block at a time or one by one. It takes any source of cells, and
+//! is fast with `CellPages` of the crate `lbk_rules`. A [`Segmenter`] reads bytes, and returns passage after passage.
 #![tactic(auto)]
 
 mod breaks;

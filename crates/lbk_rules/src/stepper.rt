@@ -113,9 +113,8 @@ impl<'a, C: CellSource> Stepper<'a, C> {
         self.step_with_held(c)
     }
 
-    /// The same where a position is held before the step or after it, which is rare. Its values are set up here, and
-    /// not in
-    /// `step`; and `holding` and `late`, which it calls, take the stepper by value, so that a loop has its own in registers.
+    /// The same where a position is held before the step or after it, which is rare. Its values are set up here and not
+    /// in `step`, and `holding` and `late` take the stepper by value, so that a loop has its own in registers.
     #[inline(always)]
     fn step_with_held(&mut self, c: char) -> Out
         ensures now { (profile : Profile) (cell : ℕ → Cell) (taken : List ℕ) (more : List Cell)
