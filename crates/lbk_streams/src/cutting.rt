@@ -7,6 +7,7 @@ use crate::stream::{Cut, Four};
 use crate::stream_unit::StreamUnit;
 
 /// The units one after another.
+#[inline(always)]
 pub(crate) fn listed<U: Copy>(units: Four<U>) -> [U; 4]
     ensures { result ≡ listed units }
 {
@@ -30,6 +31,7 @@ pub(crate) fn kept<U: StreamUnit>(cut: Cut<U>, units: &[U]) -> Cut<U>
 }
 
 /// One unit more.
+#[inline(always)]
 pub(crate) fn with_unit<U: StreamUnit>(cut: Cut<U>, unit: U) -> Cut<U>
     requires { cut.size < 4 }
     ensures size { result.size ≡ cut.size + 1 }
@@ -49,11 +51,18 @@ pub(crate) fn with_unit<U: StreamUnit>(cut: Cut<U>, unit: U) -> Cut<U>
 }
 
 /// What comes after the first units.
+#[inline(always)]
 pub(crate) fn behind<U: StreamUnit>(cut: Cut<U>, size: usize) -> Cut<U>
     requires { (size ≤ cut.size) × (cut.size ≤ 4) }
     ensures size { result.size + size ≡ cut.size }
     ensures units { front_of result ≡ drop size (front_of cut) }
 {
+    if size == cut.size {
+        return Cut {
+            units: cut.units,
+            size: 0,
+        };
+    }
     let mut left = cut;
     while cut.size < left.size + size {
         left = behind_one(left);

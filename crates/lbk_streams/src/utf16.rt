@@ -27,11 +27,13 @@ impl StreamUnit for u16 {
         units.len() == 1 && is_high(units[0])
     }
 
+    #[inline(always)]
     fn cut_could_go_on(cut: &Cut<u16>) -> bool {
         let units = listed(cut.units);
         u16::could_go_on(&units[..cut.size])
     }
 
+    #[inline(always)]
     fn cut_of(stream: &Stream) -> Cut<u16> {
         let size = if stream.cut_size < 2 {
             stream.cut_size as usize
@@ -49,6 +51,7 @@ impl StreamUnit for u16 {
         Cut { units, size }
     }
 
+    #[inline(always)]
     fn bytes_of(cut: Cut<u16>) -> [u8; 4]
         requires { cut.size ≤ 2 }
         ensures { take cut.size (units_in result) ≡ front_of cut }
@@ -67,6 +70,7 @@ impl StreamUnit for u16 {
         u16::front(units)
     }
 
+    #[inline(always)]
     fn first_of_cut(cut: &Cut<u16>) -> Piece {
         let units = listed(cut.units);
         u16::first(&units[..cut.size])

@@ -40,11 +40,13 @@ impl StreamUnit for u8 {
         is_continuation(bytes[2])
     }
 
+    #[inline(always)]
     fn cut_could_go_on(cut: &Cut<u8>) -> bool {
         let bytes = listed(cut.units);
         u8::could_go_on(&bytes[..cut.size])
     }
 
+    #[inline(always)]
     fn cut_of(stream: &Stream) -> Cut<u8> {
         let size = if stream.cut_size < 4 {
             stream.cut_size as usize
@@ -60,6 +62,7 @@ impl StreamUnit for u8 {
         Cut { units, size }
     }
 
+    #[inline(always)]
     fn bytes_of(cut: Cut<u8>) -> [u8; 4]
         requires { cut.size ≤ 4 }
         ensures { take cut.size result ≡ front_of cut }
@@ -71,6 +74,7 @@ impl StreamUnit for u8 {
         u8::front(bytes)
     }
 
+    #[inline(always)]
     fn first_of_cut(cut: &Cut<u8>) -> Piece {
         let bytes = listed(cut.units);
         u8::first(&bytes[..cut.size])
