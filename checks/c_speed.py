@@ -21,6 +21,7 @@ ILL_FORMED = "ill-formed bytes"
 FLAGS = "flags"
 QUOTES = "a run of quotation marks"
 LINES = "Arabic with CRLF"
+WORDLESS = "a text without words"
 
 # A text, a call, and the least ratio of its speed to the loop's. `-2` is the second profile, `-8` eight bytes a call, `-60` a
 # line of at most sixty, `-1` a word of bits a call, `lbk_cut` a call for each 4,096 bytes or units: over a text without a cut, where
@@ -45,6 +46,7 @@ BOUNDS = [
     ("the pages", "lbk_cut_utf16", 2),
     ("the pages", "lbk_cut_before_utf16", 2),
     ("the pages", "lbk_marks-1", 0.4),
+    ("the pages", "lbk_feed_utf16", 0.17),
     ("letters of two bytes", "lbk_breaks", 0.35),
     ("letters of two bytes", "lbk_breaks-2", 0.35),
     ("letters of two bytes", "lbk_breaks-8", 0.06),
@@ -61,6 +63,7 @@ BOUNDS = [
     ("letters of two bytes", "lbk_cut_utf16", 3),
     ("letters of two bytes", "lbk_cut_before_utf16", 3),
     ("letters of two bytes", "lbk_marks-1", 0.38),
+    ("letters of two bytes", "lbk_feed_utf16", 0.3),
     ("letters of three bytes", "lbk_breaks", 0.17),
     ("letters of three bytes", "lbk_breaks-2", 0.17),
     ("letters of three bytes", "lbk_breaks-8", 0.06),
@@ -77,6 +80,7 @@ BOUNDS = [
     ("letters of three bytes", "lbk_cut_utf16", 4),
     ("letters of three bytes", "lbk_cut_before_utf16", 4),
     ("letters of three bytes", "lbk_marks-1", 0.1),
+    ("letters of three bytes", "lbk_feed_utf16", 0.4),
     # Without the loop of steps 0.033 was left, and of `lbk_feed` 0.029; with it 0.056 was the least, beside other load.
     (HELD, "lbk_breaks-2", 0.045),
     (HELD, "lbk_feed", 0.17),
@@ -99,14 +103,16 @@ BESIDE = [
     ("the pages", "lbk_breaks", "lbk_positions", 1.9),
 ]
 
-# A text, a call, and the least ratio of its speed to that of the call over the pages. Where masks were made anew behind
-# each byte that they do not tell, and single pieces taken by calls, 0.02, 0.02, 0.11, 0.03 and 0.03 were left.
+# A text, a call, and the least ratio of its speed to that of the call over the pages. Where masks were made anew after each byte
+# that they do not cover, and calls took single pieces, 0.02, 0.02, 0.11, 0.03 and 0.03 were left. Where each break searched for a
+# word in the rest of the text, chunks took minutes.
 ACROSS = [
     (ILL_FORMED, "lbk_breaks", 0.1),
     (ILL_FORMED, "lbk_feed", 0.1),
     (FLAGS, "lbk_breaks", 0.3),
     (QUOTES, "lbk_breaks-2", 0.06),
     (LINES, "lbk_marks", 0.07),
+    (WORDLESS, "lbk_chunks", 0.15),
 ]
 
 HELD_TEXT = "a\u2019 \u2019\u0301 (\u2018b\u2019 c, ".encode()
@@ -117,6 +123,7 @@ SLOW = {
     FLAGS: "\U0001f1e9\U0001f1ea\U0001f1f8\U0001f1ea".encode(),
     QUOTES: "\u00bb".encode(),
     LINES: "\u0627\u0644\u0633\u0644\u0627\u0645 \u0639\u0644\u064a\u0643\u0645\u060c \u0645\u0631\u062d\u0628\u0627\r\n".encode(),
+    WORDLESS: b". - ",
 }
 SLOW_CALLS = "".join(f" {call} " for call in sorted({call for _, call, _ in ACROSS}))
 

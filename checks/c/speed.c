@@ -266,6 +266,21 @@ GO_UNITS(go_breaks_32, lbk_breaks_utf32, units_32, size_32)
 GO_UNITS(go_positions_16, lbk_positions_utf16, units_16, size_16)
 GO_UNITS(go_positions_32, lbk_positions_utf32, units_32, size_32)
 
+static uint64_t go_feed_16(const char *text, size_t size)
+{
+    lbk_stream stream = {0};
+    uint64_t sum = 0;
+    (void)text;
+    (void)size;
+    for (size_t from = 0; from < size_16;) {
+        size_t piece = size_16 - from < PIECE ? size_16 - from : PIECE;
+        lbk_fed fed = lbk_feed_utf16(&table, &stream, units_16 + from, piece, from + piece == size_16, block, ROOM);
+        from += fed.taken;
+        sum += fed.count;
+    }
+    return sum;
+}
+
 static uint64_t go_cuts_16(const char *text, size_t size)
 {
     uint64_t sum = 0;
@@ -326,6 +341,7 @@ int main(int count, char **word)
         {"lbk_breaks_utf16", go_breaks_16}, {"lbk_breaks_utf32", go_breaks_32},
         {"lbk_positions_utf16", go_positions_16}, {"lbk_positions_utf32", go_positions_32},
         {"lbk_cut_utf16", go_cuts_16}, {"lbk_cut_before_utf16", go_cuts_before_16}, {"lbk_marks-1", go_marks_singly},
+        {"lbk_feed_utf16", go_feed_16},
     };
     if (count < 7) {
         fprintf(stderr, "usage: speed CALLS LINE_BREAK EAST_ASIAN CATEGORY EMOJI TEXT..\n");
