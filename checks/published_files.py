@@ -134,7 +134,7 @@ def folders(runs, folder):
             shutil.copy(folder / other, here / other)
         contents = (folder / name).read_bytes()
         of_another = contents.replace(b"15.0", b"15.1", 1)
-        changed = f"^lbk: {here}/{name}: the file was changed or cut: .*; get it anew, or name a file of your own by --"
+        changed = f"^lbk: {here}/{name}: the file was changed or truncated: .*; get it anew, or name a file of your own by --"
         version = f"^lbk: {here}/{name}: this is (Unicode 15.1.0|Emoji 15.1), and lbk needs 15.0"
         for what, bytes_of, err in [
             ("lacks its last byte", contents[:-1], changed),
@@ -170,7 +170,7 @@ def cut_files(runs, words, show):
         contents = Path(words[2 * k + 1]).read_bytes()
         given = [*words[: 2 * k], option, own, *words[2 * k + 2 :]]
         for what, bytes_of, err in [
-            ("lacks its last line", contents[: contents.rindex(b"\n", 0, -1)], f"^lbk: {own}: warning: the file was cut: "),
+            ("lacks its last line", contents[: contents.rindex(b"\n", 0, -1)], f"^lbk: {own}: warning: the file was truncated: "),
             ("has more line ends", contents + b"\r\n\n", ""),
             ("lacks its first and its last line", contents[contents.index(b"\n") : contents.rindex(b"\n", 0, -1)], ""),
         ]:

@@ -26,11 +26,11 @@ TOO_LONG = (
     "--limit raises the limit, up to {}\n"
 )
 CHANGED = (
-    "lbk: U/{0}: the file was changed or cut: Unicode 15.0.0 published another {0}; "
+    "lbk: U/{0}: the file was changed or truncated: it differs from Unicode 15.0.0's {0}; "
     "get it anew, or name a file of your own by {1}\n"
 )
-TITLE = "lbk: U/LineBreak.txt: this is not LineBreak.txt as Unicode 15.0 published it\n"
-NO_VALUE = "no value of the property has this name; lbk knows the names up to Unicode 15.0"
+TITLE = "lbk: U/LineBreak.txt: this is not LineBreak.txt of the Unicode Character Database\n"
+NO_VALUE = "unknown property value; lbk knows those of Unicode 15.0 and earlier"
 TWO_WORDS = "× 0061 × 0062 × 0020 ÷ 0063 × 0064 !\t# 2 28 7 18 28 3\n"
 
 

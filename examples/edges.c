@@ -501,13 +501,13 @@ static void try_claims(void)
         {LBK_EAST_ASIAN, "# EastAsianWidth-15.1.txt\n", "this is Unicode 15.1.0, and lbk needs 15.0.0"},
         {LBK_EMOJI, "# emoji-data.txt\n# Used with Emoji Version 14.0 and", "this is Emoji 14.0, and lbk needs 15.0"},
         {LBK_EMOJI, "# emoji-data\n# Used with Emoji Version 5.0.1", "this is Emoji 5.0.1, and lbk needs 15.0.0"},
-        {LBK_EMOJI, "# emoji-data-15.0\n", "this is not emoji-data.txt as Unicode 15.0 published it"},
+        {LBK_EMOJI, "# emoji-data-15.0\n", "this is not emoji-data.txt of the Unicode Character Database"},
         {LBK_CATEGORY, "# DerivedGeneralCategory-15.0.0.txt\n",
-         "the file was changed or cut: Unicode 15.0.0 published another DerivedGeneralCategory.txt"},
-        {LBK_CATEGORY, "# LineBreak-14.0.0.txt\n", "this is not DerivedGeneralCategory.txt as Unicode 15.0 published it"},
+         "the file was changed or truncated: it differs from Unicode 15.0.0's DerivedGeneralCategory.txt"},
+        {LBK_CATEGORY, "# LineBreak-14.0.0.txt\n", "this is not DerivedGeneralCategory.txt of the Unicode Character Database"},
         {LBK_LINE_BREAK, "# LineBreak-4294967295.4294967295.4294967295", "this is Unicode 4294967295.4294967295.4294967295, and lbk needs 15.0.0"},
-        {LBK_LINE_BREAK, "# LineBreak-4294967296.0", "this is not LineBreak.txt as Unicode 15.0 published it"},
-        {LBK_LINE_BREAK, "", "this is not LineBreak.txt as Unicode 15.0 published it"},
+        {LBK_LINE_BREAK, "# LineBreak-4294967296.0", "this is not LineBreak.txt of the Unicode Character Database"},
+        {LBK_LINE_BREAK, "", "this is not LineBreak.txt of the Unicode Character Database"},
         {LBK_NO_FILE, "# LineBreak-14.0.0.txt\n", ""}, {5, "# LineBreak-14.0.0.txt\n", ""},
     };
     for (size_t k = 0; k < sizeof rows / sizeof rows[0]; k++)

@@ -184,7 +184,7 @@ static void try_cut_files(const lbk::table &table)
     told("a whole file is taken", is_same(lbk::table::try_read(whole, "# emoji-data.txt\n#EOF", CATEGORIES, "", why)));
     told("a file that was cut is refused", !lbk::table::try_read(cut, "", CATEGORIES, "", why) && why.fault.file == LBK_LINE_BREAK
                                                && why.fault.cause == LBK_CAUSE_CUT
-                                               && why.message().find("LineBreak.txt: the file was cut: ") == 0);
+                                               && why.message().find("LineBreak.txt: the file was truncated: ") == 0);
     told("and the last of the four", !lbk::table::try_read(whole, "", CATEGORIES, "# emoji-data.txt", why) && why.fault.file == LBK_EMOJI);
     told("it is taken where that is asked for", is_same(lbk::table::try_read(cut, "", CATEGORIES, "", why, false)) && !why);
 }

@@ -112,9 +112,9 @@ static void try_claims(const std::string &folder)
     const std::pair<const char *, const char *> claims[] = {
         {"# LineBreak-14.0.0.txt\n", "this is Unicode 14.0.0, and lbk needs 15.0.0"},
         {"# LineBreak-15.1.txt\n", "this is Unicode 15.1.0, and lbk needs 15.0.0"},
-        {"# LineBreak-15.0.0.txt\n", "the file was changed or cut: Unicode 15.0.0 published another LineBreak.txt"},
-        {"# LineBreak-", "this is not LineBreak.txt as Unicode 15.0 published it"},
-        {"0061;AL\n# LineBreak-14.0.0", "this is not LineBreak.txt as Unicode 15.0 published it"},
+        {"# LineBreak-15.0.0.txt\n", "the file was changed or truncated: it differs from Unicode 15.0.0's LineBreak.txt"},
+        {"# LineBreak-", "this is not LineBreak.txt of the Unicode Character Database"},
+        {"0061;AL\n# LineBreak-14.0.0", "this is not LineBreak.txt of the Unicode Character Database"},
     };
     ::mkdir((folder + "/claims").c_str(), 0700);
     for (const std::string &name : names)
@@ -127,7 +127,7 @@ static void try_claims(const std::string &folder)
     const std::pair<const char *, const char *> emoji[] = {
         {"# emoji-data.txt\n# Used with Emoji Version 14.0 and", "this is Emoji 14.0, and lbk needs 15.0"},
         {"# emoji-data\n# Used with Emoji Version 5.0.1", "this is Emoji 5.0.1, and lbk needs 15.0.0"},
-        {"# emoji-data-15.0\n", "this is not emoji-data.txt as Unicode 15.0 published it"},
+        {"# emoji-data-15.0\n", "this is not emoji-data.txt of the Unicode Character Database"},
     };
     for (const auto &[first, said] : emoji) {
         told(said, lbk_claim_text(LBK_EMOJI, first, std::strlen(first)).text == std::string(said));

@@ -110,15 +110,15 @@ def rows_and_bytes():
 def faulty():
     shuffled = shuffled_codes()
     yield "one byte too many", repeated(b"\n", FILE_BYTES + 1), (0, "the file has more than 8388608 bytes")
-    many = (65_537, "the file has more than 65536 rows and default lines")
+    many = (65_537, "the file has more than 65536 rows and @missing lines")
     yield "one row too many", (row(code, class_of(code)) for code in reversed(range(ROWS + 1))), many
     yield "one default too many", (default(0, 0x10FFFF, class_of(k)) for k in range(ROWS + 1)), many
-    overlap = (65_536, "a row before this one holds a code of this row")
+    overlap = (65_536, "the row overlaps an earlier row")
     yield "an overlap in the last row", [*(row(code, "AL") for code in shuffled[:-1]), row(shuffled[0], "AL")], overlap
     long = "the line has more than 1024 bytes"
     yield "one line of 8,388,608 bytes", repeated(b"#"), (1, long)
     yield "a long line behind 4,194,000 blank ones", [*repeated(b"\n", 4_194_000), b"#" * 1025], (4_194_001, long)
-    unknown = "no value of the property has this name; lbk knows the names up to Unicode 15.0"
+    unknown = "unknown property value; lbk knows those of Unicode 15.0 and earlier"
     lines = [*(row(code, "AL") for code in range(ROWS - 1)), row(ROWS, "A" * 1018)]
     yield "a name of 1,018 letters behind all rows", lines, (65_536, unknown)
 

@@ -14,7 +14,7 @@ const NAMES = ["# LineBreak-", "# EastAsianWidth-", "# DerivedGeneralCategory-",
 const EMOJI = 3;
 const EMOJI_VERSION = "\n# Used with Emoji Version ";
 const TITLE_SIZE = 4096;
-const REMEDY = "Debian 12's unicode-data has it, as has https://www.unicode.org/Public/15.0.0/ucd/UCD.zip";
+const REMEDY = "get it from Debian 12's unicode-data or https://www.unicode.org/Public/15.0.0/ucd/UCD.zip";
 
 /** The version of Unicode, or of emoji, that a file claims in the way of the files of its name. */
 function versionOf(bytes, k) {
@@ -29,8 +29,8 @@ function versionOf(bytes, k) {
 export function claimText(bytes, k) {
   const name = FILES[k].replace(/.*\//, "");
   const version = versionOf(bytes, k);
-  if (version === undefined) return `this is not ${name} as Unicode 15.0 published it`;
-  if (version === "15.0.0") return `the file was changed or cut: Unicode 15.0.0 published another ${name}`;
+  if (version === undefined) return `this is not ${name} of the Unicode Character Database`;
+  if (version === "15.0.0") return `the file was changed or truncated: it differs from Unicode 15.0.0's ${name}`;
   if (k === EMOJI && version.endsWith(".0")) return `this is Emoji ${version.slice(0, -2)}, and lbk needs 15.0`;
   return `${k === EMOJI ? "this is Emoji " : "this is Unicode "}${version}, and lbk needs 15.0.0`;
 }
@@ -40,7 +40,7 @@ export function refusalOf(files, folder) {
   if (files.length !== FILES.length) return `${files.length} files are given, and not the ${FILES.length} property files`;
   const wrong = files.findIndex((bytes, k) => versionOf(bytes, k) !== "15.0.0");
   const place = folder === undefined ? "" : `${String(folder).replace(/\/$/, "")}/`;
-  if (wrong < 0) return `${place || "the four files"}: one was changed or cut: they are not as Unicode 15.0.0 published them; ${REMEDY}`;
+  if (wrong < 0) return `${place || "the four files"}: one was changed or truncated: they differ from those of Unicode 15.0.0; ${REMEDY}`;
   return `${place}${FILES[wrong]}: ${claimText(files[wrong], wrong)}; ${REMEDY}`;
 }
 

@@ -22,14 +22,14 @@ version_text which v = codes "this is Unicode " ++ three_numbers v (codes ", and
 
 -- the text about a file that is not the published one
 abbrev pub claim_text : Which → ClaimCause → List ℕ
-claim_text which Title = codes "this is not " ++ (file_name which ++ codes " as Unicode 15.0 published it")
+claim_text which Title = codes "this is not " ++ (file_name which ++ codes " of the Unicode Character Database")
 claim_text which (Version v) = version_text which v
-claim_text which Changed = codes "the file was changed or cut: Unicode 15.0.0 published another " ++ file_name which
+claim_text which Changed = codes "the file was changed or truncated: it differs from Unicode 15.0.0's " ++ file_name which
 
 -- the text about a truncated file
 abbrev pub cut_text : List ℕ
-cut_text = codes "the file was cut: its first line claims a published name, and its last is not # EOF"
+cut_text = codes "the file was truncated: its first line names a published file, but its last is not # EOF"
 
 -- where to get the published files
 abbrev pub remedy_text : List ℕ
-remedy_text = codes "Debian 12's unicode-data has it, as has https://www.unicode.org/Public/15.0.0/ucd/UCD.zip"
+remedy_text = codes "get it from Debian 12's unicode-data or https://www.unicode.org/Public/15.0.0/ucd/UCD.zip"

@@ -14,11 +14,11 @@ pub fn cause_text(cause: UcdCause) -> &'static str
         UcdCause::FileTooLong => "the file has more than 8388608 bytes",
         UcdCause::LineTooLong => "the line has more than 1024 bytes",
         UcdCause::RowSyntax => "the line is neither a row `code; value` nor a comment nor blank",
-        UcdCause::Range => "a range whose first code is past its last, or a code past 10FFFF",
+        UcdCause::Range => "the first code point is above the last, or one is above 10FFFF",
         UcdCause::UnknownValue =>
-            "no value of the property has this name; lbk knows the names up to Unicode 15.0",
-        UcdCause::Overlap => "a row before this one holds a code of this row",
-        UcdCause::TooManyRows => "the file has more than 65536 rows and default lines",
+            "unknown property value; lbk knows those of Unicode 15.0 and earlier",
+        UcdCause::Overlap => "the row overlaps an earlier row",
+        UcdCause::TooManyRows => "the file has more than 65536 rows and @missing lines",
         UcdCause::Memory => "out of memory",
     }
 }

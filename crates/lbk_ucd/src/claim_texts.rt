@@ -11,7 +11,7 @@ use crate::which::Which;
 use arrayvec::ArrayString;
 use itoa::Buffer;
 
-/// Describes a file that is not the published one: its version, that it was changed or cut, or that it is another file.
+/// Describes a file that is not the published one: its version, that it was changed or truncated, or that it is another file.
 /// ASCII.
 pub fn claim_text(which: Which, cause: ClaimCause) -> ArrayString<95>
     ensures { result.bytes ≡ claim_text which cause }
@@ -20,12 +20,12 @@ pub fn claim_text(which: Which, cause: ClaimCause) -> ArrayString<95>
         ClaimCause::Title => {
             let mut text = begun("this is not ");
             text.push_str(file_name(which));
-            text.push_str(" as Unicode 15.0 published it");
+            text.push_str(" of the Unicode Character Database");
             text
         }
         ClaimCause::Version(version) => version_text(which, version),
         ClaimCause::Changed => {
-            let mut text = begun("the file was changed or cut: Unicode 15.0.0 published another ");
+            let mut text = begun("the file was changed or truncated: it differs from Unicode 15.0.0's ");
             text.push_str(file_name(which));
             text
         }
@@ -37,7 +37,7 @@ pub fn cut_text() -> &'static str
     ensures text { result.now ≡ cut_text }
     ensures short { length result.now ≤ 95 }
 {
-    "the file was cut: its first line claims a published name, and its last is not # EOF"
+    "the file was truncated: its first line names a published file, but its last is not # EOF"
 }
 
 /// Says where to get the published files, in at most 95 bytes of ASCII.
@@ -45,7 +45,7 @@ pub fn remedy_text() -> &'static str
     ensures text { result.now ≡ remedy_text }
     ensures short { length result.now ≤ 95 }
 {
-    "Debian 12's unicode-data has it, as has https://www.unicode.org/Public/15.0.0/ucd/UCD.zip"
+    "get it from Debian 12's unicode-data or https://www.unicode.org/Public/15.0.0/ucd/UCD.zip"
 }
 
 /// Names the version of a file of another version.

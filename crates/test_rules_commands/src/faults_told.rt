@@ -45,7 +45,7 @@ static OF_FILES: [(CellsFault, &str); 8] = [
     ),
     (
         CellsFault::Claim(Which::Emoji, ClaimCause::Title),
-        "emoji-data.txt: this is not emoji-data.txt as Unicode 15.0 published it",
+        "emoji-data.txt: this is not emoji-data.txt of the Unicode Character Database",
     ),
     (
         CellsFault::Claim(
@@ -59,11 +59,11 @@ static OF_FILES: [(CellsFault, &str); 8] = [
     ),
     (
         CellsFault::Claim(Which::Category, ClaimCause::Changed),
-        "DerivedGeneralCategory.txt: the file was changed or cut: Unicode 15.0.0 published another DerivedGeneralCategory.txt",
+        "DerivedGeneralCategory.txt: the file was changed or truncated: it differs from Unicode 15.0.0's DerivedGeneralCategory.txt",
     ),
     (
         CellsFault::Tables(ROW),
-        "DerivedGeneralCategory.txt:7: a row before this one holds a code of this row",
+        "DerivedGeneralCategory.txt:7: the row overlaps an earlier row",
     ),
     (
         CellsFault::Tables(FILE),
@@ -88,11 +88,11 @@ static OF_RUNS: [(RunFault, &str); 15] = [
     ),
     (
         RunFault::Claim(Which::Emoji, ClaimCause::Title),
-        "emoji-data.txt: this is not emoji-data.txt as Unicode 15.0 published it",
+        "emoji-data.txt: this is not emoji-data.txt of the Unicode Character Database",
     ),
     (
         RunFault::Tables(ROW),
-        "DerivedGeneralCategory.txt:7: a row before this one holds a code of this row",
+        "DerivedGeneralCategory.txt:7: the row overlaps an earlier row",
     ),
     (
         RunFault::Cmd(CmdFault::Passage(PassageFault::Limit)),
@@ -180,7 +180,7 @@ static OF_TEXTS: [(BreakFault, &str); 4] = [
     ),
     (
         BreakFault::Files(CellsFault::Tables(ROW)),
-        "DerivedGeneralCategory.txt:7: a row before this one holds a code of this row",
+        "DerivedGeneralCategory.txt:7: the row overlaps an earlier row",
     ),
     (
         BreakFault::Text(CmdFault::Passage(PassageFault::NotUtf8 { at: 9 })),

@@ -120,7 +120,7 @@ test("other property files are refused", async () => {
   const of14 = edited(0, "# LineBreak-15.0.0.txt", "# LineBreak-14.0.0.txt").with(1, new Uint8Array(0));
   assert.match(await refused(of14), /^LineBreak.txt: this is Unicode 14.0.0, and lbk needs 15.0.0; Debian 12's .*UCD.zip$/);
   assert.match(await refused(files.with(3, files[3].subarray(0, 99))), /^emoji\/emoji-data.txt: this is not emoji-data.txt as Unicode 15.0/);
-  assert.match(await refused(edited(0, "0028;OP", "0028;CL")), /one was changed or cut/);
+  assert.match(await refused(edited(0, "0028;OP", "0028;CL")), /one was changed or truncated/);
   assert.match(await refused(files.slice(1)), /^3 files are given, and not the 4 property files$/);
   await assert.rejects(Table.fromFiles("/absent"), { code: "ENOENT" });
 });

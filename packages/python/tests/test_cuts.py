@@ -56,7 +56,7 @@ class Cuts(unittest.TestCase):
             with self.assertRaises(lbk.Fault) as caught:
                 Table.read(*files)
             self.assertEqual((caught.exception.file, caught.exception.cause), (number, lbk.Cause.CUT))
-            self.assertIn(": the file was cut: ", str(caught.exception))
+            self.assertIn(": the file was truncated: ", str(caught.exception))
             self.assertEqual(Table.read(*files, strict=False), whole)
             files[number - 1] += b"\n#EOF\n\n"
             self.assertEqual(Table.read(*files), whole)

@@ -74,11 +74,11 @@ class Folders(unittest.TestCase):
             (File.EAST_ASIAN, b"# EastAsianWidth-15.1.txt\n", "this is Unicode 15.1.0, and lbk needs 15.0.0"),
             (File.EMOJI, b"# emoji-data.txt\n# Used with Emoji Version 14.0 and", "this is Emoji 14.0, and lbk needs 15.0"),
             (File.EMOJI, b"# emoji-data\n# Used with Emoji Version 5.0.1", "this is Emoji 5.0.1, and lbk needs 15.0.0"),
-            (File.EMOJI, b"# emoji-data-15.0\n", "this is not emoji-data.txt as Unicode 15.0 published it"),
-            (File.LINE_BREAK, b"0061;AL\n# LineBreak-14.0.0\n", "this is not LineBreak.txt as Unicode 15.0 published it"),
+            (File.EMOJI, b"# emoji-data-15.0\n", "this is not emoji-data.txt of the Unicode Character Database"),
+            (File.LINE_BREAK, b"0061;AL\n# LineBreak-14.0.0\n", "this is not LineBreak.txt of the Unicode Character Database"),
             (
                 File.CATEGORY, b"# DerivedGeneralCategory-15.0.0.txt\n",
-                "the file was changed or cut: Unicode 15.0.0 published another DerivedGeneralCategory.txt",
+                "the file was changed or truncated: it differs from Unicode 15.0.0's DerivedGeneralCategory.txt",
             ),
         )
         for file, data, said in claims:
@@ -94,7 +94,7 @@ class Folders(unittest.TestCase):
         names = [self.folder / str(number) for number in range(4)]
         for name in names:
             name.write_bytes(b"# LineBreak-14.0.0.txt\n" if name == names[0] else b"")
-        with self.assertRaisesRegex(Fault, f"^{names[0]}: the file was cut: "):
+        with self.assertRaisesRegex(Fault, f"^{names[0]}: the file was truncated: "):
             Table.from_files(*names)
         names[0].write_bytes(b"0061;AL\nno row\n")
         with self.assertRaisesRegex(Fault, f"^{names[0]}:2: the line "):

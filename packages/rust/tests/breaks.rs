@@ -244,11 +244,11 @@ fn a_folder_has_the_published_files() {
         ),
         (
             "# LineBreak-15.0.0.txt\n",
-            "the file was changed or cut: Unicode 15.0.0 published another LineBreak.txt",
+            "the file was changed or truncated: it differs from Unicode 15.0.0's LineBreak.txt",
         ),
         (
             "0061;AL\n# LineBreak-14.0.0",
-            "this is not LineBreak.txt as Unicode 15.0 published it",
+            "this is not LineBreak.txt of the Unicode Character Database",
         ),
     ] {
         put("LineBreak.txt", first.as_bytes());

@@ -113,7 +113,7 @@ fn files_that_were_cut_are_refused() {
     );
     assert!(refused
         .to_string()
-        .starts_with("LineBreak.txt: the file was cut: "));
+        .starts_with("LineBreak.txt: the file was truncated: "));
     let tables = [
         read(&whole, Table::read),
         read(cut, Table::read_lenient),
