@@ -170,7 +170,7 @@ def limits(drawn):
     limit = drawn.size(LIMIT)
     words = drawn.words("mark", "--limit", str(limit))
     if drawn.chance.randrange(3) == 0:
-        line = f"byte 0: the paragraph from here on has more than {limit} bytes".encode()
+        line = f"byte 0: the paragraph that starts here has more than {limit} bytes".encode()
         drawn.run("limits", [limit], words, b"a" * (limit + 1), 1, lambda ran: line in ran.err)
     else:
         text = b"a" * drawn.chance.choice((limit, drawn.size(limit)))

@@ -18,7 +18,7 @@ SOURCES = {
 # What stands in a source for a folder of the user.
 SIGNS = {"$XDG_DATA_HOME/unicode": "XDG_DATA_HOME", "~/.local/share/unicode": '.local/share"'}
 ADVICE = (
-    "found no files of Unicode 15.0.0; install the package unicode-data (Debian 12), unpack UCD.zip of "
+    "found no files of Unicode 15.0.0; install the package unicode-data (Debian 12), unpack UCD.zip from "
     "https://www.unicode.org/Public/15.0.0/ucd/ into ~/.local/share/unicode, or set UNICODE_DATA to a folder that has them. Looked for:"
 )
 # The sentences on a file that is not the published one: the program and lbk_claim_text have those of this definition, and of the

@@ -328,7 +328,7 @@ status=$?
 told 'save_table.c: a table that is not whole is refused' "$([ $status = 1 ] && echo yes || echo "status $status")"
 if [ ${#unibreak[@]} != 0 ]; then
     remedy='install the files of Unicode 15.0 (Debian: unicode-data)'
-    try_no_table 'a table that is not whole' "$table" "$table: it is no whole table: write it with examples/save_table.c of lbk $(pkg-config --modversion lbk)"
+    try_no_table 'a table that is not whole' "$table" "$table: it is not an intact table: write it with examples/save_table.c of lbk $(pkg-config --modversion lbk)"
     try_no_table 'no table' "$here/none" "$here/none: No such file or directory: put the table there that this library was built for"
     mkdir "$here/files"
     cp -s "${names[@]/#/$ucd/}" "$here/files"

@@ -27,9 +27,9 @@ INTERRUPTED = b": operation interrupted\n"
 TESTS = "× 0061 × 0062 ÷\n× 0061 ÷ 0062 ÷\n".encode()
 SAMPLES = "lbk: built-in sample data, for a first look only; for real text: lbk mark --ucd FOLDER FILE\n"
 TOO_LONG = (
-    "lbk: standard input: byte 0: the paragraph from here on has more than 65536 bytes; --limit raises the limit, up to 16777216"
+    "lbk: standard input: byte 0: the paragraph that starts here has more than 65536 bytes; --limit allows up to 16777216"
 )
-NOT_TEXT = "lbk: argument {}, {}, is not UTF-8; a text of such a name is read as standard input: < FILE"
+NOT_TEXT = "lbk: argument {}, {}, is not UTF-8; pass a file with such a name as standard input: < FILE"
 SECONDS = 30  # until a run counts as one that waits
 GREATEST = 16_777_216  # bytes of a paragraph
 HAS_FULL = os.access("/dev/full", os.W_OK)

@@ -46,7 +46,7 @@ def without_files(runs):
     runs.ends("--help", runs.run(b"ab cd", "--help"), 0)
     runs.ends("--version", runs.run(b"ab cd", "--version"), 0)
     runs.ends("a wrong subcommand", runs.run(b"ab cd", "bogus"), 2, "unrecognized subcommand 'bogus'")
-    runs.ends("no files", runs.run(b"ab cd", "show"), 2, "the property files are not named")
+    runs.ends("no files", runs.run(b"ab cd", "show"), 2, "property files are required")
     usage = runs.run(b"ab cd", "show").err
     runs.tally.equal("no files: the folder of Debian's package is named", b"--ucd /usr/share/unicode\n" in usage, True)
 
@@ -134,7 +134,7 @@ def folders(runs, folder):
             shutil.copy(folder / other, here / other)
         contents = (folder / name).read_bytes()
         of_another = contents.replace(b"15.0", b"15.1", 1)
-        changed = f"^lbk: {here}/{name}: the file was changed or truncated: .*; get it anew, or name a file of your own by --"
+        changed = f"^lbk: {here}/{name}: the file was changed or truncated: .*; download it again, or pass your own file by --"
         version = f"^lbk: {here}/{name}: this is (Unicode 15.1.0|Emoji 15.1), and lbk needs 15.0"
         for what, bytes_of, err in [
             ("lacks its last byte", contents[:-1], changed),
@@ -155,7 +155,7 @@ def one_file_less(runs, folder, here, mark, marked):
     """A file that its option names is not looked for in the folder, and may be any."""
     wide = here / "EastAsianWidth.txt"
     wide.unlink()
-    lacks = f"^lbk: {wide}: the file cannot be read: no such file; Debian's package unicode-data has the files: --ucd /usr/share/unicode$"
+    lacks = f"^lbk: {wide}: the file cannot be read: no such file; install Debian's package unicode-data, and pass --ucd /usr/share/unicode$"
     runs.ends("a folder that lacks a file", mark(), 1, lacks)
     own = runs.room / "wide.txt"
     own.write_bytes((folder / "EastAsianWidth.txt").read_bytes().partition(b"\n")[2])

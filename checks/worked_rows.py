@@ -22,12 +22,12 @@ OUT_FAULT = "lbk: standard output: cannot be written: file too large\n"
 ILL_FORMED = "lbk: {}: byte {}: invalid UTF-8\n"
 MISSING = "lbk: {}: cannot be read: no such file\n"
 TOO_LONG = (
-    "lbk: standard input: byte {}: the paragraph from here on has more than {} bytes; "
-    "--limit raises the limit, up to {}\n"
+    "lbk: standard input: byte {}: the paragraph that starts here has more than {} bytes; "
+    "--limit allows up to {}\n"
 )
 CHANGED = (
     "lbk: U/{0}: the file was changed or truncated: it differs from Unicode 15.0.0's {0}; "
-    "get it anew, or name a file of your own by {1}\n"
+    "download it again, or pass your own file by {1}\n"
 )
 TITLE = "lbk: U/LineBreak.txt: this is not LineBreak.txt of the Unicode Character Database\n"
 NO_VALUE = "unknown property value; lbk knows those of Unicode 15.0 and earlier"

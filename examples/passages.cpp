@@ -88,9 +88,9 @@ static void try_limits(const lbk_table &table)
     least.least = 501;
     overlap.overlap = 251;
     told("limits in range", lbk::limits().wrong().empty());
-    told("no most", none.wrong() == "most is 1 or more, and not 0");
-    told("too much least", least.wrong() == "least is 0 to most, which is 500, and not 501");
-    told("too much overlap", overlap.wrong() == "overlap is 0 to half of most, which is 500, and not 251");
+    told("no most", none.wrong() == "most must be 1 or more, not 0");
+    told("too much least", least.wrong() == "least must be from 0 to most (500), not 501");
+    told("too much overlap", overlap.wrong() == "overlap must be from 0 to half of most (500), not 251");
     for (const lbk::limits &one : {none, least, overlap}) {
 #if defined(__cpp_exceptions)
         try {

@@ -33,7 +33,7 @@ int main(int words, char **word)
     }
     bytes table = load(word[1]);
     if (table.size != sizeof(lbk_table) || !lbk_check((const lbk_table *)table.at)) {
-        fprintf(stderr, "%s is no whole table of version %s\n", word[1], LBK_VERSION);
+        fprintf(stderr, "%s is not an intact table of version %s\n", word[1], LBK_VERSION);
         return 1;
     }
     bytes text = read_all(stdin);

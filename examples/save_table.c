@@ -61,7 +61,7 @@ int main(int words, char **word)
     }
     const lbk_table *table = map_table(word[1]);
     if (table == NULL) {
-        fprintf(stderr, "%s is no whole table of version %s\n", word[1], LBK_VERSION);
+        fprintf(stderr, "%s is not an intact table of version %s\n", word[1], LBK_VERSION);
         return 1;
     }
     bytes text = read_all(stdin);

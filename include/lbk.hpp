@@ -85,7 +85,7 @@ struct error {
         case reason::unreadable:
             return file + ": " + std::generic_category().message(system);
         case reason::not_a_table:
-            return "not a whole table of version " LBK_VERSION;
+            return "not an intact table of version " LBK_VERSION;
         case reason::out_of_memory:
             return "out of memory";
         }
@@ -260,7 +260,7 @@ public:
             refusals += "\n  " + folder + (refused.why == error::reason::out_of_memory ? ": " : "/") + refused.message();
         }
         if (found == nullptr)
-            why = "found no files of Unicode " LBK_UNICODE_VERSION ".0; install the package unicode-data (Debian 12), unpack UCD.zip of "
+            why = "found no files of Unicode " LBK_UNICODE_VERSION ".0; install the package unicode-data (Debian 12), unpack UCD.zip from "
                   "https://www.unicode.org/Public/" LBK_UNICODE_VERSION ".0/ucd/ into ~/.local/share/unicode, or set UNICODE_DATA to a "
                   "folder that has them. Looked for:" + refusals;
         return found;
@@ -888,11 +888,11 @@ struct limits {
     {
         const lbk_limits it = get();
         if (it.most == 0)
-            return "most is 1 or more, and not 0";
+            return "most must be 1 or more, not 0";
         if (it.least > it.most)
-            return "least is 0 to most, which is " + std::to_string(it.most) + ", and not " + std::to_string(it.least);
+            return "least must be from 0 to most (" + std::to_string(it.most) + "), not " + std::to_string(it.least);
         if (it.overlap > it.most / 2)
-            return "overlap is 0 to half of most, which is " + std::to_string(it.most) + ", and not " + std::to_string(it.overlap);
+            return "overlap must be from 0 to half of most (" + std::to_string(it.most) + "), not " + std::to_string(it.overlap);
         return {};
     }
 };

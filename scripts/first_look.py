@@ -26,12 +26,12 @@ DIGITS_OF_CHUNKS = """
 Numbers are decimal digits: --most, --words and --limit 1 to 16777216, --least
 and --overlap 0 to 16777216, --from and --to 0 to 4294967295, --profile 1 or 2.
 """
-UNNAMED = """the property files are not named: give --ucd <FOLDER>, or each of
+UNNAMED = """property files are required: pass --ucd <FOLDER>, or each of
   --line-break <FILE>
   --east-asian <FILE>
   --category <FILE>
   --emoji <FILE>
-Debian's package unicode-data has them: --ucd /usr/share/unicode"""
+Debian's package unicode-data installs them: --ucd /usr/share/unicode"""
 
 
 class Told(Exception):
@@ -247,7 +247,7 @@ def look_at_whole(task, given):
     if int(given.get("from", 0)) > int(given.get("to", 2**32 - 1)):
         refuse("--from <BYTE> is greater than --to <BYTE>", task)
     if not is_sign(given.get("sign", "÷")):
-        refuse("--sign <TEXT> is 1 to 8 bytes of UTF-8 without a line end", task)
+        refuse("--sign <TEXT> must be 1 to 8 bytes of UTF-8 without a line end", task)
     if int(given.get("least", 0)) > int(given.get("most", 2**24)):
         refuse("--least <NUMBER> is greater than --most <NUMBER>", task)
     if int(given.get("overlap", 0)) > int(given.get("most", 2**25)) // 2:

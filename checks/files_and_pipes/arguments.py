@@ -20,7 +20,7 @@ Numbers are decimal digits: --most, --words and --limit 1 to 16777216, --least
 and --overlap 0 to 16777216, --from and --to 0 to 4294967295, --profile 1 or 2.
 """
 LIMIT_OPTION, FROM_OPTION = "--limit <NUMBER>", "--from <BYTE>"
-SIGN = "--sign <TEXT> is 1 to 8 bytes of UTF-8 without a line end"
+SIGN = "--sign <TEXT> must be 1 to 8 bytes of UTF-8 without a line end"
 
 # Arguments behind those that name the files, and what is said of them, as the library clap words it for Rust; whether the usage
 # follows.
@@ -97,12 +97,12 @@ def accepted(task, number):
 def each_number(place):
     """Each number of arguments, those that are accepted and others."""
     for task, out in (("show", AB), ("mark", b"ab\n")):
-        usage = f"""lbk: the property files are not named: give --ucd <FOLDER>, or each of
+        usage = f"""lbk: property files are required: pass --ucd <FOLDER>, or each of
   --line-break <FILE>
   --east-asian <FILE>
   --category <FILE>
   --emoji <FILE>
-Debian's package unicode-data has them: --ucd /usr/share/unicode
+Debian's package unicode-data installs them: --ucd /usr/share/unicode
 
 Usage: lbk {task} --ucd <FOLDER> [OPTIONS] [FILE]...
 
@@ -128,8 +128,8 @@ def all_at_once(place):
     place.write("F", CATEGORY + b"2019;Pf\n")
     names = ["Q", "E", "F", "M"]
     more = ["--limit", "4", "--profile", "2"]
-    long = "lbk: standard input: byte 0: the paragraph from here on has more than 4 bytes; "
-    long += f"--limit raises the limit, up to {LIMIT}\n"
+    long = "lbk: standard input: byte 0: the paragraph that starts here has more than 4 bytes; "
+    long += f"--limit allows up to {LIMIT}\n"
     shows = "× 0061 × 2019 × 0301 × 002C !\t# 2 15b 9 13 3\n".encode()
     for task, out in (("show", shows), ("mark", quoted + b"\n")):
         place.row(f"{task}: all arguments", words_of(task, names, more), quoted, 1, b"", long.encode())

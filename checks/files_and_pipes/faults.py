@@ -10,7 +10,7 @@ def segments(rows):
 def run(place):
     for lines in (40_000, 600_000, 9_000_000):
         text, at = b"a\n" * lines, 2 * lines
-        too_long = f"byte {at}: the paragraph from here on has more than 65536 bytes; --limit raises the limit, up to {LIMIT}"
+        too_long = f"byte {at}: the paragraph that starts here has more than 65536 bytes; --limit allows up to {LIMIT}"
         # The last paragraph is given only once the scalar after it is there.
         for ending, rows, err in (
             (b"\xff", lines - 1, f"byte {at}: invalid UTF-8"),

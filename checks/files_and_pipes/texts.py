@@ -11,7 +11,7 @@ from checks.program import run as run_program
 
 MISSING = "lbk: {}: cannot be read: no such file\n"
 NOT_UTF_8 = "lbk: {}: byte {}: invalid UTF-8"
-UTF_16 = NOT_UTF_8 + "; it begins as UTF-16 does: iconv -f UTF-16 -t UTF-8 makes UTF-8 of it\n"
+UTF_16 = NOT_UTF_8 + "; it looks like UTF-16: convert it by iconv -f UTF-16 -t UTF-8\n"
 KINDS = "lbk: to read lines with ! (a required break), add --kinds\n"
 LONGEST_NAME = 4_095
 # How many bytes of names one run is given at most: less than a system hands over.
@@ -84,7 +84,7 @@ def whole_names(place):
     name = "a\u202eb\u200f\u2066"
     err = MISSING.format("a\\u{202e}b\\u{200f}\\u{2066}").encode()
     place.row("texts: a name with characters that turn a line", words_of("mark", more=[name]), b"", 1, b"", err)
-    err = b"lbk: a\\u{a}b/LineBreak.txt: the file cannot be read: no such file; Debian's package unicode-data has the files: --ucd /usr/share/unicode\n"
+    err = b"lbk: a\\u{a}b/LineBreak.txt: the file cannot be read: no such file; install Debian's package unicode-data, and pass --ucd /usr/share/unicode\n"
     place.row("a folder with a line end in its name", ["mark", "--ucd", "a\nb"], b"", 1, b"", err)
 
 

@@ -9,7 +9,7 @@ LINE_MEMORY = 400 * MIB
 TEXT_MEMORY = 64 * MIB
 LONGEST_LINE = 268_435_456
 LONGEST_STREAM = 1_073_741_824
-RAISE = f"; --limit raises the limit, up to {LIMIT}"
+RAISE = f"; --limit allows up to {LIMIT}"
 TOO_LONG = f"lbk: standard input: more than {LONGEST_STREAM} bytes"
 
 
@@ -37,7 +37,7 @@ def limits(hostile):
             hostile.tally.tell(f"{task} of {limit} bytes at that limit: {ran.seconds:.2f} s", fault)
             ran = Long(words, [(b"a", limit + 1)])
             more = ", the greatest limit" if limit == LIMIT else RAISE
-            err = f"lbk: standard input: byte 0: the paragraph from here on has more than {limit} bytes{more}"
+            err = f"lbk: standard input: byte 0: the paragraph that starts here has more than {limit} bytes{more}"
             hostile.tally.tell(f"{task} of {limit + 1} bytes at the limit {limit}", ran.fault(1, err) or nothing(ran))
 
 

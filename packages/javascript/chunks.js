@@ -14,13 +14,13 @@ const MUST = 2;
 /** The limits in the options, each a whole number; Infinity for any number of words. */
 function limitsOf({ most = 500, words = Infinity, least = Math.floor(most / 2), overlap = 0 } = {}) {
   const check = (isRight, name, wanted, given) => {
-    if (!isRight) throw new RangeError(`${name} is ${wanted}, and not ${String(given)}`);
+    if (!isRight) throw new RangeError(`${name} must be ${wanted}, not ${String(given)}`);
   };
   const isWithin = (number, from, to) => Number.isInteger(number) && number >= from && number <= to;
-  check(isWithin(most, 1, Infinity), "most", "a whole number, 1 or more", most);
-  check(words === Infinity || isWithin(words, 1, Infinity), "words", "a whole number, 1 or more, or Infinity", words);
-  check(isWithin(least, 0, most), "least", `a whole number, 0 to most, which is ${most}`, least);
-  check(isWithin(overlap, 0, Math.floor(most / 2)), "overlap", `a whole number, 0 to half of most, which is ${most}`, overlap);
+  check(isWithin(most, 1, Infinity), "most", "a whole number of 1 or more", most);
+  check(words === Infinity || isWithin(words, 1, Infinity), "words", "a whole number of 1 or more, or Infinity", words);
+  check(isWithin(least, 0, most), "least", `a whole number from 0 to most (${most})`, least);
+  check(isWithin(overlap, 0, Math.floor(most / 2)), "overlap", `a whole number from 0 to half of most (${most})`, overlap);
   return { most, words, least, overlap };
 }
 
@@ -102,7 +102,7 @@ export class Chunker {
 
   constructor(table, words) {
     if (!(table instanceof Table) || !(words instanceof Words)) {
-      throw new TypeError("a Chunker is made of a Table and of Words, or by Chunker.load");
+      throw new TypeError("make a Chunker of a Table and Words, or by Chunker.load");
     }
     this.#table = table;
     this.#words = words;

@@ -112,7 +112,7 @@ export function folders({ UNICODE_DATA: named, XDG_DATA_HOME: users = "" } = pro
 /** Says what to do, and why each folder was refused. */
 export function notFound(refusals) {
   const advice =
-    "found no files of Unicode 15.0.0; install the package unicode-data (Debian 12), unpack UCD.zip of " +
+    "found no files of Unicode 15.0.0; install the package unicode-data (Debian 12), unpack UCD.zip from " +
     "https://www.unicode.org/Public/15.0.0/ucd/ into ~/.local/share/unicode, or set UNICODE_DATA to a folder that has them. " +
     "Looked for:";
   return new Error([advice, ...refusals].join("\n  "));

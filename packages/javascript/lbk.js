@@ -19,7 +19,7 @@ function inFolder(folder, name) {
 }
 
 export function profileNumber({ profile = 1 } = {}) {
-  if (profile !== 1 && profile !== 2) throw new RangeError("the profile is 1 or 2");
+  if (profile !== 1 && profile !== 2) throw new RangeError("profile must be 1 or 2");
   return profile - 1;
 }
 
@@ -30,7 +30,7 @@ export class Table {
   static #found;
 
   constructor(module, machine) {
-    if (!(machine instanceof Machine)) throw new TypeError("a Table is made by Table.find, Table.fromFiles or Table.fromBytes");
+    if (!(machine instanceof Machine)) throw new TypeError("make a Table by Table.find, Table.fromFiles or Table.fromBytes");
     this.#module = module;
     this.#machine = machine;
     this.#labels = Array.from({ length: RULE_NUMBERS }, (_, number) => machine.ruleLabel(number));
@@ -71,7 +71,7 @@ export class Table {
   static async #sources(files) {
     if (Array.isArray(files)) return files;
     if (typeof files !== "string" && !(files instanceof URL)) {
-      throw new TypeError("the files are the path or URL of a folder, or an array of the four files");
+      throw new TypeError("pass the path or URL of a folder, or an array of the four files");
     }
     if (isLocal(files)) return (await import("./found.js")).contents(files);
     return (await import("./property_files.js")).FILES.map((name) => inFolder(files, name));
@@ -108,7 +108,7 @@ export class Table {
   }
 
   classOf(scalar) {
-    if (!Number.isInteger(scalar) || scalar < 0 || scalar > 0x10ffff) throw new RangeError("a code point is 0 to 0x10FFFF");
+    if (!Number.isInteger(scalar) || scalar < 0 || scalar > 0x10ffff) throw new RangeError("a code point must be from 0 to 0x10FFFF");
     return this.#guarded(() => this.#machine.classLabel(scalar));
   }
 
@@ -130,7 +130,7 @@ export class Table {
   }
 
   segments(text, options) {
-    if (typeof text !== "string") throw new TypeError("the segments are those of a string");
+    if (typeof text !== "string") throw new TypeError("segments need a string");
     return this.#pieces(text, this.breaks(text, options));
   }
 

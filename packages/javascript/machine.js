@@ -81,7 +81,7 @@ export class Machine {
     if (saved.length === TABLE_SIZE) this.tableBytes.set(saved);
     else this.memory.exports.lbk_unpack(this.big.table, this.big.text, BigInt(this.memory.loadAll(saved, this.text)));
     if (this.memory.exports.lbk_check(this.big.table) === 0) {
-      throw new RangeError("these bytes are not a whole table of this version");
+      throw new RangeError("these bytes are not an intact table of this version");
     }
   }
 

@@ -14,7 +14,7 @@ export async function bytesOf(source) {
   }
   if (source instanceof ArrayBuffer) return new Uint8Array(source);
   if (!(source instanceof Response || source instanceof URL || typeof source === "string")) {
-    throw new TypeError("bytes are expected, or a Response, a URL or a string that names them");
+    throw new TypeError("bytes are required, or a Response, a URL or a string that names them");
   }
   if (isLocal(source)) {
     const { readFile } = await import("node:fs/promises");
@@ -150,7 +150,7 @@ const MOST_UNITS = 0xffffffff;
 export function checkText(text) {
   // (an array of another window or context is not an instance of this one's class)
   if (typeof text !== "string" && Object.prototype.toString.call(text) !== "[object Uint8Array]") {
-    throw new TypeError("a text is a string or a Uint8Array");
+    throw new TypeError("a text must be a string or a Uint8Array");
   }
   if (text.length > MOST_UNITS) throw new RangeError(`a text has at most ${MOST_UNITS} bytes or units`);
 }
@@ -164,7 +164,7 @@ export function guarded(action, startAgain) {
   } catch (error) {
     startAgain();
     if (!(error instanceof WebAssembly.RuntimeError)) throw error;
-    throw new Error("the module stopped in the middle of a call", { cause: error });
+    throw new Error("the module stopped during a call", { cause: error });
   }
 }
 

@@ -23,7 +23,7 @@ function kindsOfValues(packed, files) {
   const kinds = kindsOf(packed);
   const byValues = new Map([...runsOfValues(files)].map(({ values, first }) => [values, kinds[first]]));
   const known = Buffer.concat([packed.subarray(0, HEAD_SIZE), Buffer.from(JSON.stringify([...byValues]))]);
-  if (Buffer.compare(packed, packedFrom(files, known)) !== 0) throw new RangeError("it is not the table of these files");
+  if (Buffer.compare(packed, packedFrom(files, known)) !== 0) throw new RangeError("the table was not made from these files");
   return known;
 }
 

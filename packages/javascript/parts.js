@@ -49,7 +49,7 @@ export class Stream {
   #before = 0;
 
   constructor(table, options) {
-    if (typeof table?.[goOn] !== "function") throw new TypeError("a Stream is made of a Table");
+    if (typeof table?.[goOn] !== "function") throw new TypeError("a Stream needs a Table");
     this.#table = table;
     this.#state = Machine.startState(profileNumber(options));
   }
@@ -57,7 +57,7 @@ export class Stream {
   feed(more) {
     checkText(more);
     if (this.#rest !== undefined && typeof more !== typeof this.#rest) {
-      throw new TypeError("the pieces of a stream are all strings, or all of them are Uint8Arrays");
+      throw new TypeError("all pieces of a stream must be strings, or all must be Uint8Arrays");
     }
     const text = this.#rest === undefined ? more : joined(this.#rest, more);
     return this.#take(text, endOfScalars(text), true);
@@ -80,7 +80,7 @@ export class Stream {
 }
 
 function checkPlace(at) {
-  if (!Number.isInteger(at) || at < 0) throw new RangeError("a place is a whole number from 0 on");
+  if (!Number.isInteger(at) || at < 0) throw new RangeError("an offset must be a whole number of 0 or more");
 }
 
 /** The offsets inside a part of a text with a required break, whatever is before and after the part. */

@@ -37,7 +37,7 @@ export function claimText(bytes, k) {
 
 /** Why these files, in a folder or not, make no table: describes the first one of another version, or of none. */
 export function refusalOf(files, folder) {
-  if (files.length !== FILES.length) return `${files.length} files are given, and not the ${FILES.length} property files`;
+  if (files.length !== FILES.length) return `${FILES.length} property files are required, not ${files.length}`;
   const wrong = files.findIndex((bytes, k) => versionOf(bytes, k) !== "15.0.0");
   const place = folder === undefined ? "" : `${String(folder).replace(/\/$/, "")}/`;
   if (wrong < 0) return `${place || "the four files"}: one was changed or truncated: they differ from those of Unicode 15.0.0; ${REMEDY}`;
@@ -81,10 +81,10 @@ export function* runsOfValues(files) {
 
 /** The packed table of the four files, from the head of the packed table and the kinds of the values. */
 export function packedFrom(files, known) {
-  if (files.length !== FILES.length) throw new RangeError(`there are ${FILES.length} property files`);
+  if (files.length !== FILES.length) throw new RangeError(`${FILES.length} property files are required`);
   const kinds = new Map(JSON.parse(new TextDecoder().decode(known.subarray(HEAD_SIZE))));
   const runs = Array.from(runsOfValues(files), ({ values, first, end }) => {
-    if (!kinds.has(values)) throw new RangeError(`no code has the values of U+${first.toString(16)}: ${values}`);
+    if (!kinds.has(values)) throw new RangeError(`no known character has the property values of U+${first.toString(16)}: ${values}`);
     return { kind: kinds.get(values), size: end - first };
   });
   return packedOf(known.subarray(0, HEAD_SIZE), runs);

@@ -103,7 +103,7 @@ export class Words {
   }
 
   words(text) {
-    if (typeof text !== "string") throw new TypeError("the words are those of a string");
+    if (typeof text !== "string") throw new TypeError("words need a string");
     return this.#rows(text, this.wordColumns(text));
   }
 

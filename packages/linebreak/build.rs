@@ -10,7 +10,7 @@ fn main() {
     let folder = PathBuf::from(folder);
     println!("cargo:rerun-if-changed={}", folder.display());
     let table = lbk::Table::load(&folder).unwrap_or_else(|error| {
-        eprintln!("{error}: name the folder of the Unicode Character Database, version 15.0, in UNICODE_DATA");
+        eprintln!("{error}; set UNICODE_DATA to the folder of the Unicode Character Database 15.0");
         exit(1)
     });
     let place = Path::new(&env::var_os("OUT_DIR").expect("cargo names a folder")).join("table");

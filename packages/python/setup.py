@@ -22,7 +22,7 @@ except ImportError:  # (a build that makes no wheel)
     from setuptools import Command as bdist_wheel
 
 if "LBK_PREFIX" not in os.environ:
-    raise SystemExit("LBK_PREFIX has to name the folder that has include/lbk.h and lib/liblbk.a")
+    raise SystemExit("set LBK_PREFIX to the folder that has include/lbk.h and lib/liblbk.a")
 PREFIX = Path(os.environ["LBK_PREFIX"]).resolve()
 HEADER = (PREFIX / "include" / "lbk.h").read_text(encoding="utf-8")
 VERSION = re.search(r'^#define LBK_VERSION "([^"]+)"', HEADER, re.M)[1]

@@ -109,7 +109,7 @@ static const lbk_table *map_file(int file, off_t size)
 {
     static const char remedy[] = "write it with examples/save_table.c of lbk " LBK_VERSION;
     if (size != (off_t)sizeof(lbk_table)) {
-        complain(LBK_TABLE, "it is no whole table", remedy);
+        complain(LBK_TABLE, "it is not an intact table", remedy);
         return NULL;
     }
     void *at = mmap(NULL, sizeof(lbk_table), PROT_READ, MAP_PRIVATE, file, 0);
@@ -120,7 +120,7 @@ static const lbk_table *map_file(int file, off_t size)
     if (lbk_check(at))
         return at;
     munmap(at, sizeof(lbk_table));
-    complain(LBK_TABLE, "it is no whole table", remedy);
+    complain(LBK_TABLE, "it is not an intact table", remedy);
     return NULL;
 }
 

@@ -5,7 +5,7 @@ pub const SAMPLES: &str =
     "built-in sample data, for a first look only; for real text: lbk mark --ucd FOLDER FILE";
 
 /// The hint for a truncated property file, after its description.
-pub const CUT: &str = "the missing characters have other breaks";
+pub const CUT: &str = "breaks at the missing characters will be wrong";
 
 /// The hint that the program waits for text on a terminal.
 pub const WAITING: &str =

@@ -44,7 +44,7 @@ fn not_utf8(rt: &HostRuntime) -> Ending {
 fn not_utf8_text(rt: &HostRuntime) -> Result<String, AllocError> {
     let mut text = String::from_str(rt.alloc(), "lbk: ")?;
     push_argument(rt, &mut text)?;
-    text.push_str(" is not UTF-8; a text of such a name is read as standard input: < FILE\n")?;
+    text.push_str(" is not UTF-8; pass a file with such a name as standard input: < FILE\n")?;
     Ok(text)
 }
 

@@ -27,12 +27,12 @@ pub const DEFAULT_LIMIT: u32 = 65_536;
 
 /// The message for arguments without property files.
 const UNNAMED: &str = "\
-the property files are not named: give --ucd <FOLDER>, or each of
+property files are required: pass --ucd <FOLDER>, or each of
   --line-break <FILE>
   --east-asian <FILE>
   --category <FILE>
   --emoji <FILE>
-Debian's package unicode-data has them: --ucd /usr/share/unicode";
+Debian's package unicode-data installs them: --ucd /usr/share/unicode";
 
 /// The message for a range that ends before it begins.
 const TURNED_ROUND: &str = "--from <BYTE> is greater than --to <BYTE>";
@@ -43,7 +43,7 @@ const LEAST_PAST_MOST: &str = "--least <NUMBER> is greater than --most <NUMBER>"
 const OVERLAP_PAST_HALF: &str = "--overlap <NUMBER> is more than half of --most <NUMBER>";
 
 /// The message for an invalid sign.
-const NO_SIGN: &str = "--sign <TEXT> is 1 to 8 bytes of UTF-8 without a line end";
+const NO_SIGN: &str = "--sign <TEXT> must be 1 to 8 bytes of UTF-8 without a line end";
 
 /// Reads the arguments after the program's name.
 ///

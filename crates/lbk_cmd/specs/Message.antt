@@ -71,7 +71,7 @@ option_of Category = codes "--category"
 option_of Emoji = codes "--emoji"
 
 abbrev pub advice : Caller → Which → ClaimCause → List ℕ
-advice (Words engine files) which Changed = codes "; get it anew, or name a file of your own by " ++ option_of which
+advice (Words engine files) which Changed = codes "; download it again, or pass your own file by " ++ option_of which
 advice _ which cause = []
 
 -- the text with a name
@@ -107,7 +107,7 @@ limit_of (Words engine files) = limit_of_engine engine
 -- the greatest limit cannot be raised
 abbrev pub rest_of_limit : ℕ → List ℕ
 rest_of_limit limit = if nat_lt limit greatest_limit
-    then codes " bytes; --limit raises the limit, up to " ++ decimal greatest_limit
+    then codes " bytes; --limit allows up to " ++ decimal greatest_limit
     else codes " bytes, the greatest limit"
 
 abbrev pub than_limit : Option ℕ → List ℕ
@@ -116,7 +116,7 @@ than_limit (Some limit) = codes "than " ++ (decimal limit ++ rest_of_limit limit
 
 abbrev pub invalid_text : Bool → List ℕ
 invalid_text is_utf16 =
-    if is_utf16 then codes "invalid UTF-8; it begins as UTF-16 does: iconv -f UTF-16 -t UTF-8 makes UTF-8 of it"
+    if is_utf16 then codes "invalid UTF-8; it looks like UTF-16: convert it by iconv -f UTF-16 -t UTF-8"
     else codes "invalid UTF-8"
 
 -- what failed, that it failed, and why
@@ -137,17 +137,17 @@ not_utf8_text m at = at_byte m at ++ invalid_text m.is_utf16
 
 abbrev pub paragraph_text : Message → ℕ → List ℕ
 paragraph_text m start = at_byte m start
-    ++ (codes "the paragraph from here on has more " ++ than_limit (limit_of m.caller))
+    ++ (codes "the paragraph that starts here has more " ++ than_limit (limit_of m.caller))
 
 abbrev pub passage_text : Message → PassageFault → Option (List ℕ)
 passage_text m passage.Limit =
-    Some (codes "the limit of a paragraph is 1 to " ++ (decimal greatest_limit ++ codes " bytes"))
+    Some (codes "the limit of a paragraph must be 1 to " ++ (decimal greatest_limit ++ codes " bytes"))
 passage_text m passage.Memory = Some (codes "out of memory")
 passage_text m passage.Read = unread_text m
 passage_text m (passage.NotUtf8 at) = Some (not_utf8_text m at)
 passage_text m passage.TextTooLong = Some (too_long_text m)
 passage_text m (passage.ParagraphTooLong start) = Some (paragraph_text m start)
-passage_text m passage.Spent = Some (codes "an earlier call was refused")
+passage_text m passage.Spent = Some (codes "an earlier call failed")
 
 abbrev pub unwritten_text : Message → Option (List ℕ)
 unwritten_text m = failed_text (output_text m.caller) (codes ": cannot be written") m.reason
@@ -163,8 +163,8 @@ folder_of _ which = None
 
 -- what to do if a file in a folder cannot be read; an archive is no folder
 abbrev pub advice_of_folder : List ℕ → List ℕ
-advice_of_folder folder = if ends_with nat_eq folder (codes ".zip") then codes "; unpack it, and name the folder"
-    else codes "; Debian's package unicode-data has the files: --ucd /usr/share/unicode"
+advice_of_folder folder = if ends_with nat_eq folder (codes ".zip") then codes "; unpack it, and pass the folder"
+    else codes "; install Debian's package unicode-data, and pass --ucd /usr/share/unicode"
 
 abbrev pub advice_of : Option (List ℕ) → List ℕ
 advice_of None = []

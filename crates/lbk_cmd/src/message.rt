@@ -151,7 +151,7 @@ impl<'a> Message<'a> {
         match self.caller {
             Caller::Words { .. } if cause == ClaimCause::Changed => {
                 let option = option_of(which);
-                write!(f, "; get it anew, or name a file of your own by {option}")
+                write!(f, "; download it again, or pass your own file by {option}")
             }
             _ => Ok(()),
         }
@@ -189,14 +189,14 @@ impl<'a> Message<'a> {
     {
         match fault {
             PassageFault::Limit => {
-                write!(f, "the limit of a paragraph is 1 to {LIMIT_MAX} bytes")
+                write!(f, "the limit of a paragraph must be 1 to {LIMIT_MAX} bytes")
             }
             PassageFault::Memory => f.write_str("out of memory"),
             PassageFault::Read => self.unread(f),
             PassageFault::NotUtf8 { at } => self.not_utf8(f, at),
             PassageFault::TextTooLong => self.too_long(f),
             PassageFault::ParagraphTooLong { start } => self.paragraph_too_long(f, start),
-            PassageFault::Spent => f.write_str("an earlier call was refused"),
+            PassageFault::Spent => f.write_str("an earlier call failed"),
         }
     }
 
@@ -215,7 +215,7 @@ impl<'a> Message<'a> {
         ensures { DisplaysOnOk W.write_str_gives f.old result (Some (paragraph_text self.now start)) f.new }
     {
         self.at_byte(f, start)?;
-        f.write_str("the paragraph from here on has more ")?;
+        f.write_str("the paragraph that starts here has more ")?;
         than_limit(f, self.limit())
     }
 
@@ -249,7 +249,7 @@ fn invalid_utf8<W: fmt::Write>(f: &mut fmt::Formatter<W>, is_utf16: bool) -> fmt
 {
     if is_utf16 {
         f.write_str(
-            "invalid UTF-8; it begins as UTF-16 does: iconv -f UTF-16 -t UTF-8 makes UTF-8 of it",
+            "invalid UTF-8; it looks like UTF-16: convert it by iconv -f UTF-16 -t UTF-8",
         )
     } else {
         f.write_str("invalid UTF-8")
@@ -264,7 +264,7 @@ fn than_limit<W: fmt::Write>(f: &mut fmt::Formatter<W>, limit: Option<u32>) -> f
         Some(limit) if limit >= LIMIT_MAX => write!(f, "than {limit} bytes, the greatest limit"),
         Some(limit) => write!(
             f,
-            "than {limit} bytes; --limit raises the limit, up to {LIMIT_MAX}"
+            "than {limit} bytes; --limit allows up to {LIMIT_MAX}"
         ),
         None => f.write_str("bytes than the limit"),
     }

@@ -57,9 +57,9 @@ fn advice_of_folder(folder: &str) -> &'static str
     ensures { result.now ≡ advice_of_folder folder.now }
 {
     if folder.as_bytes().ends_with(b".zip") {
-        "; unpack it, and name the folder"
+        "; unpack it, and pass the folder"
     } else {
-        "; Debian's package unicode-data has the files: --ucd /usr/share/unicode"
+        "; install Debian's package unicode-data, and pass --ucd /usr/share/unicode"
     }
 }
 

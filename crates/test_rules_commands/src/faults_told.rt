@@ -96,7 +96,7 @@ static OF_RUNS: [(RunFault, &str); 15] = [
     ),
     (
         RunFault::Cmd(CmdFault::Passage(PassageFault::Limit)),
-        "the limit of a paragraph is 1 to 16777216 bytes",
+        "the limit of a paragraph must be 1 to 16777216 bytes",
     ),
     (
         RunFault::Cmd(CmdFault::Passage(PassageFault::Read)),
@@ -112,7 +112,7 @@ static OF_RUNS: [(RunFault, &str); 15] = [
     ),
     (
         RunFault::Cmd(CmdFault::Passage(PassageFault::ParagraphTooLong { start: 70_000 })),
-        "the input: byte 70000: the paragraph from here on has more bytes than the limit",
+        "the input: byte 70000: the paragraph that starts here has more bytes than the limit",
     ),
     (
         RunFault::Cmd(CmdFault::Write),
@@ -146,7 +146,7 @@ fn faults_of_runs(rt: HostRuntime) -> Result<(), Fail> {
 static OF_ENGINES: [(CmdFault, &str); 9] = [
     (
         CmdFault::Passage(PassageFault::Limit),
-        "the limit of a paragraph is 1 to 16777216 bytes",
+        "the limit of a paragraph must be 1 to 16777216 bytes",
     ),
     (CmdFault::Passage(PassageFault::Memory), "out of memory"),
     (
@@ -163,11 +163,11 @@ static OF_ENGINES: [(CmdFault, &str); 9] = [
     ),
     (
         CmdFault::Passage(PassageFault::ParagraphTooLong { start: 9 }),
-        "the input: byte 9: the paragraph from here on has more bytes than the limit",
+        "the input: byte 9: the paragraph that starts here has more bytes than the limit",
     ),
     (
         CmdFault::Passage(PassageFault::Spent),
-        "an earlier call was refused",
+        "an earlier call failed",
     ),
     (CmdFault::Write, "the output: cannot be written"),
     (CmdFault::Memory, "out of memory"),

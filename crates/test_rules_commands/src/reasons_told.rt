@@ -137,12 +137,12 @@ fn check(rt: &impl Abort, alloc: Global, row: &Row, kind: ErrorKind) -> Result<(
 static FOLDERS: [(&str, &str); 3] = [
     (
         "U",
-        "; Debian's package unicode-data has the files: --ucd /usr/share/unicode",
+        "; install Debian's package unicode-data, and pass --ucd /usr/share/unicode",
     ),
-    ("x/UCD.zip", "; unpack it, and name the folder"),
+    ("x/UCD.zip", "; unpack it, and pass the folder"),
     (
         "zip",
-        "; Debian's package unicode-data has the files: --ucd /usr/share/unicode",
+        "; install Debian's package unicode-data, and pass --ucd /usr/share/unicode",
     ),
 ];
 

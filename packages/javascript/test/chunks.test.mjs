@@ -74,7 +74,7 @@ test("wrong limits are named in the call", () => {
   const wrong = { most: [0, -1, 1.5, "3", null], words: [0, 1.5], least: [-1, 11, NaN], overlap: [-1, 6, 0.5] };
   for (const [name, numbers] of Object.entries(wrong)) {
     for (const number of numbers) {
-      const message = new RegExp(`^${name} is .*, and not ${number}$`);
+      const message = new RegExp(`^${name} must be .*, not ${number}$`);
       assert.throws(() => chunker.chunks("a b", { most: 10, [name]: number }), { name: "RangeError", message });
     }
   }

@@ -121,7 +121,7 @@ test("other property files are refused", async () => {
   assert.match(await refused(of14), /^LineBreak.txt: this is Unicode 14.0.0, and lbk needs 15.0.0; Debian 12's .*UCD.zip$/);
   assert.match(await refused(files.with(3, files[3].subarray(0, 99))), /^emoji\/emoji-data.txt: this is not emoji-data.txt as Unicode 15.0/);
   assert.match(await refused(edited(0, "0028;OP", "0028;CL")), /one was changed or truncated/);
-  assert.match(await refused(files.slice(1)), /^3 files are given, and not the 4 property files$/);
+  assert.match(await refused(files.slice(1)), /^4 property files are required, not 3$/);
   await assert.rejects(Table.fromFiles("/absent"), { code: "ENOENT" });
 });
 
@@ -263,7 +263,7 @@ test("after the module stopped the table has a new instance", async () => {
   const broken = await Table.fromBytes(saved).finally(() => {
     WebAssembly.instantiate = instantiate;
   });
-  assert.throws(() => broken.breakColumns("ab cd"), /stopped in the middle of a call/);
+  assert.throws(() => broken.breakColumns("ab cd"), /stopped during a call/);
   assert.deepEqual([...broken.breaks("ab cd")], [...table.breaks("ab cd")]);
 });
 

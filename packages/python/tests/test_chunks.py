@@ -139,7 +139,7 @@ class Chunks(unittest.TestCase):
         wrong = {"most": (0, -1), "words": (0, -5), "least": (-1, 11), "overlap": (-1, 6)}
         for name, numbers in wrong.items():
             for number in numbers:
-                with self.assertRaisesRegex(ValueError, rf"^{name} is .*, and not {number}$"):
+                with self.assertRaisesRegex(ValueError, rf"^{name} must be .*, not {number}$"):
                     self.table.chunks("a b", **{"most": 10, name: number})
         for name in wrong:
             self.assertRaises(TypeError, self.table.chunks, "a b", **{name: "3"})

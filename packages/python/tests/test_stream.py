@@ -99,7 +99,7 @@ class Streams(unittest.TestCase):
 
     def test_what_is_no_table_is_refused(self):
         for table in (None, "/usr/share/unicode", self.table.to_bytes()):
-            self.assertRaisesRegex(TypeError, f"a Table is required, and not '{type(table).__name__}'", Stream, table)
+            self.assertRaisesRegex(TypeError, f"a Table is required, not '{type(table).__name__}'", Stream, table)
 
     def test_what_is_no_profile_is_refused(self):
         self.assertRaises(ValueError, Stream, self.table, 3)

@@ -193,7 +193,7 @@ class Kept(unittest.TestCase):
         data = bytearray(self.table.to_bytes())
         data[1000] ^= 1
         for wrong in (data, data[:1000], b"", bytes(data) + b"x"):
-            self.assertRaisesRegex(ValueError, "no whole table", Table.from_bytes, wrong)
+            self.assertRaisesRegex(ValueError, "not an intact table", Table.from_bytes, wrong)
             pathlib.Path(self.name).write_bytes(wrong)
             self.assertRaisesRegex(ValueError, "no .*table", Table.open, self.name)
         self.assertRaises(TypeError, Table.from_bytes, "text")

@@ -92,7 +92,7 @@ class Texts(unittest.TestCase):
     def test_what_is_no_profile_is_refused(self):
         for call in (self.table.breaks, self.table.segments, self.table.break_columns):
             for profile in (0, 3, -1):
-                self.assertRaisesRegex(ValueError, "the profile is 1 or 2", call, "a", profile)
+                self.assertRaisesRegex(ValueError, "profile must be 1 or 2", call, "a", profile)
             self.assertRaises(OverflowError, call, "a", 1 << 70)
             for profile in ("1", None, 1.0):
                 self.assertRaises(TypeError, call, "a", profile)

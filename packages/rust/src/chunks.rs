@@ -85,17 +85,17 @@ pub enum LimitError {
 impl fmt::Display for LimitError {
     fn fmt(&self, f: &mut fmt::Formatter<'_>) -> fmt::Result {
         match self {
-            LimitError::Most => f.write_str("most is 1 or more, and not 0"),
+            LimitError::Most => f.write_str("most must be 1 or more, not 0"),
             LimitError::Least { most, least } => {
                 write!(
                     f,
-                    "least is 0 to most, which is {}, and not {}",
+                    "least must be from 0 to most ({}), not {}",
                     most, least
                 )
             }
             LimitError::Overlap { most, overlap } => write!(
                 f,
-                "overlap is 0 to half of most, which is {}, and not {}",
+                "overlap must be from 0 to half of most ({}), not {}",
                 most, overlap
             ),
         }

@@ -79,7 +79,7 @@ impl NotFound {
 impl fmt::Display for NotFound {
     fn fmt(&self, f: &mut fmt::Formatter<'_>) -> fmt::Result {
         f.write_str(
-            "found no files of Unicode 15.0.0; install the package unicode-data (Debian 12), unpack UCD.zip of \
+            "found no files of Unicode 15.0.0; install the package unicode-data (Debian 12), unpack UCD.zip from \
              https://www.unicode.org/Public/15.0.0/ucd/ into ~/.local/share/unicode, or set UNICODE_DATA to a folder that has them. \
              Looked for:",
         )?;

@@ -202,11 +202,11 @@ fn limits_out_of_range_are_named() {
     assert_eq!(refused(Limits::new(0)), LimitError::Most);
     assert_eq!(
         refused(Limits::new(5).least(6)).to_string(),
-        "least is 0 to most, which is 5, and not 6"
+        "least must be from 0 to most (5), not 6"
     );
     assert_eq!(
         refused(Limits::new(5).overlap(3)).to_string(),
-        "overlap is 0 to half of most, which is 5, and not 3"
+        "overlap must be from 0 to half of most (5), not 3"
     );
     assert!(table
         .chunks("a", Limits::new(usize::MAX).overlap(usize::MAX / 2))

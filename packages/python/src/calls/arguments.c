@@ -8,7 +8,7 @@ bool has_arguments(Py_ssize_t given, Py_ssize_t wanted)
 {
     if (given == wanted)
         return true;
-    PyErr_Format(PyExc_TypeError, "%zd arguments are expected, and not %zd", wanted, given);
+    PyErr_Format(PyExc_TypeError, "expected %zd arguments, not %zd", wanted, given);
     return false;
 }
 
@@ -81,7 +81,7 @@ PyObject *text_owner(PyObject *given, bool *in_code_points)
         return NULL;
     PyObject *owner = NULL;
     if (view.itemsize != 1 || view.ndim != 1)
-        PyErr_SetString(PyExc_TypeError, "an object of bytes is required, and not one of larger items or of more dimensions");
+        PyErr_SetString(PyExc_TypeError, "a contiguous object of single bytes is required");
     else
         owner = view.readonly && PyBuffer_IsContiguous(&view, 'C') ? Py_NewRef(given) : PyBytes_FromObject(given);
     PyBuffer_Release(&view);
@@ -116,7 +116,7 @@ lbk_table *hold_table(PyObject *memory, bool to_write, Py_buffer *view)
         return NULL;
     if (view->len != (Py_ssize_t)sizeof(lbk_table) || (uintptr_t)view->buf % sizeof(uint64_t) != 0) {
         PyBuffer_Release(view);
-        PyErr_SetString(PyExc_ValueError, "the memory has not the size and the alignment of a table");
+        PyErr_SetString(PyExc_ValueError, "the memory does not have the size and alignment of a table");
         return NULL;
     }
     return view->buf;

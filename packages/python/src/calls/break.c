@@ -38,7 +38,7 @@ static PyObject *create(PyTypeObject *type, PyObject *given, PyObject *named)
     if (!PyArg_ParseTupleAndKeywords(given, named, "nbb:Break", names, &at, &one.kind, &one.rule))
         return NULL;
     if (at < 0)
-        return PyErr_Format(PyExc_ValueError, "a place is not negative");
+        return PyErr_Format(PyExc_ValueError, "an offset must not be negative");
     one.at = (size_t)at;
     return new_break(type, &one);
 }

@@ -215,7 +215,7 @@ static PyObject *cut_by(cut_call *call, PyObject *const *given, Py_ssize_t count
         return NULL;
     Py_ssize_t at = PyNumber_AsSsize_t(given[2], PyExc_OverflowError);
     if (at < 0)
-        return PyErr_Occurred() ? NULL : PyErr_Format(PyExc_ValueError, "a place is not negative");
+        return PyErr_Occurred() ? NULL : PyErr_Format(PyExc_ValueError, "an offset must not be negative");
     return place_by((place_asked){.call = call, .at = (size_t)at}, given);
 }
 
@@ -247,7 +247,7 @@ static PyObject *name_numbers(PyObject *module, PyObject *const *given, Py_ssize
     if (!has_arguments(count, 2))
         return NULL;
     if (PyTuple_Size(given[0]) != UINT8_MAX + 1 || PyTuple_Size(given[1]) != UINT8_MAX + 1)
-        return PyErr_Format(PyExc_ValueError, "a name is required for each number of a byte");
+        return PyErr_Format(PyExc_ValueError, "256 names are required, one for each number of a byte");
     Py_CLEAR(state->kinds);
     Py_CLEAR(state->rules);
     state->kinds = Py_NewRef(given[0]);

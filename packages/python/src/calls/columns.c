@@ -182,7 +182,7 @@ static bool place_before(PyObject *given, int64_t *before)
     if (*before >= 0 && *before <= INT64_MAX / 2)
         return true;
     if (!PyErr_Occurred())
-        PyErr_Format(PyExc_ValueError, "a place is not negative and below 2**62: %R", given);
+        PyErr_Format(PyExc_ValueError, "an offset must be from 0 to 2**62 - 1, not %R", given);
     return false;
 }
 

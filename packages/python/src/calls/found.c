@@ -177,7 +177,7 @@ static PyObject *of(PyObject *type, PyObject *const *given, Py_ssize_t count)
         return NULL;
     long what = PyLong_AsLong(given[3]);
     if (what < BREAKS || what > WORD_RANGES)
-        return PyErr_Occurred() ? NULL : PyErr_Format(PyExc_ValueError, "nothing has the number %ld", what);
+        return PyErr_Occurred() ? NULL : PyErr_Format(PyExc_ValueError, "there is no text with the number %ld", what);
     found *at = new_found((PyTypeObject *)type);
     if (at == NULL)
         return NULL;

@@ -7,7 +7,7 @@ bool start_of_text(PyObject *profile, cursor *start)
     long number = PyLong_AsLong(profile);
     if (number != 1 && number != 2) {
         if (!PyErr_Occurred())
-            PyErr_Format(PyExc_ValueError, "the profile is 1 or 2, and not %R", profile);
+            PyErr_Format(PyExc_ValueError, "profile must be 1 or 2, not %R", profile);
         return false;
     }
     memset(start, 0, sizeof *start);

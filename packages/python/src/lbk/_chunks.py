@@ -20,13 +20,13 @@ def limits_of(most: int, words: "int | None", least: "int | None", overlap: int)
     most, overlap = index(most), index(overlap)
     least = most // 2 if least is None else index(least)
     if most < 1:
-        raise ValueError(f"most is 1 or more, and not {most}")
+        raise ValueError(f"most must be 1 or more, not {most}")
     if words is not None and index(words) < 1:
-        raise ValueError(f"words is 1 or more, or None, and not {words}")
+        raise ValueError(f"words must be 1 or more, or None, not {words}")
     if not 0 <= least <= most:
-        raise ValueError(f"least is 0 to most, which is {most}, and not {least}")
+        raise ValueError(f"least must be from 0 to most ({most}), not {least}")
     if not 0 <= overlap <= most // 2:
-        raise ValueError(f"overlap is 0 to half of most, which is {most}, and not {overlap}")
+        raise ValueError(f"overlap must be from 0 to half of most ({most}), not {overlap}")
     # (no text is larger)
     largest = sys.maxsize
     at_most = 0 if words is None else min(index(words), largest)
@@ -35,7 +35,7 @@ def limits_of(most: int, words: "int | None", least: "int | None", overlap: int)
 
 def is_in_bytes(unit: Unit) -> bool:
     if unit not in (None, "bytes"):
-        raise ValueError(f"the unit is None or 'bytes', and not {unit!r}")
+        raise ValueError(f"unit must be None or 'bytes', not {unit!r}")
     return unit is not None
 
 

@@ -73,7 +73,7 @@ def folders() -> list[str]:
 def not_found(refusals: list[str]) -> FileNotFoundError:
     """The error that says what to do, and why each folder was refused."""
     advice = (
-        f"found no files of Unicode {_calls.UNICODE_VERSION}.0; install the package unicode-data (Debian 12), unpack UCD.zip of "
+        f"found no files of Unicode {_calls.UNICODE_VERSION}.0; install the package unicode-data (Debian 12), unpack UCD.zip from "
         f"https://www.unicode.org/Public/{_calls.UNICODE_VERSION}.0/ucd/ into ~/.local/share/unicode, or set UNICODE_DATA to a folder "
         "that has them. Looked for:"
     )

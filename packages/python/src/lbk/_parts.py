@@ -162,9 +162,9 @@ def read_part(part: Part, errors: Errors = "replace") -> memoryview:
     except Exception as error:
         raise TextFault(part.path, part.start, f"{type(error).__name__}: {error}") from error
     if len(data) < size:
-        raise TextFault(part.path, part.start + len(data), "the file has become shorter since it was cut into parts")
+        raise TextFault(part.path, part.start + len(data), "the file is shorter than when it was cut into parts")
     if part.is_last != (len(data) == size):
-        raise TextFault(part.path, part.start + size, "the file has another size than when it was cut into parts")
+        raise TextFault(part.path, part.start + size, "the file size has changed since it was cut into parts")
     data = data[:size]
     if errors == "strict":
         try:

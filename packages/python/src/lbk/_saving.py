@@ -38,7 +38,7 @@ def save_items(items: Iterable[Any], numbers: Iterable[int], folder: str, format
     are_columns = all(isinstance(item, (Columns, PartColumns)) for item in items)
     chosen = format or ("parquet" if _has_pyarrow() else "npz" if are_columns else "jsonl")
     if chosen == "npz" and not are_columns:
-        raise TypeError("npz is for columns, and these items are others")
+        raise TypeError("npz is for columns only")
     (number,) = numbers
     name = f"{folder}/part-{number:06}"
     write = {"parquet": _parquet, "npz": _npz, "jsonl": _lines}[chosen]

@@ -26,7 +26,7 @@ class Stream:
 
     def __init__(self, table: Table, profile: int = 1) -> None:
         if not isinstance(table, Table):
-            raise TypeError(f"a Table is required, and not {type(table).__name__!r}")
+            raise TypeError(f"a Table is required, not {type(table).__name__!r}")
         self._table = table
         self._state = _calls.new_stream(profile)
         self._is_str: bool | None = None
@@ -59,7 +59,7 @@ class Stream:
             raise ValueError("the stream has ended")
         is_str = isinstance(piece, str)
         if self._is_str is not None and is_str != self._is_str:
-            raise TypeError("the pieces of a stream are all str, or all objects of bytes")
+            raise TypeError("all pieces of a stream must be str, or all must be bytes-like")
         found = _calls.feed(self._table._memory, self._state, piece, is_last)
         self._is_str, self._ended = is_str, is_last
         return found

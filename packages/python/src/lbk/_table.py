@@ -64,7 +64,7 @@ class Table:
     """A call that makes the same table, and its arguments, or nothing."""
 
     def __init__(self) -> None:
-        raise TypeError("a Table is made by load, from_files, read, from_bytes or open")
+        raise TypeError("make a Table by load, from_files, read, from_bytes or open")
 
     @classmethod
     def _of(cls, memory: bytearray | mmap.mmap, call: Any = None, *arguments: str) -> Self:
@@ -131,7 +131,7 @@ class Table:
         path = os.path.abspath(os.fsdecode(name))
         with open(path, "rb") as file:
             if os.fstat(file.fileno()).st_size != _calls.TABLE_SIZE:
-                raise ValueError(f"{path} is no table of this version")
+                raise ValueError(f"{path} is not a table of this version")
             memory = mmap.mmap(file.fileno(), 0, access=mmap.ACCESS_READ)
         _check(memory, path)
         return cls._of(memory, Table.open, path)
@@ -193,7 +193,7 @@ class Table:
     def break_list_columns(self, texts: Iterable[Text], profile: int = 1) -> ListColumns:
         """All breaks of many texts, in columns."""
         if isinstance(texts, (str, bytes, bytearray, memoryview)):
-            raise TypeError(f"many texts are expected, and not one {type(texts).__name__}")
+            raise TypeError(f"an iterable of texts is required, not one {type(texts).__name__}")
         offsets, places, kinds, rules = _calls.list_columns(self._memory, texts, profile)
         return ListColumns(memoryview(offsets).cast("q"), memoryview(places).cast("q"), kinds, rules)
 
@@ -220,7 +220,7 @@ class Table:
         "" for a surrogate. Raises ValueError for a number that is not a code point."""
         code = ord(character) if isinstance(character, str) else character
         if not 0 <= code <= sys.maxunicode:
-            raise ValueError(f"a code point is 0 to 0x10FFFF, and not {code}")
+            raise ValueError(f"a code point must be from 0 to 0x10FFFF, not {code}")
         return _calls.class_of(self._memory, code)
 
     @overload
@@ -372,7 +372,7 @@ def _first_found() -> tuple[bytearray, str]:
 
 def _load_again(folder: str, digest: str) -> Table:
     """Unpickles a table of a folder. A process that unpickles many makes it once."""
-    changed = ValueError(f"the files in {folder} give another table than the one that was pickled")
+    changed = ValueError(f"the files in {folder} now give a different table from the pickled one")
     try:
         memory = _read_again(*_database.contents(folder))
     except Fault as fault:
@@ -397,4 +397,4 @@ def _view(data: Any) -> memoryview:
 
 def _check(memory: bytearray | mmap.mmap, what: str) -> None:
     if len(memory) != _calls.TABLE_SIZE or not _calls.check(memory):
-        raise ValueError(f"{what} is no whole table of this version")
+        raise ValueError(f"{what} is not an intact table of this version")

@@ -92,7 +92,7 @@ def _open(name: str) -> Table:
 
 def _name_of(table: Any) -> str:
     if isinstance(table, Table):
-        raise TypeError("tables are given by name, as share and broadcast return it, so that no task has a table in it")
+        raise TypeError("pass the table by the name that share or broadcast returned; a task must not contain a table")
     return os.fsdecode(table)
 
 
@@ -197,7 +197,7 @@ def save(bag: Bag, folder: Name, format: "Format | None" = None) -> Bag:
     completely or not at all.
     """
     if format not in (None, "parquet", "npz", "jsonl"):
-        raise ValueError(f"the format is parquet, npz or jsonl, and not {format!r}")
+        raise ValueError(f"format must be parquet, npz or jsonl, not {format!r}")
     numbers = from_sequence(range(bag.npartitions), npartitions=bag.npartitions)
     saved: Bag = bag.map_partitions(save_items, numbers, os.fsdecode(folder), format)
     return saved
@@ -205,16 +205,16 @@ def save(bag: Bag, folder: Name, format: "Format | None" = None) -> Bag:
 
 def _check_profile(profile: int) -> None:
     if profile not in (1, 2):
-        raise ValueError(f"the profile is 1 or 2, and not {profile!r}")
+        raise ValueError(f"profile must be 1 or 2, not {profile!r}")
 
 
 def _plan(paths: Any, table: Name, blocksize: Any, compression: Any, storage_options: Any) -> list[Part]:
     size = parse_bytes(blocksize) if isinstance(blocksize, str) else blocksize
     if size is not None and size < 1:
-        raise ValueError("a part has one byte at least")
+        raise ValueError("a part must have at least one byte")
     parts = plan(paths, _open(_name_of(table)), size, compression, storage_options)
     if not parts:
-        raise FileNotFoundError(f"no file has the name {paths}")
+        raise FileNotFoundError(f"no file matches {paths}")
     return parts
 
 
@@ -278,7 +278,7 @@ def _all_words(texts: list[Any], _table: None, _profile: int) -> Iterable[list[A
 
 def _series(texts: Any) -> Any:
     if not hasattr(texts, "map_partitions") or getattr(texts, "ndim", 0) != 1:
-        raise TypeError(f"a bag or a dataframe's column is expected, and not a {type(texts).__name__}")
+        raise TypeError(f"a bag or a column of a dataframe is required, not a {type(texts).__name__}")
     return texts
 
 
