@@ -23,8 +23,8 @@ decided. A text is a file, or standard input. Without arguments it runs
 `show` on standard input, with small sample data.";
 
 const EXAMPLES: &str = "\
-FOLDER is the Unicode Character Database of Unicode 15.0. Without --ucd name
-its files, all four:
+FOLDER has the Unicode Character Database 15.0. Without --ucd, pass all four
+files:
   --line-break LineBreak.txt --east-asian EastAsianWidth.txt
   --category DerivedGeneralCategory.txt --emoji emoji-data.txt
 
@@ -35,8 +35,8 @@ Examples:
   lbk chunk --ucd FOLDER --most 500 text.txt         its chunks for search
   lbk replay --ucd FOLDER LineBreakTest.txt          the lines that differ
 
-Exit status: 0 done, 1 a refused file or text, 2 invalid arguments, 3 a replay
-with lines that differ or are refused.";
+Exit status: 0 done, 1 a file or text refused, or I/O failed, 2 invalid
+arguments, 3 replay found lines that differ or that it cannot read.";
 
 const MARK_USAGE: &str = "lbk mark --ucd <FOLDER> [OPTIONS] [FILE]...";
 
@@ -99,8 +99,8 @@ a line. Examples:
 
 const REPLAY_AFTER: &str = "\
 `D line position file rules rule` is the first position of a line that differs,
-with the mark of the file and that of the rules; `R line byte` is a line with a
-syntax error at that byte, and `R line long` one that is too long;
+with the file's mark, the rules' mark, and the rule. `R line byte` is a line
+with a syntax error at that byte, `R line long` one that is too long.
 `T lines agreed differed refused` is the last line. Example:
   $ printf '× 0061 ÷ 0062 ÷\\n' | lbk replay --ucd FOLDER
   D 1 1 ÷ × 28
@@ -194,7 +194,7 @@ fn profile_option<'a>(alloc: Global) -> Arg<'a>
     ensures rule { rule_of result ≡ profile_rule }
     ensures local { result.global ≡ false }
 {
-    number_option(alloc, "profile", 2, "1").help("2 for rules 15a and 15b in place of 15")
+    number_option(alloc, "profile", 2, "1").help("2 for rules 15a, 15b (quotation marks)")
 }
 
 fn kinds_option<'a>(alloc: Global) -> Arg<'a>
@@ -349,13 +349,13 @@ fn segment<'a>(alloc: Global) -> Made<'a>
 fn sized<'a>(alloc: Global) -> Made<'a>
     ensures { IsMade sized_app result }
 {
-    let most = size_option(alloc, "most", 1, "Bytes of a chunk, 1 to 16777216").required(true);
+    let most = size_option(alloc, "most", 1, "Largest chunk in bytes, 1 to 16777216").required(true);
     let command = with_option(with_files(alloc, "chunk"), most);
-    let words = "Words of a chunk, 1 to 16777216 [default: any number]";
+    let words = "Most words, 1 to 16777216 [default: any number]";
     let command = with_option(command, size_option(alloc, "words", 1, words));
     let least = "New bytes before an early end [default: half]";
     let command = with_option(command, size_option(alloc, "least", 0, least));
-    let overlap = "Bytes that the next one repeats [default: 0]";
+    let overlap = "Most bytes that the next chunk repeats [default: 0]";
     let command = with_option(command, size_option(alloc, "overlap", 0, overlap));
     with_option(command, texts_option(alloc))
 }

@@ -10,8 +10,8 @@ use Rattle.lbk_args.specs.declared.order.Part.{Part}
 use Rattle.lbk_args.specs.Task.{Task}
 use Rattle.lbk_files.specs.declared.faults.CellsFault.{CellsFault}
 use Rattle.lbk_files.specs.declared.faults.CellsFault.TheVariants.{Memory as FilesMemory}
-use Rattle.lbk_files.specs.declared.faults.Stop.{Stop}
-use Rattle.lbk_files.specs.declared.faults.Stop.TheVariants.{Refused as StopRefused}
+use Rattle.lbk_files.specs.declared.faults.NotReady.{NotReady}
+use Rattle.lbk_files.specs.declared.faults.NotReady.TheVariants.{Refused as StopRefused}
 use Rattle.lbk_files.specs.declared.readiness.Ready.{Ready}
 use Rattle.lbk_files.specs.FileFault.{LoadCounts}
 use Rattle.lbk_files.specs.Ready.{IsReadyFor, IsStoppedAt}
@@ -48,10 +48,10 @@ performs_told source file text told other task counts counts' devices heard refu
     subst (λ (r : Refusals). Performs source file told task counts counts' (standing devices r Done) after) is_refused by_texts
 
 -- a task that is stopped for want of memory, before any load
-pub stops_for_memory : (file : List ℕ → Option (Option (List ℕ))) (task : Task) (counts : LoadCounts) (stop : Stop) → stop ≡ StopRefused FilesMemory
+pub stops_for_memory : (file : List ℕ → Option (Option (List ℕ))) (task : Task) (counts : LoadCounts) (stop : NotReady) → stop ≡ StopRefused FilesMemory
     → IsStoppedAt file task counts counts stop
 stops_for_memory file task counts stop is =
-    subst (λ (s : Stop). IsStoppedAt file task counts counts s) (sym is) (inl (refl, refl))
+    subst (λ (s : NotReady). IsStoppedAt file task counts counts s) (sym is) (inl (refl, refl))
 
 -- one fault
 pub same_fault : (answer : Result Ready CellsFault) (one other : CellsFault) → answer ≡ Err one → answer ≡ Err other → one ≡ other

@@ -32,7 +32,7 @@ use Rattle.lbk_args.specs.declared.order.Part.{Part}
 use Rattle.lbk_args.specs.Command.{default_limit}
 use Rattle.lbk_args.specs.Task.{Task}
 use Rattle.lbk_files.specs.declared.faults.CellsFault.{CellsFault}
-use Rattle.lbk_files.specs.declared.faults.Stop.{Stop}
+use Rattle.lbk_files.specs.declared.faults.NotReady.{NotReady}
 use Rattle.lbk_files.specs.SampleFiles.{AreSampleCells, IsSampleFault}
 use Rattle.lbk_files.specs.FileFault.{AreCellsFrom, LoadCounts}
 use Rattle.lbk_files.specs.Named.{files_of}
@@ -104,8 +104,8 @@ abbrev pub form_of : Bool → Form
 form_of kinds = if kinds then Kinds else Plain
 
 -- the run ends before an engine runs: nothing was read or written
-abbrev pub StopsBefore : (Stop → Type 0) → Devices → Devices → Ending → Type 0
-StopsBefore IsStop before after ending = (stop : Stop) × IsStop stop × (ending ≡ ending_of_stop stop) × (after ≡ before)
+abbrev pub StopsBefore : (NotReady → Type 0) → Devices → Devices → Ending → Type 0
+StopsBefore IsStop before after ending = (stop : NotReady) × IsStop stop × (ending ≡ ending_of_stop stop) × (after ≡ before)
 
 -- without arguments: `show` with the cells of the sample files, or out of memory for these, with nothing read or
 -- written

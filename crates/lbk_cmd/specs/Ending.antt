@@ -6,8 +6,8 @@ use Rattle.lbk_notation.specs.declared.findings.ReplayFault.TheVariants as repla
 use Rattle.lbk_passage.specs.declared.faults.PassageFault.TheVariants as passage
 use Rattle.lbk_files.specs.declared.faults.CellsFault.{CellsFault}
 use Rattle.lbk_files.specs.declared.faults.CellsFault.TheVariants as cells
-use Rattle.lbk_files.specs.declared.faults.Stop.{Stop}
-use Rattle.lbk_files.specs.declared.faults.Stop.TheVariants as stop
+use Rattle.lbk_files.specs.declared.faults.NotReady.{NotReady}
+use Rattle.lbk_files.specs.declared.faults.NotReady.TheVariants as stop
 use Rattle.lbk_cmd.specs.declared.faults.CmdFault.{CmdFault}
 use Rattle.lbk_cmd.specs.declared.ending.Ending.{Ending}
 use Rattle.lbk_cmd.specs.declared.ending.Ending.TheVariants.{Done, Help, Usage, Differs, Refused, Reported}
@@ -47,7 +47,7 @@ ending_of_files (cells.Tables fault) = Refused (Tables fault)
 ending_of_files cells.Memory = Refused Memory
 
 -- a stop before an engine ran
-abbrev pub ending_of_stop : Stop → Ending
+abbrev pub ending_of_stop : NotReady → Ending
 ending_of_stop (stop.Help text) = Help text
 ending_of_stop (stop.Usage text) = Usage text
 ending_of_stop (stop.Refused fault) = ending_of_files fault

@@ -6,7 +6,7 @@ ghost use Rattle.lbk_cmd.specs.Ending.{status_of};
 
 use super::faults::CmdFault;
 use super::message::Message;
-use lbk_files::{CellsFault, ClaimCause, Stop};
+use lbk_files::{CellsFault, ClaimCause, NotReady};
 use lbk_notation::{ReplayFault, Report};
 use lbk_passage::PassageFault;
 use lbk_ucd::{UcdFault, Which};
@@ -126,16 +126,16 @@ impl Ending {
     }
 }
 
-impl From<Stop> for Ending {
+impl From<NotReady> for Ending {
     ghost use Rattle.lbk_cmd.specs.Ending.{ending_of_stop};
 
     ghost from_gives = { λ stop ending. ending ≡ ending_of_stop stop };
 
-    fn from(stop: Stop) -> Ending {
+    fn from(stop: NotReady) -> Ending {
         match stop {
-            Stop::Help { text } => Ending::Help { text },
-            Stop::Usage { text } => Ending::Usage { text },
-            Stop::Refused(fault) => Ending::of_files(fault),
+            NotReady::Help { text } => Ending::Help { text },
+            NotReady::Usage { text } => Ending::Usage { text },
+            NotReady::Refused(fault) => Ending::of_files(fault),
         }
     }
 }

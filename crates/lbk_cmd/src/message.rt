@@ -248,9 +248,7 @@ fn invalid_utf8<W: fmt::Write>(f: &mut fmt::Formatter<W>, is_utf16: bool) -> fmt
     ensures { DisplaysOnOk W.write_str_gives f.old result (Some (invalid_text is_utf16)) f.new }
 {
     if is_utf16 {
-        f.write_str(
-            "invalid UTF-8; it looks like UTF-16: convert it by iconv -f UTF-16 -t UTF-8",
-        )
+        f.write_str("invalid UTF-8; it looks like UTF-16: convert it by iconv -f UTF-16 -t UTF-8")
     } else {
         f.write_str("invalid UTF-8")
     }
@@ -262,10 +260,7 @@ fn than_limit<W: fmt::Write>(f: &mut fmt::Formatter<W>, limit: Option<u32>) -> f
 {
     match limit {
         Some(limit) if limit >= LIMIT_MAX => write!(f, "than {limit} bytes, the greatest limit"),
-        Some(limit) => write!(
-            f,
-            "than {limit} bytes; --limit allows up to {LIMIT_MAX}"
-        ),
+        Some(limit) => write!(f, "than {limit} bytes; --limit allows up to {LIMIT_MAX}"),
         None => f.write_str("bytes than the limit"),
     }
 }

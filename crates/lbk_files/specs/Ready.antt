@@ -7,8 +7,8 @@ use Rattle.lbk_args.specs.Task.{Task}
 use Rattle.lbk_files.specs.FileFault.{AreCellsFrom, IsFileFault, LoadCounts}
 use Rattle.lbk_files.specs.Named.{files_of}
 use Rattle.lbk_files.specs.declared.faults.CellsFault.TheVariants.{Memory}
-use Rattle.lbk_files.specs.declared.faults.Stop.{Stop}
-use Rattle.lbk_files.specs.declared.faults.Stop.TheVariants.{Help, Usage, Refused}
+use Rattle.lbk_files.specs.declared.faults.NotReady.{NotReady}
+use Rattle.lbk_files.specs.declared.faults.NotReady.TheVariants.{Help, Usage, Refused}
 use Rattle.lbk_files.specs.declared.readiness.Ready.{Ready}
 
 -- the task's engine, profile, range, sign and `--names`, the cells of its files, and the names of its texts
@@ -22,18 +22,18 @@ pub record IsReadyFor (file : List ℕ → Option (Option (List ℕ))) (task : T
   pub texts : map (λ name. name.now) ready.texts.items ≡ task.texts
 
 -- a task stops at its files, or before any load, if memory for its arguments ran out
-abbrev pub IsStoppedAt : (List ℕ → Option (Option (List ℕ))) → Task → LoadCounts → LoadCounts → Stop → Type 0
+abbrev pub IsStoppedAt : (List ℕ → Option (Option (List ℕ))) → Task → LoadCounts → LoadCounts → NotReady → Type 0
 IsStoppedAt file task before after (Help text) = ⊥
 IsStoppedAt file task before after (Usage text) = ⊥
 IsStoppedAt file task before after (Refused fault) =
     ((fault ≡ Memory) × (after ≡ before)) ⊎ IsFileFault (files_of file task.files) before after fault
 
 -- out of memory, before any load
-abbrev pub IsWantOfMemory : Stop → Type 0
+abbrev pub IsWantOfMemory : NotReady → Type 0
 IsWantOfMemory stop = stop ≡ Refused Memory
 
 -- arguments that are not accepted: help for a request for it, usage for a mistake, or out of memory
-abbrev pub IsStoppedByWords : List (List ℕ) → Stop → Type 0
+abbrev pub IsStoppedByWords : List (List ℕ) → NotReady → Type 0
 IsStoppedByWords words (Help text) = HasFault IsCallForHelp (faults_of words)
 IsStoppedByWords words (Usage text) = HasFault IsMistake (faults_of words)
 IsStoppedByWords words (Refused fault) = fault ≡ Memory

@@ -31,7 +31,7 @@ fn named(fault: CellsFault, which: Which) -> NamedFault<&'static str> {
 
 /// Why no engine runs.
 #[derive(Debug, Drop)]
-pub enum Stop {
+pub enum NotReady {
     /// The arguments ask for help or for the version; this is its text.
     Help { text: String },
     /// The arguments are not a command line of the program; the text says why.

@@ -16,7 +16,7 @@ mod store;
 
 pub use cells::{SAMPLE_FILES, read_cells, sample_cells};
 pub use database::name_in_database;
-pub use faults::{CellsFault, Stop};
+pub use faults::{CellsFault, NotReady};
 pub use file_store::{FileStore, Opens};
 pub use front::read_front;
 pub use lbk_ucd::{ClaimCause, Version, check_claim, file_name};

@@ -8,7 +8,7 @@ ghost use Rattle.lbk_files.specs.FileFault.{IsFileFault, counts_of};
 ghost use Rattle.lbk_files.specs.Named.{files_of};
 ghost use Rattle.lbk_files.specs.Ready.{IsReadyFor, IsStoppedByWords, IsWantOfMemory};
 
-use super::faults::{CellsFault, Stop};
+use super::faults::{CellsFault, NotReady};
 use super::loading::load_cells;
 use super::store::Store;
 use lbk_args::{Engine, Order, Part, WordsFault, parse};
@@ -31,7 +31,7 @@ pub struct Ready<'a> {
 /// Parses the arguments.
 ///
 /// Returns `Help` or `Usage` for arguments without a task, and `Refused` if an allocation fails.
-pub fn read_order<'a>(alloc: Global, words: &'a [&'a str]) -> Result<Order<'a>, Stop>
+pub fn read_order<'a>(alloc: Global, words: &'a [&'a str]) -> Result<Order<'a>, NotReady>
     ensures plain { (task : Task) → IsPlainFor task (map (λ w. w.now) words.entry.now)
         → MatchResult result (λ order. task_of order ≡ task) IsWantOfMemory }
     ensures accepted { (task : Task) → AreAccepted (map (λ w. w.now) words.entry.now)
@@ -42,9 +42,9 @@ pub fn read_order<'a>(alloc: Global, words: &'a [&'a str]) -> Result<Order<'a>, 
 {
     match parse(alloc, words) {
         Ok(order) => Ok(order),
-        Err(WordsFault::Help { text }) => Err(Stop::Help { text }),
-        Err(WordsFault::Usage { text }) => Err(Stop::Usage { text }),
-        Err(WordsFault::Memory) => Err(Stop::Refused(CellsFault::Memory)),
+        Err(WordsFault::Help { text }) => Err(NotReady::Help { text }),
+        Err(WordsFault::Usage { text }) => Err(NotReady::Usage { text }),
+        Err(WordsFault::Memory) => Err(NotReady::Refused(CellsFault::Memory)),
     }
 }
 

@@ -10,7 +10,7 @@ use lbk_args::{Order, WordsFault};
 use lbk_cmd::{BreakFault, CmdFault, Ending, MemoryTexts};
 use lbk_feed::Source;
 use lbk_feed::devices::{MemorySink, MemorySource};
-use lbk_files::{CellsFault, LoadFault, MemoryStore, Ready, SAMPLE_FILES, Stop, Store};
+use lbk_files::{CellsFault, LoadFault, MemoryStore, NotReady, Ready, SAMPLE_FILES, Store};
 use lbk_notation::{Form, LineFault, Mark, ReplayFault, Report, TestLine};
 use lbk_passage::{Passage, PassageFault, Segmenter};
 use lbk_rules::{CellPages, Profile, Verdict};
@@ -254,7 +254,7 @@ pub fn prepare(
     alloc: Global,
     words: Words,
     store: &mut MemoryStore<'_>,
-) -> Result<Ready<'static>, Stop> {
+) -> Result<Ready<'static>, NotReady> {
     begin(alloc);
     let answer = bare_prepare(alloc, words, store);
     end(alloc);
@@ -309,9 +309,9 @@ fn bare_prepare(
     alloc: Global,
     words: Words,
     store: &mut MemoryStore<'_>,
-) -> Result<Ready<'static>, Stop> {
+) -> Result<Ready<'static>, NotReady> {
     match lbk_files::read_order(alloc, words) {
-        Ok(order) => lbk_files::prepare(alloc, order, store).map_err(Stop::Refused),
+        Ok(order) => lbk_files::prepare(alloc, order, store).map_err(NotReady::Refused),
         Err(stop) => Err(stop),
     }
 }

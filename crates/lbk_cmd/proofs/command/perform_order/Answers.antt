@@ -1,6 +1,6 @@
 use Rattle.std.proofs.Common.{◌∙◌, ap, inl, inr, refl}
 use Rattle.lbk_args.specs.Task.{task_of}
-use Rattle.lbk_files.specs.declared.faults.Stop.TheVariants.{Refused}
+use Rattle.lbk_files.specs.declared.faults.NotReady.TheVariants.{Refused}
 use Rattle.lbk_cmd.specs.Ending.{ending_of_files}
 use Rattle.lbk_cmd.proofs.Runs.{ready_performs, same_fault}
 use Rattle.lbk_cmd.proofs.command.perform_order.Goals as goal
