@@ -1,9 +1,9 @@
-"""Thousands of sizes drawn at random, with ample memory: a run that says that it is out of memory fails, as any other fault.
+"""The program and its layers at thousands of random sizes, with ample memory: none may report out of memory.
 
-Sizes of files, numbers of rows, limits, paragraphs, segments, ranges, arguments, texts, names and lines of tests: each a power of
-two or a neighbour of one, or one between two powers, up to the greatest that is taken; of a file as often any size. The profile is
-drawn, too. Files of each size up to 4,096 bytes, and rows of each code, of each value and of each length are read once. The seed is
-printed; given as the argument it draws the same sizes again.
+The sizes are those of files, rows, limits, paragraphs, segments, ranges, arguments, texts, names and lines of tests: a
+power of two or a neighbour of one, or a number between two powers, up to the largest accepted; for files, as often, any
+size. The profile is random, too. Files of each size up to 4,096 bytes, and rows of each code point, value and length,
+are read once. The check prints its seed; with the seed as its argument it draws the same sizes again.
 """
 
 import os

@@ -1,7 +1,7 @@
-"""The bindings beside each other: where each looks for property files, what it says of those it refuses, and its calls.
+"""The bindings compared with each other: where they look for property files, their messages, and their calls.
 
-`docs/c.md` lists the folders: each source has to have them in that order, and the same words for what to do. It lists the calls,
-too: each source has to declare those of its column, and none that the page leaves empty there.
+`docs/c.md` lists the folders: each source has to have them in that order, with the same advice. It also lists the
+calls: each source has to declare those of its column, and none that the page leaves empty there.
 """
 
 import re

@@ -1,6 +1,6 @@
-"""The library for C installed in a fresh folder: examples and packages built against it, run, and compared with lbk.
+"""The library for C, installed in a fresh folder: examples and packages built with it, run, and compared with lbk.
 
-Arguments are names of texts to be compared beside those that it has. checks/c_library.sh, which does it, says what it needs.
+Arguments are names of more texts to compare. checks/c_library.sh does the work, and says what it needs.
 """
 
 from pathlib import Path

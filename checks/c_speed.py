@@ -1,9 +1,8 @@
-"""The speed of the calls of the library for C over letters of one, two and three bytes, held positions, short texts, and
-texts on which a call could be much slower than on others.
+"""The speed of the C calls over letters of one to three bytes, held positions, short texts, and bad cases.
 
-Each is measured against a loop over the same bytes in the same process, and has to be at least some part as fast: a third to
-half of what is measured on an idle machine. Other load on the machine can fail it all the same, so the gate does not run it: it
-counts the instructions of these calls (`instructions`).
+Each is compared with a loop over the same bytes in the same process, and has to reach a bound: a third to half of the
+speed on an idle machine. Other load can still make it fail, so the gate does not run it; the gate counts the
+instructions of these calls (`instructions`).
 """
 
 import re

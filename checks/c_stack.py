@@ -1,7 +1,7 @@
-"""Each call of the library for C in a thread with little stack: reading files and chunks in 32 KiB, the others in 16 KiB.
+"""Each call of the library for C in a thread with 16 KiB of stack; 32 KiB for reading files and for chunks.
 
-The files are those of the stored runs, the published ones where they are there, and made ones that need most work: rows and
-default lines out of order, as many as a file may have.
+The files are the published ones, if they are there, those of the stored runs, and made-up ones that need the most work:
+as many rows and defaults out of order as a file may have.
 """
 
 import tempfile

@@ -1,8 +1,8 @@
-"""Programs of others, unchanged, over the drop-ins: where libass wraps lines, and the tests of the crate textwrap.
+"""Other people's programs, unchanged, over the drop-ins: where libass wraps lines, and textwrap's tests.
 
-It is not part of the gate, since apt-get fetches the source of libass: by a list of its own in a temporary folder. Beside what
-c-library needs it needs the packages libfribidi-dev, libfreetype-dev, libharfbuzz-dev, nasm, fonts-dejavu-core,
-librust-textwrap-dev and librust-termion-dev of Debian, and the published files of Unicode 15.0.
+It is not part of the gate, because apt-get fetches the source of libass, by a list of its own in a temporary folder. In
+addition to what c-library needs, it needs Debian's packages libfribidi-dev, libfreetype-dev, libharfbuzz-dev, nasm,
+fonts-dejavu-core, librust-textwrap-dev and librust-termion-dev, and the published files of Unicode 15.0.
 """
 
 import os

@@ -1,4 +1,4 @@
-"""docs/lbk.bash is what scripts/completion makes of the program's help, and bash completes words by it."""
+"""docs/lbk.bash compared with the output of scripts/completion, and tried in bash."""
 
 import subprocess
 import tempfile

@@ -1,7 +1,7 @@
-"""The program over streams and files that fail, and arguments that are no text: each run ends with its status and its line.
+"""The program over streams and files that fail, and over arguments that are not UTF-8.
 
-There is at most one line on standard error, after the line of a run without arguments, and no run is ended by a signal. It needs
-no files but its own.
+Each run ends with the right status, without a signal, and with at most one line on standard error, after the line of a
+run without arguments. It needs no other files.
 """
 
 import fcntl

@@ -1,7 +1,7 @@
-"""What ./lbk does where no proved program is there: help, mistakes and files at once, and what it hands over to what it builds.
+"""`./lbk` without a proved program: help, mistakes, unreadable files, and what it passes to the program it builds.
 
-Each mistake is told as the proved program tells it. A stand-in for `rt` shows what would be built, and on what it would run; with
-the argument --build it is built, and answers.
+Its messages for mistakes are compared with those of the proved program. A stand-in for `rt` shows what would be built,
+and on which input it would run; with the argument --build the real program is built and run.
 """
 import resource
 import shutil

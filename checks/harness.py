@@ -1,4 +1,4 @@
-"""What all checks share: one count, one meaning of the status, and what a row is compared with."""
+"""What all checks share: one count, one meaning of the status, and comparisons of rows."""
 
 import os
 import re

@@ -1,7 +1,7 @@
-"""include/lbk.h beside what was proved: each number beside its definition, each type and call beside the code's.
+"""The numbers, types and calls of include/lbk.h compared with the definitions and the code.
 
-The numbers of kinds, rules, files and causes come from specs/, the sizes and fields of types and the parameters of calls from
-src/. They become C assertions, which are compiled with the header, as C and as C++.
+The numbers of kinds, rules, files and causes come from specs/, the sizes and fields of types and the parameters of
+calls from src/. They become C assertions, which are compiled with the header, as C and as C++.
 """
 
 import re

@@ -1,9 +1,9 @@
-"""Work that is done twice, and work that grows faster than the text: the instructions of calls and of runs, as valgrind counts
-them, beside those that are stored.
+"""The instructions of calls and of runs, as valgrind counts them, compared with the stored counts.
 
-A count is the same from run to run, whatever the machine's load, so 3 % of room is enough. The calls are those that `c-speed`
-times. A cut has to take as many instructions in a text of 1 GB as in one of 256 KiB with the same bytes near; over a text of
-four times the size a call with a made-up table takes four times as many. With the argument --write it stores the counts.
+They show work that is done twice, and work that grows faster than the text. A count hardly changes from run to run,
+whatever the machine's load, so 3 % of room is enough. The calls are those that `c-speed` times. A cut has to take as
+many instructions in a text of 1 GB as in one of 256 KiB with the same bytes near it; with a made-up table a call takes
+four times as many over a text of four times the size. The argument --write stores the counts.
 """
 
 import re

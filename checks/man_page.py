@@ -1,5 +1,7 @@
-"""docs/lbk.1 has the subcommands and options that the program's help has, none missing in either, a date, and a synopsis of each
-subcommand; the help is at most 80 columns wide."""
+"""docs/lbk.1 compared with the program's help: the same subcommands and options, a date, and synopses.
+
+The help is at most 80 columns wide.
+"""
 
 import datetime
 import re

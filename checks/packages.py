@@ -1,5 +1,7 @@
-"""The packages that scripts/packages makes in dist/: each installed where there is no Rattle kit, and its examples run; and that
-it packs no program or archive that was put into out/ by hand."""
+"""The packages in dist/, installed without the Rattle kit, and their examples run.
+
+scripts/packages makes them; it must not pack a program or an archive that was put into out/ by hand.
+"""
 
 import os
 import shutil

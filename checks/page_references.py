@@ -1,8 +1,8 @@
-"""What the page of definitions names, and the examples in the docs of items.
+"""What docs/proof/definitions.md names, and the examples in the docs of items.
 
-Of each rule the page quotes its entries in the definitions, and names an edit that turns it; the rule has a place in the code,
-and a row of the tests that it decides. The files of definitions that the page names are there. Each example in the docs of an
-item is in a compiled file.
+For each rule the page quotes its entries in the definitions, and names a mutant of it; the rule has a place in the
+code, and a test row that it decides. The files of definitions on the page exist. Each example in the docs of an item is
+in a compiled file.
 """
 import re
 

@@ -1,4 +1,4 @@
-"""Runs a program within bounds, and holds how it ended."""
+"""Runs a program within bounds, and records how it ended."""
 
 import os
 import resource

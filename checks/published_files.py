@@ -1,4 +1,4 @@
-"""The program over the published files of Unicode 15.0 and their break test, and over files beside these that are faulty."""
+"""The program over the published files of Unicode 15.0, their break test, and faulty copies of them."""
 
 import os
 import re

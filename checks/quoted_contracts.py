@@ -1,11 +1,11 @@
-"""The contracts that docs/proof/contracts.md quotes, as they are in the sources.
+"""The contracts that docs/proof/contracts.md quotes, compared with the sources.
 
 A line
 
     <!-- contract FILE FUNCTION [CLAUSE..] -->
 
-stands above a block, which has the clauses of this function, or those that are named. With the argument --write it puts the
-clauses into the page, and then compares.
+precedes a block with the clauses of this function, or with the named ones. The argument --write first writes the
+clauses into the page.
 """
 
 import re

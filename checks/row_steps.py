@@ -1,4 +1,4 @@
-"""The rows of steps of lbk_rules are what scripts/row-steps writes from the rules."""
+"""The rows of steps of lbk_rules compared with those that scripts/row-steps makes from the rules."""
 
 from checks.harness import TOP, run_script
 

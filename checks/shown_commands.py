@@ -1,9 +1,9 @@
-"""The commands and files that the README, the guide, the page on Rattle and docs/lbk.1 show, run and compared.
+"""The commands and files that the README, the guide, docs/rattle.md and docs/lbk.1 show: run, and compared.
 
-A line `    $ COMMAND` is a command, and the indented lines below it are what it writes. A command with a line `..` below it, of
-which not all is shown, is left out, and so are those of NOT_RUN. Commands that name $U are left out where the published files of
-Unicode 15.0 are not there, and those that name `parallel` or its output `at-once` where GNU parallel is not. A block that ```rust
-opens shows a file or a part of one, which is the last name in backquotes in the line with text before it.
+A line `    $ COMMAND` is a command, and the indented lines below it are its output. Commands with a line `..` in their
+output, and those of NOT_RUN, are left out. Commands that name $U are left out without the published files of Unicode
+15.0, and commands with `parallel` or its output `at-once` without GNU parallel. A block that ```rust opens shows a file
+or a part of one; its name is the last one in backquotes in the nearest line of text before the block.
 """
 
 import os

@@ -1,9 +1,8 @@
-"""Ratios of the speeds of subcommands, of layers in one run of crates/trials_bench, and of a run's start to another program that
-goes over the property files: one that fell back to a slow way fails.
+"""Ratios of speeds: of subcommands, of layers in crates/trials_bench, and of a start to another reader of the files.
 
-The texts are made of the pages in docs/, and of letters of two and of three bytes. Each bound is a third to half of what is
-measured, and each layer's best run counts, so that other load on the machine does not fail it. The property files are the
-published ones where they are there, and else those of the stored runs.
+A layer that fell back to a slow way fails. The texts are made of the pages in docs/, and of letters of two and of three
+bytes. Each bound is a third to half of the measured ratio, and the best run of each layer counts, so other load does
+not make it fail. The property files are the published ones, if they are there, or those of the stored runs.
 """
 
 import os

@@ -1,8 +1,8 @@
-"""The program on each folder of crates/lbk/runs: what it writes and its status are what is stored there.
+"""The program's output and status for each folder of crates/lbk/runs, compared with those stored there.
 
-A folder has the files args (one argument a line; none: no arguments), stdin, stdout, stderr (each: none, nothing) and status
-(none: 0). A run finds the files of crates/lbk/data where it runs, and those of its folder's data beside them. It needs no
-published files.
+A folder has the files args (one argument per line), stdin, stdout, stderr and status. A missing file means no
+arguments, nothing to read, nothing written, or status 0. A run finds the files of crates/lbk/data in its working
+directory, and the files of its own folder's data next to them. It needs no published files.
 """
 
 import difflib

@@ -1,5 +1,8 @@
-"""What ./lbk, scripts/verdict-of and scripts/prove take as proved: in a small repository, programs and archives put there by hand,
-changed sources, other kits, and what `rt ci` prints and keeps."""
+"""What `./lbk`, `scripts/verdict-of` and `scripts/prove` accept as proved.
+
+In a small repository it tries programs and archives put there by hand, changed sources, other kits, and what `rt ci`
+prints and keeps.
+"""
 
 import os
 import re

@@ -1,4 +1,4 @@
-"""The tables of lbk_words are what scripts/word-tables writes from the Unicode tables of the kit."""
+"""The tables of lbk_words compared with those that scripts/word-tables makes from the kit's Unicode tables."""
 
 from checks.harness import TOP, has, run_script
 

@@ -1,7 +1,7 @@
-"""The program by its words over the tables of crates/test_support: texts, test files, ranges, and what refuses a run.
+"""The program over the tables of crates/test_support: texts, test files, ranges, and inputs that it refuses.
 
-The property files are the samples in crates/lbk_ucd/src/samples.rt. Reads are cut by a socket of packets, and fail
-where that is not ready; an output is full where the system bounds the size of its file. It needs no files but its own.
+The property files are the samples in crates/lbk_ucd/src/samples.rt. A socket of packets cuts reads, and makes them fail
+where it is not ready; a limit on the size of its file makes an output full. It needs no other files.
 """
 
 import ast

@@ -1,7 +1,7 @@
-"""A paragraph through a pipe to the program, and its line back before the next is sent: what is known is written at once.
+"""The program in a dialogue through pipes: it writes each settled line before the next paragraph is sent.
 
-A passage is known once the scalar after it was seen, so each paragraph goes out with the first letter of the next one. A line of
-a test file is known by its line end. It needs no files but its own.
+A passage is settled by the character after it, so the check sends each paragraph with the first letter of the next one.
+A line of a test file is settled by its line end. It needs no other files.
 """
 
 import os

@@ -1,8 +1,8 @@
-"""The program where it meets the system: files by their names, pipes, faults far into a text, arguments, a terminal.
+"""The program and the system: files by their names, pipes, faults far into a text, arguments, a terminal.
 
-Each row compares the status and all that is written, and those of the part calls how often the system was asked to read and to
-write. It needs no files but its own. Arguments name the parts to be run: files, pipes, faults, arguments, paragraphs, calls,
-empty-calls, kept, terminal, texts.
+Each row compares the status and all output; the rows of the part `calls` also compare how often the system was asked to
+read and to write. It needs no other files. Arguments name the parts to run: files, pipes, faults, arguments,
+paragraphs, calls, empty-calls, kept, terminal, texts.
 """
 
 import tempfile

@@ -1,8 +1,9 @@
-"""Files, texts and test files made to be costly, and the greatest sizes: bounds on the program's time and memory.
+"""Bounds on the program's time and memory over costly files, texts and test files, and at the largest sizes.
 
-Time is the processor time of the program only, so other work on the machine changes it little; what is over a bound is measured
-twice more, two lengths side by side, and one time within it is enough. Where memory must not grow with a stream, the run is given little, and would be refused more.
-It needs no files but its own. Arguments name the parts to be run: streams, lines, passages, sizes, files, arguments.
+Time is the processor time of the program only, so other work on the machine changes it little. A result over its bound
+is measured twice more, at both lengths together, and one time within the bound is enough. Where memory must not grow
+with a stream, the run gets little memory, and any more would be refused. It needs no other files. Arguments name the
+parts to run: streams, lines, passages, sizes, files, arguments.
 """
 
 import tempfile

@@ -1,9 +1,9 @@
-"""Each allocation refused in turn: of each row of crates/trials_bench, and of the program itself.
+"""Each allocation of each row of crates/trials_bench, and of the program, refused in turn.
 
-A row is run with ample memory, and then with the n-th allocation refused, n from 1 until a run meets no refusal; and again with
-all later ones refused too. The row has to return that it is out of memory or what ample memory gives, and what went out is a
-front of what goes out then. The rows `quiet/..` take no memory, so that nothing may be refused. Arguments are beginnings of
-names: only these rows are tried.
+A row runs with ample memory, and then with the n-th allocation refused, n from 1 until a run meets no refusal; and
+again with all later ones refused, too. The row has to return out of memory, or the result with ample memory, and its
+output is a prefix of that run's output. The rows `quiet/..` allocate nothing, so nothing can be refused. Arguments are
+prefixes of names: only these rows run.
 """
 
 import os
