@@ -12,7 +12,7 @@ use Rattle.lbk_words.specs.Letters.{is_letter_or_number}
 abbrev pub AgreeOnLetters : (ℕ → Cell) → List ℕ → Type 0
 AgreeOnLetters cell scalars = AllByRecursion (λ c. (cell c).letter ≡ is_letter_or_number c) scalars
 
--- rules WB3 and WB3a: a boundary stands behind the end of a line, but for CR LF
+-- rules WB3 and WB3a: a boundary follows a line end, except between CR and LF
 abbrev pub ends_between_words : WordBreak → WordBreak → Bool
 ends_between_words Cr Lf = false
 ends_between_words Newline next = true
@@ -20,6 +20,6 @@ ends_between_words Cr next = true
 ends_between_words Lf next = true
 ends_between_words last next = false
 
--- where by the cells' classes a line must end between two scalars, a word boundary stands
+-- a word boundary is wherever, by the cells' classes, a line must end between two scalars
 abbrev pub AgreeOnLines : (ℕ → Cell) → Type 0
 AgreeOnLines cell = (c d : ℕ) → ends_between (cell c).class (cell d).class ≡ true → ends_between_words (word_break c) (word_break d) ≡ true

@@ -1,4 +1,4 @@
--- A chunk that is chosen among cuts of which the first are known.
+-- The choice of a chunk when only the first cuts are known.
 use Rattle.std.specs.Prelude.{◌≡◌, Bool, true, List, [], ◌∷◌, ◌++◌, find}
 use Rattle.lbk_chunks.specs.declared.chunk.Chunk.{Chunk}
 use Rattle.lbk_chunks.specs.declared.chunk.Limits.{Limits}
@@ -6,7 +6,7 @@ use Rattle.lbk_chunks.specs.declared.cut.Cut.{Cut}
 use Rattle.lbk_chunks.specs.declared.chunk.Here.{Here}
 use Rattle.lbk_chunks.specs.Chunks.{after, chunk_to, cuts_past, end_of, may_start, start_among, start_at}
 
--- some cuts are known, and a chunk that has them ahead ends at this one, whatever follows them
+-- some cuts are known, and a chunk before them ends at this one, whatever follows them
 pub record IsEndAmong (l : Limits) (here : Here) (ahead : List Cut) (is_whole : Bool) (end : Cut) : Type 0 where
   pub first : Cut
   pub known : List Cut
@@ -18,7 +18,7 @@ abbrev pub start_among_known : Limits → Here → Cut → List Cut → List Cut
 start_among_known l here end [] told = start_at end end.at
 start_among_known l here end (next ∷ _) told = start_among end (find (may_start l here end next) told)
 
--- the chunk from a place on, the start behind it, and the cuts that are past that
+-- the chunk from a start on, the start after it, and the cuts past that
 pub record IsNextChunk (l : Limits) (here : Here) (cuts : List Cut) (chunk : Chunk) (next : Here) (left : List Cut) : Type 0 where
   pub first : Cut
   pub more : List Cut

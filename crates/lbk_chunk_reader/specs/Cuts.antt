@@ -11,11 +11,11 @@ use Rattle.lbk_chunk_reader.specs.PassageWords.{words_in_pieces}
 use Rattle.lbk_chunks.specs.declared.cut.Cut.{Cut}
 use Rattle.lbk_chunks.specs.Cuts.{cuts_among}
 
--- the cuts of a passage of these segments and pieces, which begins at byte `start`, behind so many words
+-- the cuts of a passage with these segments and pieces that begins at byte `start`, after so many words
 abbrev pub cuts_between : ℕ → ℕ → List Segment → List Piece → List Cut
 cuts_between start words segments pieces = cuts_among words (words_in_pieces start pieces) (map (break_at start) segments)
 
--- the cuts of passages, each given by its marks, of which the first begins at byte `start`, behind so many words
+-- the cuts of passages, given by their marks; the first begins at byte `start`, after so many words
 abbrev pub cuts_of_passages : (ℕ → Cell) → ℕ → ℕ → List (List Marked) → List Cut
 cuts_of_passages cell start words [] = []
 cuts_of_passages cell start words (ms ∷ passages) =

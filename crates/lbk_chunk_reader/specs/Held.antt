@@ -3,7 +3,7 @@ use Rattle.std.specs.Prelude.{◌≡◌, ℕ, ◌-◌, ◌≤◌, List, drop, le
 use Rattle.lbk_chunks.specs.declared.chunk.Chunk.{Chunk}
 use Rattle.lbk_chunk_reader.specs.declared.held.Held.{Held}
 
--- what is kept of a text, of which the bytes from `start` on are needed
+-- the part of a text that is kept, if the bytes from `start` on are needed
 pub record IsHeld (start : ℕ) (text : List ℕ) (h : Held) : Type 0 where
   pub early : h.from ≤ start
   pub within : h.from ≤ length text

@@ -1,4 +1,4 @@
--- What a reader has to believe.
+-- What a reader has to check.
 pub mod Numbered
 pub mod Cuts
 pub mod Reader
@@ -8,7 +8,7 @@ pub mod Held
 pub mod Window
 pub mod Agreement
 pub mod PassageWords
--- What only carries proofs.
+-- What only proofs use.
 pub mod Between
 pub mod Choosing
 pub mod Pieces

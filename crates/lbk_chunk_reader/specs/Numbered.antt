@@ -1,4 +1,4 @@
--- Cuts and chunks as the definition of chunks has them, with kinds and rules as numbers.
+-- Cuts and chunks in the form of the definition of chunks: kinds and rules are numbers.
 use Rattle.lbk_rules.specs.Codes.{kind_number, rule_number}
 use Rattle.lbk_chunks.specs.declared.chunk.Chunk as spec
 use Rattle.lbk_chunks.specs.declared.cut.Cut as spec_cut

@@ -1,4 +1,4 @@
--- Pieces that stand one behind the other.
+-- Adjacent pieces.
 use Rattle.std.specs.Prelude.{◌≡◌, ℕ, ◌+◌, ◌^◌, ◌<◌, ◌≤◌, List, [], ◌∷◌, length, map}
 use Rattle.lbk_rules.specs.declared.Break.{Break}
 use Rattle.lbk_passage.specs.Laws.{break_at}
@@ -18,7 +18,7 @@ abbrev pub EndsPast : ℕ → ℕ → List Piece → Type 0
 EndsPast start at [] = Unit {0}
 EndsPast start at (p ∷ ps) = at < start + p.end
 
--- pieces were passed that end before a byte or at it, and their words counted
+-- the pieces that end at a byte or before it were passed, and their words counted
 pub record ArePassed (start at count : ℕ) (pieces : List Piece) (counted : ℕ) (left : List Piece) : Type 0 where
   pub from : ℕ
   pub joined : AreJoined from left
@@ -26,7 +26,7 @@ pub record ArePassed (start at count : ℕ) (pieces : List Piece) (counted : ℕ
   pub cuts : (b : Break) (bs : List Break) → at ≤ b.at → AreBreaksPast b.at bs
       → cuts_among counted (words_in_pieces start left) (b ∷ bs) ≡ cuts_among count (words_in_pieces start pieces) (b ∷ bs)
 
--- what a passage of these segments and pieces has, which begins at byte `start`, behind so many words
+-- what a passage with these segments and pieces has, if it begins at byte `start`, after so many words
 pub record IsRegular (start words : ℕ) (segments : List Segment) (pieces : List Piece) : Type 0 where
   pub few : words + length (words_in_pieces start pieces) < 2 ^ 64
   pub joined : AreJoined 0 pieces

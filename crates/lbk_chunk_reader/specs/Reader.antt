@@ -1,4 +1,4 @@
--- What a reader of chunks shows, and what a call gives.
+-- What a chunker shows, and what a call returns.
 use Rattle.std.specs.Prelude.{◌≡◌, ◌⊎◌, ℕ, ◌<◌, ◌≤◌, Bool, true, false, List, [], ◌∷◌, ◌++◌, Option, None, Some, Result, Ok, Err, encode_utf8_all}
 use Rattle.std.specs.Str.{IsUtf8}
 use Rattle.lbk_feed.specs.Runs.{Took}
@@ -19,7 +19,7 @@ use Rattle.lbk_chunk_reader.specs.Cuts.{cuts_of_passages}
 use Rattle.lbk_chunk_reader.specs.Numbered.{numbered_chunk}
 use Rattle.lbk_chunk_reader.specs.declared.cut.Chunk as given
 
--- the limits, the cuts held and where the next chunk starts; the segmenter, and how many words are in the passages that it gave
+-- the limits, the cuts held and where the next chunk starts; the segmenter, and how many words its passages had
 pub record View : Type 0 where
   pub limits : Limits
   pub cuts : List Cut
@@ -31,22 +31,22 @@ pub record View : Type 0 where
 abbrev pub new_view : (ℕ → Cell) → Profile → Limits → ℕ → View
 new_view cell profile limits limit = record { limits = limits; cuts = []; here = text_start; passages = new_state cell profile limit; words = 0 }
 
--- the cuts held, and those of the scalars to come
+-- the cuts held, and those of the scalars that are left
 abbrev pub cuts_with : View → List ℕ → List Cut
 cuts_with v scalars = v.cuts ++ cuts_of_passages v.passages.cell v.passages.start v.words (passages v.passages.profile v.passages.cell scalars)
 
--- if these are the bytes of the scalars to come, of which some are held and more follow, those chunks are the ones to come
+-- if these are the bytes of the scalars that are left, some of them held, then these chunks are left
 abbrev pub ChunksCome : View → List ℕ → List Chunk → Type 0
 ChunksCome v scalars chunks = AreChunks v.limits (cuts_with v scalars) v.here chunks
 
--- the scalars to come are the bytes held and more, none where the text has ended
+-- the scalars that are left are the bytes held and more, but no more if the text has ended
 pub record MayCome (v : View) (scalars more : List ℕ) : Type 0 where
   pub bytes : encode_utf8_all scalars ≡ v.passages.held ++ more
   pub utf8 : IsUtf8 (encode_utf8_all scalars)
   pub ended : v.passages.is_ended ≡ true → more ≡ []
 
--- from one state to another these bytes were read, these scalars passed and these chunks given: whatever scalars and chunks
--- come behind them, with them they are those that were to come
+-- from one state to another these bytes were read, these scalars passed and these chunks returned: together with any
+-- scalars and chunks left after them, they are those that were left before
 pub record HasGiven (old new : View) (got scalars : List ℕ) (given : List Chunk) : Type 0 where
   pub bytes : encode_utf8_all scalars ++ new.passages.held ≡ old.passages.held ++ got
   pub utf8 : IsUtf8 (encode_utf8_all scalars)
@@ -61,15 +61,15 @@ pub record Goes (old new : View) (failed : Bool) (unread unread' : Option (List 
   pub took : Took failed unread unread' got
   pub given : HasGiven old new got scalars chunks
 
--- why a call stops: by want of memory; as one before it did; or by a fault, where the segmenter stops and no chunk that was to
--- come is lost
+-- why a call fails: out of memory; because an earlier one did; or by a fault where the segmenter stops, with no chunk
+-- that was left lost
 abbrev pub IsStopped : View → View → Option (List ℕ) → Option (List ℕ) → Bool → PassageFault → Type 0
 IsStopped old new unread unread' was_spent Memory = Unit {0}
 IsStopped old new unread unread' was_spent Spent = was_spent ≡ true
 IsStopped old new unread unread' was_spent Read = Goes old new true unread unread' [] × Stops new.passages Read
 IsStopped old new unread unread' was_spent fault = Goes old new false unread unread' [] × Stops new.passages fault
 
--- what a call answers: the next chunk; none, where all were given; or a fault
+-- what a call returns: the next chunk; none if all were returned; or a fault
 abbrev pub Answers : View → View → Option (List ℕ) → Option (List ℕ) → Bool → Result (Option given.Chunk) PassageFault → Type 0
 Answers old new unread unread' was_spent (Ok (Some chunk)) = Goes old new false unread unread' (numbered_chunk chunk ∷ [])
 Answers old new unread unread' was_spent (Ok None) = Goes old new false unread unread' [] × IsDone new.passages × ChunksCome new [] []

@@ -1,4 +1,4 @@
--- The chunks that some first cuts of a text settle, whatever cuts follow them.
+-- The chunks that the first cuts of a text settle, whatever cuts follow them.
 use Rattle.std.specs.Prelude.{◌≡◌, ◌⊎◌, ◌<◌, ◌≤◌, Bool, true, false, List, [], ◌∷◌, ◌++◌, length}
 use Rattle.std.specs.List.{list_all}
 use Rattle.lbk_chunks.specs.declared.chunk.Chunk.{Chunk}
@@ -8,16 +8,16 @@ use Rattle.lbk_chunks.specs.declared.chunk.Here.{Here}
 use Rattle.lbk_chunks.specs.Chunks.{AreChunks, cuts_past, end_of, fits, text_start}
 use Rattle.lbk_chunks.specs.Cuts.{AreCutsPast}
 
--- none of some cuts is behind the end of the chunk from here on that has these of them ahead
+-- none of some cuts is past the end of the chunk from here on, given the cuts ahead of it
 abbrev pub EndsLast : Limits → Here → List Cut → List Cut → Type 0
 EndsLast l here cuts [] = Unit {0}
 EndsLast l here cuts (first ∷ more) = cuts_past (end_of l here first more).at cuts ≡ []
 
--- these cuts settle no chunk from here on: all that are ahead fit, or none is behind its end
+-- these cuts settle no chunk from here on: all cuts ahead fit, or none is past its end
 abbrev pub IsOpen : Limits → Here → List Cut → Type 0
 IsOpen l here cuts = (list_all (fits l here) (cuts_past here.told cuts) ≡ true) ⊎ EndsLast l here cuts (cuts_past here.told cuts)
 
--- among these cuts the chunks from one place on are those, and then the ones from another on, for which these are left
+-- with these cuts the chunks from one start on are these, and then those from another start on, with these cuts left
 pub record GoOn (l : Limits) (here : Here) (cuts : List Cut) (chunks : List Chunk) (next : Here) (left : List Cut) : Type 0 where
   pub left_are : left ≡ cuts_past next.start cuts
   pub rising : AreCutsPast next.start left
@@ -25,7 +25,7 @@ pub record GoOn (l : Limits) (here : Here) (cuts : List Cut) (chunks : List Chun
   pub told : here.start ≤ here.told → next.start ≤ next.told
   pub come : (later : List Chunk) → here.start ≤ here.told → AreChunks l left next later → AreChunks l cuts here (chunks ++ later)
 
--- these cuts settle those chunks from one place on, up to another, whatever cuts follow, unless they are all
+-- these cuts settle these chunks from one start up to another, whatever cuts follow, unless there are no others
 pub record Settle (l : Limits) (is_whole : Bool) (here : Here) (cuts : List Cut) (chunks : List Chunk) (next : Here) (left : List Cut) : Type 0 where
   pub go_on : (more : List Cut) → (is_whole ≡ true → more ≡ []) → AreCutsPast here.start (cuts ++ more) → GoOn l here (cuts ++ more) chunks next (left ++ more)
   pub known : (is_whole ≡ true) ⊎ (((chunks ≡ []) × (next ≡ here)) ⊎ (0 < length (cuts_past next.told cuts)))

@@ -9,6 +9,6 @@ use Rattle.lbk_chunk_reader.specs.Standing.{view_with}
 abbrev pub view_of : {C : Type 0} {bound : _} → (C → ℕ → Cell) → Chunker C bound → View
 view_of cell c = view_with c.window (state_of cell c.segmenter)
 
--- a call was refused
+-- a call failed
 abbrev pub is_spent : {C : Type 0} {bound : _} → Chunker C bound → Bool
 is_spent c = c.is_spent

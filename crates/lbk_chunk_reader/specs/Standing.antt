@@ -11,8 +11,8 @@ use Rattle.lbk_chunk_reader.specs.Window.{cuts_in}
 abbrev pub view_with : Window → State → View
 view_with w s = record { limits = w.limits; cuts = cuts_in w; here = w.here; passages = s; words = w.words }
 
--- between two calls, of which none was refused: the cuts held stand between the next start and the end of the passages given,
--- and each word has a byte
+-- between calls that did not fail: the cuts held are between the next start and the end of the passages returned, and
+-- no word is empty
 pub record Stands (w : Window) (s : State) (is_whole : Bool) : Type 0 where
   pub unspent : s.is_spent ≡ false
   pub whole : is_whole ≡ true → IsDone s

@@ -1,4 +1,4 @@
--- What a call does that takes the cuts of the next passage.
+-- A call that takes the cuts of the next passage.
 use Rattle.std.specs.Prelude.{◌≡◌, ℕ, Bool, true, false, Option, None, Some, Result, Ok, Err, List}
 use Rattle.lbk_feed.specs.Devices.{Reads}
 use Rattle.lbk_passage.specs.Next.{AfterNext, failures_with, fault_in}

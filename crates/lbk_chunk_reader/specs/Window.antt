@@ -14,7 +14,7 @@ use Rattle.lbk_chunk_reader.specs.Numbered.{numbered}
 abbrev pub cuts_in : Window → List Cut
 cuts_in w = map numbered (drop w.passed w.cuts.items)
 
--- the limits, where the next chunk starts, and how many words are in the passages whose cuts were found
+-- the limits, where the next chunk starts, and how many words are in the passages that were taken
 abbrev pub limits_in : Window → Limits
 limits_in w = w.limits
 
@@ -31,7 +31,7 @@ held_in w = w.held
 abbrev pub keeps_text : Window → Bool
 keeps_text w = is_some (held_in w)
 
--- what is kept of a text, of which the bytes from `start` on are needed, and from the next start on
+-- the part of a text that is kept, if the bytes from `start` on are needed, and from the next start on
 abbrev pub HoldsFrom : ℕ → List ℕ → Window → Type 0
 HoldsFrom start text w = IfSome (held_in w) (IsHeld start text)
 
@@ -46,7 +46,7 @@ pub record IsNewWindow (l : Limits) (w : Window) : Type 0 where
   pub words : w.words ≡ 0
   pub held : HoldsFrom 0 [] w
 
--- the same cuts, at the same place
+-- the same cuts, at the same offset
 pub record IsSameWindow (old new : Window) : Type 0 where
   pub limits : new.limits ≡ old.limits
   pub cuts : cuts_in new ≡ cuts_in old
@@ -54,7 +54,7 @@ pub record IsSameWindow (old new : Window) : Type 0 where
   pub words : new.words ≡ old.words
   pub held : new.held ≡ old.held
 
--- the cuts of a passage were put behind the others, and its text behind theirs
+-- the cuts of a passage were appended, and so was its text
 pub record IsTaken (p : Passage) (old new : Window) : Type 0 where
   pub limits : new.limits ≡ old.limits
   pub cuts : cuts_in new ≡ cuts_in old ++ cuts_between p.start old.words p.segments.now p.pieces.now

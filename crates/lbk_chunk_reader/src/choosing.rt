@@ -1,4 +1,4 @@
-//! Where a chunk ends and where the next one starts, among cuts of which the first are known.
+//! Where a chunk ends and where the next one starts, when only the first cuts are known.
 
 ghost use Rattle.std.specs.Prelude.{◌≡◌, ◌≤◌, ◌==◌, [], IfSome, None, Some, if◌then◌else◌, false, length, map};
 ghost use Rattle.std.specs.Prelude.{true};
@@ -28,7 +28,7 @@ pub(crate) fn past(cuts: &[Cut], at: usize) -> &[Cut]
     left
 }
 
-/// The cut at which the chunk from here on ends, where the known ones settle it or are all.
+/// The cut at which the chunk from here on ends, if the known cuts settle it or there are no others.
 pub(crate) fn end_among(limits: &Limits, here: &Here, ahead: &[Cut], is_whole: bool) -> Option<Cut>
     ensures end { IfSome result (λ end. IsEndAmong limits.now here.now (map numbered ahead.now) is_whole
         (numbered end)) }
@@ -56,8 +56,8 @@ pub(crate) fn end_among(limits: &Limits, here: &Here, ahead: &[Cut], is_whole: b
     if is_whole { Some(last) } else { None }
 }
 
-/// Where the chunk behind one that ends at a cut starts: `behind` are the known cuts past that end, `told` those up
-/// to it.
+/// Where the next chunk starts after one that ends at a cut: `behind` are the known cuts past that end, `told` those
+/// up to it.
 pub(crate) fn start_behind(
     limits: &Limits,
     here: &Here,
@@ -113,7 +113,7 @@ fn may_start_at(limits: &Limits, here: &Here, end: &Cut, next: &Cut, cut: &Cut) 
     may_start(limits, here, &start_at(cut, end.at), next.at, next.words)
 }
 
-/// A cut at which the chunk may end early, or else what was found so far.
+/// The cut, if the chunk may end early there, or else the one found so far.
 fn early_or(limits: &Limits, here: &Here, cut: &Cut, early: Option<Cut>) -> Option<Cut>
     ensures { result ≡ (if is_early limits.now here.now (numbered cut.now) then Some cut.now else early) }
 {

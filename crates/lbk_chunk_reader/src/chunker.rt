@@ -23,7 +23,7 @@ use std::alloc::Global;
 pub struct Chunker<'a, C: CellSource> {
     segmenter: Segmenter<'a, C>,
     window: Window,
-    /// Whether all passages were given.
+    /// Whether all passages were read.
     is_whole: bool,
     is_spent: bool,
     ghost stands: { is_spent ≡ false → Stands window (state_of C.cell_of segmenter) is_whole } by { Prim.hlevel (props, AreCutsBetween-prop) },
@@ -37,8 +37,8 @@ impl<'a, C: CellSource> Chunker<'a, C> {
     /// A chunker that has read nothing, for chunks within these limits. It reserves room for the `limit` bytes of one
     /// paragraph and nothing else.
     ///
-    /// `Limits` comes exactly where those are out of range, and else `Limit` exactly where the limit is not 1 to
-    /// 16,777,216, `Memory` where the room could not be had.
+    /// Returns `Limits` exactly if the limits are out of range, otherwise `Limit` exactly if the limit is not 1 to
+    /// 16,777,216, and `Memory` if the allocation fails.
     pub fn new(
         alloc: Global,
         cells: &'a C,
@@ -70,11 +70,11 @@ impl<'a, C: CellSource> Chunker<'a, C> {
         }
     }
 
-    /// The next chunk, or `None` once all were given.
+    /// The next chunk, or `None` once all were returned.
     ///
-    /// It is given once a cut is known that no longer fits, or the end of the text was seen. A fault of the reader or
-    /// of the text comes once the chunks before it were given that are settled, as `Segmenter` returns it. After an
-    /// error no more chunks come: each later call returns `Spent`.
+    /// Returns it once a cut is known that no longer fits, or the end of the text was read. Returns a fault of the
+    /// reader or of the text as `Segmenter` does, after all chunks that were settled before it. After an error each
+    /// later call returns `Spent`.
     pub fn next<R: Source>(&mut self, reader: &mut R) -> Result<Option<Chunk>, PassageFault>
         ensures answer { Answers (view_of C.cell_of self.old) (view_of C.cell_of self.new) (R.unread reader.old)
             (R.unread reader.new) (is_spent self.old) result }
@@ -99,7 +99,7 @@ impl<'a, C: CellSource> Chunker<'a, C> {
         }
     }
 
-    /// Reads the next passage, or sees that there is none.
+    /// Reads the next passage, or the end.
     fn read_on<R: Source>(&mut self, reader: &mut R) -> Result<(), PassageFault>
         requires going { self.old.is_whole ≡ false }
         requires unspent { self.old.is_spent ≡ false }

@@ -11,15 +11,15 @@ use crate::cut::Cut;
 use lbk_passage::{Piece, Segment};
 use std::alloc::AllocError;
 
-/// The words of a passage: how many were passed, with those of the passages before it, and the pieces that are left.
+/// The words of a passage: how many were passed, including earlier passages, and the pieces that are left.
 #[derive(Clone, Copy)]
 pub(crate) struct Words<'a> {
     pub(crate) count: usize,
     pub(crate) left: &'a [Piece],
 }
 
-/// Puts the cuts of a passage that begins at byte `start`, behind `words` words, after those in the list. Returns how
-/// many words are before its end.
+/// Appends the cuts of a passage that begins at byte `start`, after `words` words. Returns how many words are before
+/// its end.
 pub(crate) fn push_cuts(
     cuts: &mut Vec<Cut>,
     start: usize,
@@ -56,7 +56,7 @@ pub(crate) fn push_cuts(
     Ok(words_behind(here.count, here.left))
 }
 
-/// Passes the pieces that end before a byte of the text or at it.
+/// Passes the pieces that end at a byte of the text or before it.
 fn pass_words(start: usize, at: usize, count: usize, pieces: &[Piece]) -> Words<'_>
     requires { start ≤ 2 ^ 62 }
     ensures past { EndsPast start at result.left.now }
@@ -93,7 +93,7 @@ fn words_behind(count: usize, pieces: &[Piece]) -> usize
     count
 }
 
-/// Whether a byte of the text is within the first of some pieces, and that is a word.
+/// Whether a byte of the text is inside the first of some pieces, and that is a word.
 fn is_within(start: usize, at: usize, pieces: &[Piece]) -> bool
     requires { start ≤ 2 ^ 62 }
     ensures { (from : ℕ) → AreJoined from pieces.now → EndsPast start at pieces.now

@@ -1,15 +1,15 @@
-//! The text that a window keeps for the chunks to come.
+//! The text that a window keeps for later chunks.
 
 ghost use Rattle.std.specs.Prelude.{◌≡◌, ℕ, ◌-◌, ◌≤◌, ◌++◌, [], List, IfSome, OnOk, drop, is_some, length, take};
 ghost use Rattle.lbk_chunk_reader.specs.Held.{IsHeld};
 
 use std::alloc::{AllocError, Global};
 
-/// The text of the passages that were taken, from a byte on.
+/// The text of the passages taken, from a byte on.
 #[derive(Drop)]
 pub(crate) struct Held {
     bytes: Vec<u8>,
-    /// The byte of the text that it begins with.
+    /// The offset of its first byte.
     from: usize,
 }
 
@@ -24,7 +24,7 @@ impl Held {
         }
     }
 
-    /// Takes the text of the next passage. Those before byte `start` are needed no more.
+    /// Takes the text of the next passage. The bytes before `start` are no longer needed.
     pub fn take(&mut self, start: usize, passage: &str) -> Result<(), AllocError>
         ensures { OnOk result ((text : List ℕ) → IsHeld start text self.old
             → IsHeld start (text ++ passage.now) self.new) }
@@ -34,7 +34,7 @@ impl Held {
         Ok(())
     }
 
-    /// Lets the bytes go that stand before byte `start`, once they are most of all.
+    /// Releases the bytes before `start` once they are more than half.
     fn drop_before(&mut self, start: usize)
         ensures { (text : List ℕ) → IsHeld start text self.old → IsHeld start text self.new }
     {

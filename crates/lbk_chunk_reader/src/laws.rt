@@ -1,4 +1,4 @@
-//! What holds of the chunks of a run, over definitions only: each law is the contract of a function that does nothing.
+//! Laws about the chunks of a run. Each is the contract of a function that does nothing.
 
 ghost use Rattle.std.specs.Prelude.{◌≡◌, ℕ, true, List, [], ◌++◌, IsUtf8, encode_utf8_all};
 ghost use Rattle.std.specs.Str.{chars};
@@ -16,16 +16,15 @@ ghost use Rattle.lbk_chunk_reader.specs.Cuts.{cuts_of_passages};
 ghost use Rattle.lbk_chunk_reader.specs.Reader.{ChunksCome, HasGiven, View, new_view};
 ghost use Rattle.lbk_chunk_reader.specs.Settled.{AreSettled};
 
-/// The cuts of a text, passage by passage, are those of the whole text, where the cells of its scalars have the
-/// letters and numbers that `lbk_words` knows, and UAX #29 has a word boundary wherever the cells' classes say that a
-/// line must end.
+/// The cuts of the passages are those of the whole text. Premises: the cells have the letters and numbers of
+/// `lbk_words`, and UAX #29 has a word boundary wherever the cells' classes say that a line must end.
 pub fn cuts_of_all_passages()
     ensures { (profile : Profile) (cell : ℕ → Cell) (text : List ℕ) → AgreeOnLines cell
         → AgreeOnLetters cell (chars text) → IsUtf8 text
         → cuts_of profile cell text ≡ cuts_of_passages cell 0 0 (passages profile cell (chars text)) }
 {}
 
-/// Calls one after another give the chunks of the one and then of the other.
+/// Successive calls return the chunks of the first, and then those of the second.
 pub fn run_goes_on()
     ensures { (first between last : View) (got more scalars others : List ℕ) (given later : List Chunk)
         → HasGiven first between got scalars given
@@ -33,8 +32,8 @@ pub fn run_goes_on()
         → HasGiven first last (got ++ more) (scalars ++ others) (given ++ later) }
 {}
 
-/// Where a run from the start of a text ends, its chunks were given: the bytes read are the text, and these are the
-/// chunks of its cuts.
+/// A run from the start of a text to its end returned all its chunks: the bytes read are the text, and the chunks are
+/// those of its cuts.
 pub fn run_ends()
     ensures bytes { (cell : ℕ → Cell) (profile : Profile) (limits : Limits) (limit : ℕ) (last : View)
         (got scalars : List ℕ) (given : List Chunk)
@@ -47,7 +46,7 @@ pub fn run_ends()
         → AreChunks limits (cuts_of_passages cell 0 0 (passages profile cell scalars)) text_start given }
 {}
 
-/// The chunks that some first cuts of a text settle are the first chunks that the text has, whatever cuts follow.
+/// The chunks that the first cuts of a text settle are the first chunks of the text, whatever cuts follow.
 pub fn settled_chunks_come_first()
     ensures { (l : Limits) (cuts more : List Cut) (chunks all : List Chunk) → AreSettled l cuts chunks
         → AreCutsPast 0 (cuts ++ more) → AreChunks l (cuts ++ more) text_start all

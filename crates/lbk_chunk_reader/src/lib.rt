@@ -1,4 +1,4 @@
-//! Chunks of a text that comes through a reader: those that the whole text has (`lbk_chunks`).
+//! The chunks of a reader's text: those of the whole text (`lbk_chunks`).
 #![tactic(auto)]
 
 mod choosing;

@@ -1,4 +1,4 @@
-//! The cuts that were found and are past the start of the next chunk, and the text from there on.
+//! The cuts found past the start of the next chunk, and the text from there on.
 
 ghost use Rattle.std.specs.Prelude.{◌≤◌, vec_len};
 
@@ -12,7 +12,7 @@ use lbk_passage::{Passage, PassageFault, Segmenter};
 use lbk_rules::CellSource;
 use std::alloc::{AllocError, Global};
 
-/// The cuts that were found and are past the start of the next chunk, and the text from there on if it is kept.
+/// The cuts found past the start of the next chunk, and the text from there on if it is kept.
 #[derive(Drop)]
 pub struct Window {
     limits: Limits,
@@ -20,7 +20,7 @@ pub struct Window {
     /// How many of them are not past the start.
     passed: usize,
     here: Here,
-    /// How many words are in the passages whose cuts were found.
+    /// How many words are in the passages that were taken.
     words: usize,
     held: Option<Held>,
     ghost passed_few: { passed ≤ vec_len cuts },
@@ -42,7 +42,7 @@ impl Window {
     ghost use Rattle.lbk_chunk_reader.specs.Taking.{TakesNext};
     ghost use Rattle.lbk_passage.specs.Shown.{state_of};
 
-    /// No cuts, at the start of a text. With its text `text_of` has that of each chunk.
+    /// No cuts, at the start of a text. If it keeps the text, `text_of` returns that of each chunk.
     pub fn new(alloc: Global, limits: Limits, with_text: bool) -> Window
         ensures new { IsNewWindow limits result }
         ensures keeps { keeps_text result ≡ with_text }
@@ -84,10 +84,10 @@ impl Window {
         Ok(())
     }
 
-    /// Takes the cuts of the next passage of a segmenter, and returns whether one came. A window and a segmenter begin
+    /// Takes the cuts of a segmenter's next passage, and returns whether there was one. A window and a segmenter begin
     /// together, and the window takes each of its passages.
     ///
-    /// The faults are those of `Segmenter::next`, and `Memory` where memory cannot grow for the cuts.
+    /// Returns the faults of `Segmenter::next`, and `Memory` if an allocation for the cuts fails.
     pub fn take_next<R: Source, C: CellSource>(
         &mut self,
         segmenter: &mut Segmenter<'_, C>,
@@ -108,7 +108,7 @@ impl Window {
         }
     }
 
-    /// Lets the cuts go that were passed, once they are most of all.
+    /// Releases the cuts that were passed once they are more than half.
     fn drop_passed(&mut self)
         ensures { IsSameWindow self.old self.new }
     {
@@ -118,9 +118,9 @@ impl Window {
         }
     }
 
-    /// The next chunk, where the cuts settle it or are all that there are.
+    /// The next chunk, if the cuts settle it or there are no others.
     ///
-    /// They settle it where not all that are ahead of it fit, and one is known behind its end.
+    /// They settle it if not all cuts ahead of it fit, and one past its end is known.
     pub fn next(&mut self, is_whole: bool) -> Option<Chunk>
         ensures chunk { IfSome result (λ chunk. (more : List spec.Cut) → (is_whole ≡ true → more ≡ [])
             → AreCutsPast (here_in self.old).start (cuts_in self.old ++ more)
@@ -156,7 +156,7 @@ impl Window {
         Some(chunk)
     }
 
-    /// The text of the chunk that `next` gave last, if the text is kept.
+    /// The text of the chunk that `next` returned last, if the text is kept.
     pub fn text_of(&self, chunk: &Chunk) -> Option<&[u8]>
         ensures { (text : List ℕ) → HoldsFrom chunk.now.start text self.now → chunk.now.start ≤ chunk.now.end
             → chunk.now.end ≤ length text
