@@ -1,5 +1,6 @@
 -- From what `clap` answers to what the contract of `parse` says.
-use Rattle.std.proofs.Common.{◌≡◌, ◌∙◌, List, [], ◌∷◌, Option, Some, None, inl, inr, refl, sym, subst, ap, ap₂, true≢false}
+use Rattle.std.proofs.Common.{◌≡◌, ◌∙◌, List, [], ◌∷◌, Option, Some, None, inl, inr, refl, sym, subst, ap, ap₂}
+use Rattle.std.proofs.Common.{true≢false}
 use Rattle.std.specs.Prelude.{◌⊎◌, Box, is_some, option_and_then, option_map}
 use Rattle.std.specs.Box.{box_value}
 use Rattle.clap.specs.Kinds.{or_else}
@@ -16,13 +17,15 @@ use Rattle.lbk_args.specs.Task.{Task, task_by, task_in}
 use Rattle.lbk_args.specs.Refusal.{HasFault, IsCallForHelp, IsMistake, IsRefusalBy}
 
 -- the name of a subcommand stands before its rows
-name_first : {Z : Type 0} (o : Option (Box SubCommand Z)) → option_map (λ b. (out-SubCommand (box_value b)).name.now) o ≡ option_map (λ p. p.0) (subcommand_rows o)
+name_first : {Z : Type 0} (o : Option (Box SubCommand Z)) → option_map (λ b. (out-SubCommand (box_value b)).name.now) o
+    ≡ option_map (λ p. p.0) (subcommand_rows o)
 name_first None = refl
 name_first (Some b) = refl
 
 -- a subcommand whose name and rows are known
 pub found_pair : {Z : Type 0} (o : Option (Box SubCommand Z)) (name : Text) (rows : List Row)
-    → Some name ≡ option_map (λ b. (out-SubCommand (box_value b)).name.now) o → Some rows ≡ option_map (λ p. p.1) (subcommand_rows o)
+    → Some name ≡ option_map (λ b. (out-SubCommand (box_value b)).name.now) o
+    → Some rows ≡ option_map (λ p. p.1) (subcommand_rows o)
     → subcommand_rows o ≡ Some (name, rows)
 found_pair None name rows e f = absurd (true≢false (ap is_some e))
 found_pair (Some b) name rows e f = cc
@@ -35,8 +38,10 @@ alone : (P : ErrorKind → Type 0) (k : ErrorKind) → HasFault P (k ∷ []) →
 alone P k h = elim h.1 [ inl e ↦ subst P e h.2 | inr none ↦ absurd none ]
 
 -- an answer to one kind among the faults is one to the faults
-pub refused_by : (ks : Kinds) (k : ErrorKind) (fault : WordsFault) → ((k ≡ OutOfMemory) ⊎ IsAmong k ks) → IsRefusalBy (k ∷ []) fault → IsRefusalBy ks fault
-refused_by ks k (Help text) (inl e) h = elim (subst IsCallForHelp e (alone IsCallForHelp k h)) [ inl f ↦ absurd (cc) | inr f ↦ absurd (cc) ]
+pub refused_by : (ks : Kinds) (k : ErrorKind) (fault : WordsFault) → ((k ≡ OutOfMemory) ⊎ IsAmong k ks)
+    → IsRefusalBy (k ∷ []) fault → IsRefusalBy ks fault
+refused_by ks k (Help text) (inl e) h = elim (subst IsCallForHelp e (alone IsCallForHelp k h))
+    [ inl f ↦ absurd (cc) | inr f ↦ absurd (cc) ]
 refused_by ks k (Help text) (inr a) h = (k, a, alone IsCallForHelp k h)
 refused_by ks k (Usage text) (inl e) h = absurd ((alone IsMistake k h).2 e)
 refused_by ks k (Usage text) (inr a) h = (k, a, alone IsMistake k h)
@@ -56,12 +61,14 @@ widened [] more Memory h = tt
 widened (k ∷ ks) more fault h = h
 
 -- what the words ask for, by the subcommand that was found in them
-pub asked : (words : List Text) (found : Option (Text × List Row)) (name : Text) (rows : List Row) → found ≡ subcommand_of lbk_app words
+pub asked : (words : List Text) (found : Option (Text × List Row)) (name : Text) (rows : List Row)
+    → found ≡ subcommand_of lbk_app words
     → found ≡ Some (name, rows) → task_by words ≡ task_in (name, rows)
 asked words found name rows of pair = ap (option_and_then task_in) (sym of ∙ pair)
 
 -- words that `clap` takes have the faults of their task
-pub faults_are : (words : List Text) (found : Option Task) → fault_of lbk_app words ≡ [] → task_by words ≡ found → faults_of words ≡ task_fault found
+pub faults_are : (words : List Text) (found : Option Task) → fault_of lbk_app words ≡ [] → task_by words ≡ found
+    → faults_of words ≡ task_fault found
 faults_are words found clean asks = ap₂ (λ (ks : Kinds) (t : Option Task). or_else ks (task_fault t)) clean asks
 
 -- a kind that is a mistake is one by itself

@@ -30,7 +30,8 @@ writes : (n : ℕ) → n ≤ greatest_limit → Writes n (without_leading_plus (
 writes n most =
     let small : n < 2 ^ 64 = omega (arith, lit≤ {m = greatest_limit + 1} {n = 2 ^ 64} tt) in
     let it = decimal_is_IsNumeral n small in
-    subst (Writes n) (sym (without_leading_plus_none (decimal n) (no_plus (decimal n) it.0))) (record { numeral = it.0; value = it.1 })
+    subst (Writes n) (sym (without_leading_plus_none (decimal n) (no_plus (decimal n) it.0)))
+    (record { numeral = it.0; value = it.1 })
 
 -- a numeral of the range is a value of the option, is no flag, and is read as its number
 pub limit_plain : (n : ℕ) → n ≤ greatest_limit → IsPlainName (decimal n)
@@ -41,7 +42,8 @@ limit_plain n most =
 pub limit_taken : (n : ℕ) → 1 ≤ n → n ≤ greatest_limit → value_kinds false (Unsigned 1 greatest_limit) (decimal n) ≡ []
 limit_taken n least most =
     let it = writes n most in
-    let small : digits_value 10 (without_leading_plus (decimal n)) < 2 ^ 64 = omega (arith, it.value, lit≤ {m = greatest_limit + 1} {n = 2 ^ 64} tt) in
+    let small : digits_value 10 (without_leading_plus (decimal n)) < 2 ^ 64 =
+    omega (arith, it.value, lit≤ {m = greatest_limit + 1} {n = 2 ^ 64} tt) in
     let low : 1 ≤ digits_value 10 (without_leading_plus (decimal n)) = omega (arith, it.value) in
     let high : digits_value 10 (without_leading_plus (decimal n)) ≤ greatest_limit = omega (arith, it.value) in
     value_kinds-ok false (Unsigned 1 greatest_limit) (decimal n) (it.numeral, small, low, high)
@@ -49,5 +51,6 @@ limit_taken n least most =
 pub limit_read : (other n : ℕ) → n ≤ greatest_limit → n ≡ number_or other (Some (decimal n))
 limit_read other n most =
     let it = writes n most in
-    let small : digits_value 10 (without_leading_plus (decimal n)) < 2 ^ 32 = omega (arith, it.value, lit≤ {m = greatest_limit + 1} {n = 2 ^ 32} tt) in
+    let small : digits_value 10 (without_leading_plus (decimal n)) < 2 ^ 32 =
+    omega (arith, it.value, lit≤ {m = greatest_limit + 1} {n = 2 ^ 32} tt) in
     number_parsed ℕ other (decimal n) n ((it.numeral, small), sym it.value)

@@ -1,11 +1,15 @@
 -- The walk over the words of a subcommand, step by step.
-use Rattle.std.proofs.Common.{◌≡◌, ◌∙◌, ◌≢◌, ℕ, Bool, true, false, List, [], ◌∷◌, ◌++◌, Some, None, refl, sym, ap, ap₂, eqb-true}
+use Rattle.std.proofs.Common.{◌≡◌, ◌∙◌, ◌≢◌, ℕ, Bool, true, false, List, [], ◌∷◌, ◌++◌, Some, None, refl, sym, ap, ap₂}
+use Rattle.std.proofs.Common.{eqb-true}
 use Rattle.std.specs.Prelude.{◌==◌, is_some}
 use Rattle.std.specs.List.{fold}
-use Rattle.clap.specs.Walk.{Held, Names, Row, Rule, Step, Text, Waiting, Walk, after_step, arg_by_id, finished, idle, nothing_held, option, option_word, plain_word, rows_after, settled, stop_after, walk, walk_from, walked, word_met}
+use Rattle.clap.specs.Walk.{Held, Names, Row, Rule, Step, Text, Waiting, Walk, after_step, arg_by_id, finished, idle}
+use Rattle.clap.specs.Walk.{nothing_held, option, option_word, plain_word, rows_after, settled, stop_after, walk}
+use Rattle.clap.specs.Walk.{walk_from, walked, word_met}
 use Rattle.clap.specs.Simple.{App, Shape, entered, names_of}
 use Rattle.clap.specs.Kinds.{Kinds, or_else}
-use Rattle.clap.specs.Faults.{built_fault, check_fault, defaults_fault, entered_fault, level_fault, settle_fault, step_fault, turn_fault, walk_fault, word_fault}
+use Rattle.clap.specs.Faults.{built_fault, check_fault, defaults_fault, entered_fault, level_fault, settle_fault}
+use Rattle.clap.specs.Faults.{step_fault, turn_fault, walk_fault, word_fault}
 use Rattle.clap.proofs.WalkLemmas.{walk_stopped}
 use Rattle.lbk_args.specs.PlainWords.{IsPlainName}
 
@@ -32,13 +36,17 @@ abbrev pub between : Held → Waiting → Walk
 between h waiting = record { held = h; waiting = waiting; position = 1; is_trailing = false; stopped = None }
 
 pub name_walked : (c : List Rule) (id name : Text) (h : Held) → IsPlainName name
-    → walked c [] (between h (option id)) name ≡ between (option_word (arg_by_id c id) id name h).0 (option_word (arg_by_id c id) id name h).1
+    → walked c [] (between h (option id)) name ≡ between (option_word (arg_by_id c id) id name h).0
+    (option_word (arg_by_id c id) id name h).1
 unfolding walked
-name_walked c id name h plain = ap (λ (m : Held × Step). after_step c name (between h (option id)) m.0 m.1) (name_met c id 1 name h plain)
+name_walked c id name h plain = ap (λ (m : Held × Step). after_step c name (between h (option id)) m.0 m.1)
+    (name_met c id 1 name h plain)
 
-pub name_turn : (s : Shape) (id name : Text) (h : Held) → IsPlainName name → turn_fault s [] (between h (option id)) name ≡ []
+pub name_turn : (s : Shape) (id name : Text) (h : Held) → IsPlainName name
+    → turn_fault s [] (between h (option id)) name ≡ []
 name_turn s id name h plain =
-    ap₂ (λ (ks : Kinds) (m : Held × Step). or_else ks (step_fault s 1 m.0 m.1)) (name_fault s id name h plain) (name_met s.rules id 1 name h plain)
+    ap₂ (λ (ks : Kinds) (m : Held × Step). or_else ks (step_fault s 1 m.0 m.1)) (name_fault s id name h plain)
+    (name_met s.rules id 1 name h plain)
 
 -- ---- the whole walk
 
@@ -51,7 +59,8 @@ pub done : (s : Shape) (w : Walk) → Walks s w [] w
 unfolding walk_fault
 done s w = record { walks = refl; clean = refl }
 
-pub step : (s : Shape) (w after end : Walk) (word : Text) (rest : List Text) → walked s.rules [] w word ≡ after → turn_fault s [] w word ≡ []
+pub step : (s : Shape) (w after end : Walk) (word : Text) (rest : List Text) → walked s.rules [] w word ≡ after
+    → turn_fault s [] w word ≡ []
     → Walks s after rest end → Walks s w (word ∷ rest) end
 unfolding walk_fault
 step s w after end word rest goes clean further = record {
@@ -61,13 +70,16 @@ step s w after end word rest goes clean further = record {
 
 -- an option and the name behind it
 pub pair : (s : Shape) (h opened held : Held) (id word name : Text) (rest : List Text) (end : Walk)
-    → walked s.rules [] (between h idle) word ≡ between opened (option id) → turn_fault s [] (between h idle) word ≡ [] → IsPlainName name
-    → ◌≡◌ {A = Held × Waiting} (option_word (arg_by_id s.rules id) id name opened) (held, idle) → Walks s (between held idle) rest end
+    → walked s.rules [] (between h idle) word ≡ between opened (option id) → turn_fault s [] (between h idle) word ≡ []
+    → IsPlainName name
+    → ◌≡◌ {A = Held × Waiting} (option_word (arg_by_id s.rules id) id name opened) (held, idle)
+    → Walks s (between held idle) rest end
     → Walks s (between h idle) (word ∷ name ∷ rest) end
 pair s h opened held id word name rest end goes clean plain takes further =
     step s (between h idle) (between opened (option id)) end word (name ∷ rest) goes clean
     (step s (between opened (option id)) (between held idle) end name rest
-    (name_walked s.rules id name opened plain ∙ ap (λ (p : Held × Waiting). between p.0 p.1) takes) (name_turn s id name opened plain) further)
+    (name_walked s.rules id name opened plain ∙ ap (λ (p : Held × Waiting). between p.0 p.1) takes)
+    (name_turn s id name opened plain) further)
 
 -- a subcommand takes the words, and has these rows
 pub record Takes (s : Shape) (words : List Text) (rows : List Row) : Type 0 where
@@ -75,12 +87,15 @@ pub record Takes (s : Shape) (words : List Text) (rows : List Row) : Type 0 wher
   pub rows_are : rows_after s.rules [] words ≡ rows
 
 pub taken : (s : Shape) (words : List Text) (end : Walk) → Walks s (walk_from nothing_held) words end
-    → settle_fault s.rules s.args_override_self end.held ≡ [] → defaults_fault (settled s.rules end.held).rows s.rules ≡ []
+    → settle_fault s.rules s.args_override_self end.held ≡ [] → defaults_fault (settled s.rules end.held).rows s.rules
+    ≡ []
     → check_fault s (finished s.rules end.held) false ≡ [] → Takes s words (finished s.rules end.held)
 taken s words end walks settles defaults checks = record {
   clean = ap₂ (λ (ks : Kinds) (v : Walk). or_else ks (or_else (settle_fault s.rules s.args_override_self v.held)
-      (or_else (defaults_fault (settled s.rules v.held).rows s.rules) (check_fault s (finished s.rules v.held) false)))) walks.clean walks.walks
-      ∙ ap (λ (ks : Kinds). or_else ks (or_else (defaults_fault (settled s.rules end.held).rows s.rules) (check_fault s (finished s.rules end.held) false))) settles
+      (or_else (defaults_fault (settled s.rules v.held).rows s.rules) (check_fault s (finished s.rules v.held) false))))
+      walks.clean walks.walks
+      ∙ ap (λ (ks : Kinds). or_else ks (or_else (defaults_fault (settled s.rules end.held).rows s.rules)
+      (check_fault s (finished s.rules end.held) false))) settles
       ∙ ap (λ (ks : Kinds). or_else ks (check_fault s (finished s.rules end.held) false)) defaults ∙ checks;
   rows_are = ap (λ (v : Walk). finished s.rules v.held) walks.walks;
 }
@@ -91,7 +106,8 @@ abbrev stopped_at : Text → List Text → Walk
 stopped_at name words = record (walk_from nothing_held) { stopped = Some (name, words) }
 
 -- words behind the subcommand are left to it
-left_alone : (s : Shape) (names : Names) (w : Walk) (name : Text) (seen words : List Text) → walk_fault s names (record w { stopped = Some (name, seen) }) words ≡ []
+left_alone : (s : Shape) (names : Names) (w : Walk) (name : Text) (seen words : List Text)
+    → walk_fault s names (record w { stopped = Some (name, seen) }) words ≡ []
 unfolding walk_fault walked
 left_alone s names w name seen [] = refl
 left_alone s names w name seen (word ∷ words) = left_alone s names w name (seen ++ word ∷ []) words
@@ -102,7 +118,8 @@ pub record Enters (a : App) (name : Text) : Type 0 where
   pub clean : turn_fault a.top (names_of a) (walk_from nothing_held) name ≡ []
   pub defaults : defaults_fault [] a.top.rules ≡ []
 
-top_walk : (a : App) (name : Text) (words : List Text) → Enters a name → walk a.top.rules (names_of a) nothing_held (name ∷ words) ≡ stopped_at name words
+top_walk : (a : App) (name : Text) (words : List Text) → Enters a name
+    → walk a.top.rules (names_of a) nothing_held (name ∷ words) ≡ stopped_at name words
 top_walk a name words enters =
     ap (λ (v : Walk). fold (walked a.top.rules (names_of a)) v words) enters.walks
     ∙ sym (walk_stopped a.top.rules (names_of a) (walk_from nothing_held) name [] words)
@@ -111,7 +128,8 @@ pub entered_rows : (a : App) (name : Text) (words : List Text) → Enters a name
     → entered a (stop_after a.top.rules (names_of a) (name ∷ words)) ≡ entered a (Some (name, words))
 entered_rows a name words enters = ap (λ (v : Walk). entered a v.stopped) (top_walk a name words enters)
 
-pub entered_clean : (a : App) (name : Text) (words : List Text) → Enters a name → entered_fault a (Some (name, words)) ≡ []
+pub entered_clean : (a : App) (name : Text) (words : List Text) → Enters a name
+    → entered_fault a (Some (name, words)) ≡ []
     → check_fault a.top (finished a.top.rules nothing_held) (is_some (entered a (Some (name, words)))) ≡ []
     → built_fault a nothing_held (name ∷ words) ≡ []
 unfolding walk_fault
@@ -126,5 +144,6 @@ entered_clean a name words enters below checks =
     ap₂ over (top_walk a name words enters) clean
     ∙ ap (λ (ks : Kinds). or_else ks (or_else (defaults_fault [] a.top.rules)
     (check_fault a.top (finished a.top.rules nothing_held) (is_some (entered a (Some (name, words))))))) below
-    ∙ ap (λ (ks : Kinds). or_else ks (check_fault a.top (finished a.top.rules nothing_held) (is_some (entered a (Some (name, words)))))) enters.defaults
+    ∙ ap (λ (ks : Kinds). or_else ks (check_fault a.top (finished a.top.rules nothing_held)
+    (is_some (entered a (Some (name, words)))))) enters.defaults
     ∙ checks

@@ -1,5 +1,6 @@
 -- What the typed getters of the matches read is what the definitions read of the rows.
-use Rattle.std.proofs.Common.{◌≡◌, ◌^◌, ℕ, Bool, true, false, List, [], ◌∷◌, length, Option, Some, None, Result, Ok, Err, refl, sym, nat_lt, lt-ltb, ltb-true, codes}
+use Rattle.std.proofs.Common.{◌≡◌, ◌^◌, ℕ, Bool, true, false, List, [], ◌∷◌, length, Option, Some, None, Result, Ok}
+use Rattle.std.proofs.Common.{Err, refl, sym, nat_lt, lt-ltb, ltb-true, codes}
 use Rattle.std.specs.Option.{unwrap_or}
 use Rattle.std.specs.List.{list_all}
 use Rattle.std.specs.Char.{digit_value}
@@ -20,12 +21,14 @@ digits_from (d ∷ ds) e =
     let parts = both _ _ e in
     (ltb-true _ _ parts.0, digits_from ds parts.1)
 
-pub number_parsed : (E : Type 0) (other : ℕ) (text : Text) (n : ℕ) → ParsesUnsigned {E = E} 32 10 text (Ok n) → n ≡ number_or other (Some text)
+pub number_parsed : (E : Type 0) (other : ℕ) (text : Text) (n : ℕ) → ParsesUnsigned {E = E} 32 10 text (Ok n)
+    → n ≡ number_or other (Some text)
 number_parsed E other text n h =
     let ds = without_leading_plus text in
     rw (lt-ltb 0 (length ds) h.0.0.0, digits_pass ds h.0.0.1, lt-ltb (digits_value 10 ds) (2 ^ 32) h.0.1) h.1
 
-number_refused : (E : Type 0) (other : ℕ) (text : Text) (e : E) → ParsesUnsigned {E = E} 32 10 text (Err e) → other ≡ number_or other (Some text)
+number_refused : (E : Type 0) (other : ℕ) (text : Text) (e : E) → ParsesUnsigned {E = E} 32 10 text (Err e)
+    → other ≡ number_or other (Some text)
 number_refused E other text e h = go (is_number text) refl
   where
     go : (b : Bool) → is_number text ≡ b → other ≡ number_or other (Some text)
@@ -38,9 +41,11 @@ number_refused E other text e h = go (is_number text) refl
 -- a number, or the other where there is none
 pub number_read : {E : Type 0} (gives : Text → Result ℕ E → Type 0) (other : ℕ) (found : Option Text) (r : Option ℕ)
     → ((t : Text) (x : Result ℕ E) → gives t x → ParsesUnsigned {E = E} 32 10 t x)
-    → (found ≡ None → r ≡ None) → ((t : Text) → found ≡ Some t → ReadsOne gives t r) → unwrap_or r other ≡ number_or other found
+    → (found ≡ None → r ≡ None) → ((t : Text) → found ≡ Some t → ReadsOne gives t r)
+    → unwrap_or r other ≡ number_or other found
 number_read {E} gives other None r parses none some = rw (none refl) refl
-number_read {E} gives other (Some text) (Some n) parses none some = number_parsed E other text n (parses text (Ok n) (some text refl))
+number_read {E} gives other (Some text) (Some n) parses none some =
+    number_parsed E other text n (parses text (Ok n) (some text refl))
 number_read {E} gives other (Some text) None parses none some =
     let failed = some text refl in
     number_refused E other text failed.0 (parses text (Err failed.0) failed.1)

@@ -1,5 +1,6 @@
 -- A call that reads the next passage.
-use Rattle.std.proofs.Common.{◌≡◌, ℕ, ◌+◌, ◌<◌, ◌≤◌, ◌⊎◌, ◌^◌, ◌-◌, cond, inl, inr, not, Bool, true, false, List, [], length, map, Option, None, Some, Result, Ok, Err, IsUtf8, refl, sym, ap, subst, arith}
+use Rattle.std.proofs.Common.{◌≡◌, ℕ, ◌+◌, ◌<◌, ◌≤◌, ◌⊎◌, ◌^◌, ◌-◌, cond, inl, inr, not, Bool, true, false, List, []}
+use Rattle.std.proofs.Common.{length, map, Option, None, Some, Result, Ok, Err, IsUtf8, refl, sym, ap, subst, arith}
 use Rattle.lbk_feed.specs.Devices.{Reads}
 use Rattle.lbk_feed.specs.Text.{longest_text}
 use Rattle.lbk_chunks.specs.Coming.{AreBreaksPast}
@@ -18,24 +19,30 @@ use Rattle.lbk_chunk_reader.specs.Standing.{Stands, view_with}
 use Rattle.lbk_chunk_reader.specs.Taking.{Takes, TakesNext}
 use Rattle.lbk_chunk_reader.specs.Window.{IsTaken}
 use Rattle.lbk_chunk_reader.proofs.BetweenLemmas.{breaks-past-from, passage-breaks}
-use Rattle.lbk_chunk_reader.proofs.ReaderLemmas.{ended-start, goes-ended, goes-stopped, goes-taken, rises, stands-ended, stands-taken}
+use Rattle.lbk_chunk_reader.proofs.ReaderLemmas.{ended-start, goes-ended, goes-stopped, goes-taken, rises, stands-ended}
+use Rattle.lbk_chunk_reader.proofs.ReaderLemmas.{stands-taken}
 use Rattle.lbk_chunk_reader.proofs.WordLemmas.{text-joined, text-words-few}
 
 -- the passage that a segmenter lends
-pub regular : (s : State) (ms : List Marked) (p : Passage) (words : ℕ) → IsPassage s ms p → words ≤ p.start → p.start + length p.text.now ≤ longest_text
+pub regular : (s : State) (ms : List Marked) (p : Passage) (words : ℕ) → IsPassage s ms p → words ≤ p.start
+    → p.start + length p.text.now ≤ longest_text
     → IsRegular p.start words p.segments.now p.pieces.now
 regular s ms p words is below counted =
     let few = text-words-few s.cell p.start (text_of ms) (subst IsUtf8 is.text is.utf8) in
     let size = ap length is.text in
     record {
-      few = subst (λ ps. words + length (words_in_pieces p.start ps) < 2 ^ 64) (sym is.pieces) (omega (arith, few, size, below, counted));
+      few = subst (λ ps. words + length (words_in_pieces p.start ps) < 2 ^ 64) (sym is.pieces)
+          (omega (arith, few, size, below, counted));
       joined = subst (AreJoined 0) (sym is.pieces) (text-joined s.cell (text_of ms));
       rising = subst (λ l. AreBreaksPast p.start (map (break_at p.start) l)) (sym is.segments)
-          (breaks-past-from p.start (map (break_at p.start) (segments_of ms)) (p.start + length (text_of ms)) (passage-breaks p.start ms));
+          (breaks-past-from p.start (map (break_at p.start) (segments_of ms)) (p.start + length (text_of ms))
+          (passage-breaks p.start ms));
     }
 
-pub takes-some : (s t : State) (u v : Option (List ℕ)) (e1 e2 : Bool) (r1 r2 : Reads) (f1 f2 : ℕ) (w w' : Window) (p : Passage) → AfterNext s t u v e1 e2 r1 r2 (Ok (Some p))
-    → f2 ≡ f1 → w.words ≤ s.start → (IsRegular p.start w.words p.segments.now p.pieces.now → IsTaken p w w') → TakesNext s t u v e1 e2 r1 r2 f1 f2 w w' (Ok true)
+pub takes-some : (s t : State) (u v : Option (List ℕ)) (e1 e2 : Bool) (r1 r2 : Reads) (f1 f2 : ℕ) (w w' : Window)
+    (p : Passage) → AfterNext s t u v e1 e2 r1 r2 (Ok (Some p))
+    → f2 ≡ f1 → w.words ≤ s.start → (IsRegular p.start w.words p.segments.now p.pieces.now → IsTaken p w w')
+    → TakesNext s t u v e1 e2 r1 r2 f1 f2 w w' (Ok true)
 takes-some s t u v e1 e2 r1 r2 f1 f2 w w' p a failed few taken =
     let lent : Lends s t p = a.answer in
     let start = lent.start in
@@ -44,20 +51,27 @@ takes-some s t u v e1 e2 r1 r2 f1 f2 w w' p a failed few taken =
       lent = Ok (Some p);
       after = a;
       failed = failed;
-      takes = (refl, taken (regular s lent.marks p w.words lent.passage (omega (arith, few, start)) (omega (arith, counted, start))));
+      takes = (
+        refl,
+        taken (regular s lent.marks p w.words lent.passage (omega (arith, few, start))
+            (omega (arith, counted, start))),
+      );
     }
 
-module _ (s t : State) (u v : Option (List ℕ)) (e1 e2 : Bool) (r1 r2 : Reads) (f1 f2 : ℕ) (w w' : Window) (st : Stands w s false) where
+module _ (s t : State) (u v : Option (List ℕ)) (e1 e2 : Bool) (r1 r2 : Reads) (f1 f2 : ℕ) (w w' : Window)
+    (st : Stands w s false) where
   -- what a call comes to that does not fail
   abbrev pub Came : Bool → Type 0
-  Came came = Goes (view_with w s) (view_with w' t) false u v [] × Progresses (view_with w s) (view_with w' t) (not came) × Stands w' t (not came)
+  Came came = Goes (view_with w s) (view_with w' t) false u v []
+      × Progresses (view_with w s) (view_with w' t) (not came) × Stands w' t (not came)
 
   pub read-came : (came : Bool) → TakesNext s t u v e1 e2 r1 r2 f1 f2 w w' (Ok came) → Came came
   read-came came k = by k.lent k.after k.takes
     where
       none : w' ≡ w → AfterNext s t u v e1 e2 r1 r2 (Ok None) → Came false
       none same a =
-          subst (λ x. Goes (view_with w s) (view_with x t) false u v [] × Progresses (view_with w s) (view_with x t) true × Stands x t true) (sym same) (
+          subst (λ x. Goes (view_with w s) (view_with x t) false u v []
+          × Progresses (view_with w s) (view_with x t) true × Stands x t true) (sym same) (
             goes-ended s t u v e1 e2 r1 r2 w a,
             inl (refl, ended-start s t u v e1 e2 r1 r2 w a),
             stands-ended s t u v e1 e2 r1 r2 w a st,
@@ -71,15 +85,18 @@ module _ (s t : State) (u v : Option (List ℕ)) (e1 e2 : Bool) (r1 r2 : Reads) 
             stands-taken s t u v e1 e2 r1 r2 w w' p a taken st,
           )
 
-      by : (lent : Result (Option Passage) PassageFault) → AfterNext s t u v e1 e2 r1 r2 lent → Takes lent w w' (Ok came) → Came came
+      by : (lent : Result (Option Passage) PassageFault) → AfterNext s t u v e1 e2 r1 r2 lent
+          → Takes lent w w' (Ok came) → Came came
       by (Ok (Some p)) a takes = subst Came (sym takes.0) (some p a takes.1)
       by (Ok None) a takes = subst Came (let same : false ≡ came = cc in same) (none takes.1 a)
       by (Err why) a takes = absurd (let no : ⊥ = cc in no)
 
-  pub read-stopped : (why : PassageFault) → TakesNext s t u v e1 e2 r1 r2 f1 f2 w w' (Err why) → IsStopped (view_with w s) (view_with w' t) u v false why
+  pub read-stopped : (why : PassageFault) → TakesNext s t u v e1 e2 r1 r2 f1 f2 w w' (Err why)
+      → IsStopped (view_with w s) (view_with w' t) u v false why
   read-stopped why k = by k.lent k.after k.takes
     where
-      by : (lent : Result (Option Passage) PassageFault) → AfterNext s t u v e1 e2 r1 r2 lent → Takes lent w w' (Err why)
+      by : (lent : Result (Option Passage) PassageFault) → AfterNext s t u v e1 e2 r1 r2 lent
+          → Takes lent w w' (Err why)
           → IsStopped (view_with w s) (view_with w' t) u v false why
       by (Ok (Some p)) a takes = subst (IsStopped (view_with w s) (view_with w' t) u v false) (sym takes) tt
       by (Ok None) a takes = absurd (let no : ⊥ = cc in no)
@@ -89,7 +106,8 @@ module _ (s t : State) (u v : Option (List ℕ)) (e1 e2 : Bool) (r1 r2 : Reads) 
           (goes-stopped s t u v e1 e2 r1 r2 w f a st.unspent))
 
 -- a call makes the measure of a run smaller
-pub progress : (old new : ℕ) (was is : Bool) → was ≡ false → ((is ≡ true) × (new ≡ old)) ⊎ ((is ≡ false) × (old < new) × (new ≤ longest_text))
+pub progress : (old new : ℕ) (was is : Bool) → was ≡ false → ((is ≡ true) × (new ≡ old))
+    ⊎ ((is ≡ false) × (old < new) × (new ≤ longest_text))
     → cond is 0 1 + (longest_text + 1 - new) < cond was 0 1 + (longest_text + 1 - old)
 progress old new was is going (inl (whole, same)) =
     let before = ap {B = ℕ} (λ (b : Bool). cond b 0 1) going in

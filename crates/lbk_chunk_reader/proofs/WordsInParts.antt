@@ -1,5 +1,6 @@
 -- The words of the parts of a text of any bytes, joined.
-use Rattle.std.proofs.Common.{◌≡◌, ℕ, ◌+◌, ◌≤◌, true, false, cond, List, [], ◌∷◌, ◌++◌, length, map, take, drop, refl, sym, ap, ap₂, ◌∙◌, arith, length-append, length-drop, take-append-drop}
+use Rattle.std.proofs.Common.{◌≡◌, ℕ, ◌+◌, ◌≤◌, true, false, cond, List, [], ◌∷◌, ◌++◌, length, map, take, drop, refl}
+use Rattle.std.proofs.Common.{sym, ap, ap₂, ◌∙◌, arith, length-append, length-drop, take-append-drop}
 use Rattle.std.specs.List.{concat, flat_map}
 use Rattle.std.proofs.lemmas.List.{drop-append-le, length-map, map-append, take-append-le}
 use Rattle.std.proofs.lemmas.Grind.{flat_map-append}
@@ -40,12 +41,17 @@ joined-parts cell first second agree must =
     let whole = parts-of-passages First cell agree in
     whole (first ++ second)
     ∙ ap parts_in (joined-passages First cell first second must)
-    ∙ flat_map-append (λ p. parts_of (scalars_of p)) (with_last (ended (end_before_more cell first)) (passages First cell first)) (passages First cell second)
-    ∙ ap₂ (λ xs ys. xs ++ ys) (same-parts (end_before_more cell first) (passages First cell first) ∙ sym (whole first)) (sym (whole second))
+    ∙ flat_map-append (λ p. parts_of (scalars_of p))
+    (with_last (ended (end_before_more cell first)) (passages First cell first)) (passages First cell second)
+    ∙ ap₂ (λ xs ys. xs ++ ys) (same-parts (end_before_more cell first) (passages First cell first) ∙ sym (whole first))
+    (sym (whole second))
 
-among-append : (at : ℕ) (reads more : List Decoded) (parts others : List (List ℕ)) → length (concat parts) ≡ length reads
-    → words_among at (reads ++ more) (parts ++ others) ≡ words_among at reads parts ++ words_among (at + bytes_of reads) more others
-among-append at [] more [] others same = ap (λ n. words_among n more others) (let place : at ≡ at + 0 = omega arith in place)
+among-append : (at : ℕ) (reads more : List Decoded) (parts others : List (List ℕ))
+    → length (concat parts) ≡ length reads
+    → words_among at (reads ++ more) (parts ++ others) ≡ words_among at reads parts ++ words_among (at + bytes_of reads)
+    more others
+among-append at [] more [] others same =
+    ap (λ n. words_among n more others) (let place : at ≡ at + 0 = omega arith in place)
 among-append at (r ∷ reads) more [] others same = absurd (let no : ⊥ = omega arith in no)
 among-append at reads more (part ∷ parts) others same =
     let n = length part in
@@ -55,30 +61,38 @@ among-append at reads more (part ∷ parts) others same =
     let end = at + bytes_of (take n reads) in
     let size = ap bytes_of (sym (take-append-drop n reads)) ∙ bytes-append (take n reads) (drop n reads) in
     let place : end + bytes_of (drop n reads) ≡ at + bytes_of reads = omega arith in
-    let rest : words_among end (drop n reads ++ more) (parts ++ others) ≡ words_among end (drop n reads) parts ++ words_among (at + bytes_of reads) more others =
+    let rest : words_among end (drop n reads ++ more) (parts ++ others) ≡ words_among end (drop n reads) parts
+    ++ words_among (at + bytes_of reads) more others =
     among-append end (drop n reads) more parts others (omega (arith, length-drop n reads))
     ∙ ap (λ k. words_among end (drop n reads) parts ++ words_among k more others) place in
-    ap₂ (λ f b. cond (has_letter part) (record { start = at; end = at + bytes_of f } ∷ words_among (at + bytes_of f) b (parts ++ others))
+    ap₂ (λ f b. cond (has_letter part) (record { start = at; end = at + bytes_of f } ∷ words_among (at + bytes_of f) b
+    (parts ++ others))
     (words_among (at + bytes_of f) b (parts ++ others))) front behind
     ∙ ap (λ l. cond (has_letter part) (record { start = at; end = end } ∷ l) l) rest
     ∙ elim (has_letter part)
-    as (λ b. cond b (record { start = at; end = end } ∷ (words_among end (drop n reads) parts ++ words_among (at + bytes_of reads) more others))
+    as (λ b. cond b (record { start = at; end = end }
+    ∷ (words_among end (drop n reads) parts ++ words_among (at + bytes_of reads) more others))
     (words_among end (drop n reads) parts ++ words_among (at + bytes_of reads) more others)
-    ≡ cond b (record { start = at; end = end } ∷ words_among end (drop n reads) parts) (words_among end (drop n reads) parts)
+    ≡ cond b (record { start = at; end = end } ∷ words_among end (drop n reads) parts)
+    (words_among end (drop n reads) parts)
     ++ words_among (at + bytes_of reads) more others)
     [ true ↦ refl | false ↦ refl ]
 
-among-moved : (place at : ℕ) (reads : List Decoded) (parts : List (List ℕ)) → words_among (place + at) reads parts ≡ map (moved_word place) (words_among at reads parts)
+among-moved : (place at : ℕ) (reads : List Decoded) (parts : List (List ℕ))
+    → words_among (place + at) reads parts ≡ map (moved_word place) (words_among at reads parts)
 among-moved place at reads [] = refl
 among-moved place at reads (part ∷ parts) =
     let n = length part in
     let end = at + bytes_of (take n reads) in
     let there : place + at + bytes_of (take n reads) ≡ place + end = omega arith in
     let rest = words_among end (drop n reads) parts in
-    ap (λ k. cond (has_letter part) (record { start = place + at; end = k } ∷ words_among k (drop n reads) parts) (words_among k (drop n reads) parts)) there
-    ∙ ap (λ l. cond (has_letter part) (record { start = place + at; end = place + end } ∷ l) l) (among-moved place end (drop n reads) parts)
+    ap (λ k. cond (has_letter part) (record { start = place + at; end = k } ∷ words_among k (drop n reads) parts)
+    (words_among k (drop n reads) parts)) there
+    ∙ ap (λ l. cond (has_letter part) (record { start = place + at; end = place + end } ∷ l) l)
+    (among-moved place end (drop n reads) parts)
     ∙ elim (has_letter part)
-    as (λ b. cond b (record { start = place + at; end = place + end } ∷ map (moved_word place) rest) (map (moved_word place) rest)
+    as (λ b. cond b (record { start = place + at; end = place + end } ∷ map (moved_word place) rest)
+    (map (moved_word place) rest)
     ≡ map (moved_word place) (cond b (record { start = at; end = end } ∷ rest) rest))
     [ true ↦ refl | false ↦ refl ]
 
@@ -87,7 +101,8 @@ unfolding sizes
 bytes-sizes [] = refl
 bytes-sizes (p ∷ ps) = ap (λ n. p.size + n) (bytes-sizes ps)
 
-pub words-in-parts : (cell : ℕ → Cell) (text : List ℕ) (place : ℕ) → AgreeOnLines cell → place ≤ length text → EndsBefore cell text place
+pub words-in-parts : (cell : ℕ → Cell) (text : List ℕ) (place : ℕ) → AgreeOnLines cell → place ≤ length text
+    → EndsBefore cell text place
     → words_of text ≡ words_of (take place text) ++ map (moved_word place) (words_of (drop place text))
 words-in-parts cell text place agree within ends =
     let before = pieces (take place text) in
@@ -95,7 +110,8 @@ words-in-parts cell text place agree within ends =
     let size = bytes-sizes before ∙ sizes-front text place within in
     let at : 0 + bytes_of before ≡ place + 0 = omega arith in
     ap (λ ps. words_among 0 ps (parts_of (scalars_read ps))) ends.0
-    ∙ ap (λ cs. words_among 0 (before ++ behind) (parts_of cs)) (map-append (λ (p : Decoded). or_replacement p.char) before behind)
+    ∙ ap (λ cs. words_among 0 (before ++ behind) (parts_of cs))
+    (map-append (λ (p : Decoded). or_replacement p.char) before behind)
     ∙ ap (words_among 0 (before ++ behind)) (joined-parts cell (scalars_read before) (scalars_read behind) agree ends.1)
     ∙ among-append 0 before behind (parts_of (scalars_read before)) (parts_of (scalars_read behind))
     (ap length (concat-parts [] (scalars_read before) []) ∙ length-map before (λ (p : Decoded). or_replacement p.char))

@@ -22,4 +22,5 @@ ends_between_words last next = false
 
 -- a word boundary is wherever, by the cells' classes, a line must end between two scalars
 abbrev pub AgreeOnLines : (ℕ → Cell) → Type 0
-AgreeOnLines cell = (c d : ℕ) → ends_between (cell c).class (cell d).class ≡ true → ends_between_words (word_break c) (word_break d) ≡ true
+AgreeOnLines cell = (c d : ℕ) → ends_between (cell c).class (cell d).class ≡ true
+    → ends_between_words (word_break c) (word_break d) ≡ true

@@ -19,7 +19,8 @@ start_among_known l here end [] told = start_at end end.at
 start_among_known l here end (next ∷ _) told = start_among end (find (may_start l here end next) told)
 
 -- the chunk from a start on, the start after it, and the cuts past that
-pub record IsNextChunk (l : Limits) (here : Here) (cuts : List Cut) (chunk : Chunk) (next : Here) (left : List Cut) : Type 0 where
+pub record IsNextChunk (l : Limits) (here : Here) (cuts : List Cut) (chunk : Chunk) (next : Here) (left : List Cut) :
+    Type 0 where
   pub first : Cut
   pub more : List Cut
   pub are : cuts_past here.told cuts ≡ first ∷ more

@@ -13,7 +13,8 @@ use Rattle.lbk_chunks.specs.Cuts.{cuts_among}
 
 -- the cuts of a passage with these segments and pieces that begins at byte `start`, after so many words
 abbrev pub cuts_between : ℕ → ℕ → List Segment → List Piece → List Cut
-cuts_between start words segments pieces = cuts_among words (words_in_pieces start pieces) (map (break_at start) segments)
+cuts_between start words segments pieces =
+    cuts_among words (words_in_pieces start pieces) (map (break_at start) segments)
 
 -- the cuts of passages, given by their marks; the first begins at byte `start`, after so many words
 abbrev pub cuts_of_passages : (ℕ → Cell) → ℕ → ℕ → List (List Marked) → List Cut

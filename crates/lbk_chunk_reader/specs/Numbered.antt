@@ -9,4 +9,11 @@ abbrev pub numbered : Cut → spec_cut.Cut
 numbered c = record { at = c.at; words = c.words; kind = kind_number c.kind; rule = rule_number c.rule }
 
 abbrev pub numbered_chunk : Chunk → spec.Chunk
-numbered_chunk c = record { start = c.start; end = c.end; words = c.words; kind = kind_number c.kind; rule = rule_number c.rule; alone = c.alone }
+numbered_chunk c = record {
+  start = c.start;
+  end = c.end;
+  words = c.words;
+  kind = kind_number c.kind;
+  rule = rule_number c.rule;
+  alone = c.alone;
+}

@@ -24,7 +24,8 @@ pub record ArePassed (start at count : ℕ) (pieces : List Piece) (counted : ℕ
   pub joined : AreJoined from left
   pub same : counted + length (words_in_pieces start left) ≡ count + length (words_in_pieces start pieces)
   pub cuts : (b : Break) (bs : List Break) → at ≤ b.at → AreBreaksPast b.at bs
-      → cuts_among counted (words_in_pieces start left) (b ∷ bs) ≡ cuts_among count (words_in_pieces start pieces) (b ∷ bs)
+      → cuts_among counted (words_in_pieces start left) (b ∷ bs) ≡ cuts_among count (words_in_pieces start pieces)
+      (b ∷ bs)
 
 -- what a passage with these segments and pieces has, if it begins at byte `start`, after so many words
 pub record IsRegular (start words : ℕ) (segments : List Segment) (pieces : List Piece) : Type 0 where

@@ -1,5 +1,6 @@
 -- What a chunker shows, and what a call returns.
-use Rattle.std.specs.Prelude.{◌≡◌, ◌⊎◌, ℕ, ◌<◌, ◌≤◌, Bool, true, false, List, [], ◌∷◌, ◌++◌, Option, None, Some, Result, Ok, Err, encode_utf8_all}
+use Rattle.std.specs.Prelude.{◌≡◌, ◌⊎◌, ℕ, ◌<◌, ◌≤◌, Bool, true, false, List, [], ◌∷◌, ◌++◌, Option, None, Some, Result}
+use Rattle.std.specs.Prelude.{Ok, Err, encode_utf8_all}
 use Rattle.std.specs.Str.{IsUtf8}
 use Rattle.lbk_feed.specs.Runs.{Took}
 use Rattle.lbk_feed.specs.Text.{longest_text}
@@ -29,11 +30,18 @@ pub record View : Type 0 where
 
 -- before any call
 abbrev pub new_view : (ℕ → Cell) → Profile → Limits → ℕ → View
-new_view cell profile limits limit = record { limits = limits; cuts = []; here = text_start; passages = new_state cell profile limit; words = 0 }
+new_view cell profile limits limit = record {
+  limits = limits;
+  cuts = [];
+  here = text_start;
+  passages = new_state cell profile limit;
+  words = 0;
+}
 
 -- the cuts held, and those of the scalars that are left
 abbrev pub cuts_with : View → List ℕ → List Cut
-cuts_with v scalars = v.cuts ++ cuts_of_passages v.passages.cell v.passages.start v.words (passages v.passages.profile v.passages.cell scalars)
+cuts_with v scalars = v.cuts ++ cuts_of_passages v.passages.cell v.passages.start v.words
+    (passages v.passages.profile v.passages.cell scalars)
 
 -- if these are the bytes of the scalars that are left, some of them held, then these chunks are left
 abbrev pub ChunksCome : View → List ℕ → List Chunk → Type 0
@@ -70,9 +78,12 @@ IsStopped old new unread unread' was_spent Read = Goes old new true unread unrea
 IsStopped old new unread unread' was_spent fault = Goes old new false unread unread' [] × Stops new.passages fault
 
 -- what a call returns: the next chunk; none if all were returned; or a fault
-abbrev pub Answers : View → View → Option (List ℕ) → Option (List ℕ) → Bool → Result (Option given.Chunk) PassageFault → Type 0
-Answers old new unread unread' was_spent (Ok (Some chunk)) = Goes old new false unread unread' (numbered_chunk chunk ∷ [])
-Answers old new unread unread' was_spent (Ok None) = Goes old new false unread unread' [] × IsDone new.passages × ChunksCome new [] []
+abbrev pub Answers : View → View → Option (List ℕ) → Option (List ℕ) → Bool → Result (Option given.Chunk) PassageFault
+    → Type 0
+Answers old new unread unread' was_spent (Ok (Some chunk)) =
+    Goes old new false unread unread' (numbered_chunk chunk ∷ [])
+Answers old new unread unread' was_spent (Ok None) = Goes old new false unread unread' [] × IsDone new.passages
+    × ChunksCome new [] []
 Answers old new unread unread' was_spent (Err fault) = IsStopped old new unread unread' was_spent fault
 
 -- a passage was read, or the last one was
@@ -81,6 +92,7 @@ Progresses old new is_whole = ((is_whole ≡ true) × (new.passages.start ≡ ol
     ⊎ ((is_whole ≡ false) × (old.passages.start < new.passages.start) × (new.passages.start ≤ longest_text))
 
 -- a call that reads the next passage
-abbrev pub ReadsOn : {X : Type 0} → View → View → Option (List ℕ) → Option (List ℕ) → Bool → Result X PassageFault → Type 0
+abbrev pub ReadsOn : {X : Type 0} → View → View → Option (List ℕ) → Option (List ℕ) → Bool → Result X PassageFault
+    → Type 0
 ReadsOn old new unread unread' is_whole (Ok x) = Goes old new false unread unread' [] × Progresses old new is_whole
 ReadsOn old new unread unread' is_whole (Err fault) = IsStopped old new unread unread' false fault

@@ -15,25 +15,31 @@ EndsLast l here cuts (first ∷ more) = cuts_past (end_of l here first more).at 
 
 -- these cuts settle no chunk from here on: all cuts ahead fit, or none is past its end
 abbrev pub IsOpen : Limits → Here → List Cut → Type 0
-IsOpen l here cuts = (list_all (fits l here) (cuts_past here.told cuts) ≡ true) ⊎ EndsLast l here cuts (cuts_past here.told cuts)
+IsOpen l here cuts = (list_all (fits l here) (cuts_past here.told cuts) ≡ true)
+    ⊎ EndsLast l here cuts (cuts_past here.told cuts)
 
 -- with these cuts the chunks from one start on are these, and then those from another start on, with these cuts left
-pub record GoOn (l : Limits) (here : Here) (cuts : List Cut) (chunks : List Chunk) (next : Here) (left : List Cut) : Type 0 where
+pub record GoOn (l : Limits) (here : Here) (cuts : List Cut) (chunks : List Chunk) (next : Here) (left : List Cut) :
+    Type 0 where
   pub left_are : left ≡ cuts_past next.start cuts
   pub rising : AreCutsPast next.start left
   pub forward : here.start ≤ next.start
   pub told : here.start ≤ here.told → next.start ≤ next.told
-  pub come : (later : List Chunk) → here.start ≤ here.told → AreChunks l left next later → AreChunks l cuts here (chunks ++ later)
+  pub come : (later : List Chunk) → here.start ≤ here.told → AreChunks l left next later
+      → AreChunks l cuts here (chunks ++ later)
 
 -- these cuts settle these chunks from one start up to another, whatever cuts follow, unless there are no others
-pub record Settle (l : Limits) (is_whole : Bool) (here : Here) (cuts : List Cut) (chunks : List Chunk) (next : Here) (left : List Cut) : Type 0 where
-  pub go_on : (more : List Cut) → (is_whole ≡ true → more ≡ []) → AreCutsPast here.start (cuts ++ more) → GoOn l here (cuts ++ more) chunks next (left ++ more)
+pub record Settle (l : Limits) (is_whole : Bool) (here : Here) (cuts : List Cut) (chunks : List Chunk) (next : Here)
+    (left : List Cut) : Type 0 where
+  pub go_on : (more : List Cut) → (is_whole ≡ true → more ≡ []) → AreCutsPast here.start (cuts ++ more)
+      → GoOn l here (cuts ++ more) chunks next (left ++ more)
   pub known : (is_whole ≡ true) ⊎ (((chunks ≡ []) × (next ≡ here)) ⊎ (0 < length (cuts_past next.told cuts)))
 
 -- and these are all of them: of a text that goes on, and of one that has no other cuts
 abbrev pub SettleAll : Limits → Bool → Here → List Cut → List Chunk → Type 0
 SettleAll l true here cuts chunks = AreChunks l cuts here chunks
-SettleAll l false here cuts chunks = (next : Here) × (left : List Cut) × Settle l false here cuts chunks next left × IsOpen l next left
+SettleAll l false here cuts chunks = (next : Here) × (left : List Cut) × Settle l false here cuts chunks next left
+    × IsOpen l next left
 
 -- the chunks that the first cuts of a text settle
 abbrev pub AreSettled : Limits → List Cut → List Chunk → Type 0

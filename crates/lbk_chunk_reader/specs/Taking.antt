@@ -17,7 +17,8 @@ Takes (Ok None) old new r = (r ≡ Ok false) × (new ≡ old)
 Takes (Err fault) old new r = (r ≡ Err fault) × (new ≡ old)
 
 -- a call that takes the cuts of the next passage, by what a segmenter would lend
-pub record TakesNext (s t : State) (unread unread' : Option (List ℕ)) (ended ended' : Bool) (reads reads' : Reads) (failures failures' : ℕ)
+pub record TakesNext (s t : State) (unread unread' : Option (List ℕ)) (ended ended' : Bool) (reads reads' : Reads)
+    (failures failures' : ℕ)
     (old new : Window) (r : Result Bool PassageFault) : Type 0 where
   pub lent : Result (Option Passage) PassageFault
   pub after : AfterNext s t unread unread' ended ended' reads reads' lent

@@ -27,7 +27,8 @@ pub struct Window {
 }
 
 impl Window {
-    ghost use Rattle.std.specs.Prelude.{◌≡◌, ◌≤◌, ◌<◌, ◌+◌, ◌^◌, ◌++◌, [], List, IfSome, None, OnOk, false, length, map};
+    ghost use Rattle.std.specs.Prelude.{◌≡◌, ◌≤◌, ◌<◌, ◌+◌, ◌^◌, ◌++◌, [], List, IfSome, None, OnOk, false, length};
+    ghost use Rattle.std.specs.Prelude.{map};
     ghost use Rattle.std.specs.Prelude.{ℕ, option_map, true, Some, if◌then◌else◌};
     ghost use Rattle.lbk_chunks.specs.declared.cut.Cut as spec;
     ghost use Rattle.lbk_chunks.specs.Chunks.{cuts_past};

@@ -1,4 +1,4 @@
--- Chunks: the cuts of a text at which documents are cut for search and retrieval.
+-- Chunks: how a text is divided at its cuts, for search and retrieval.
 use Rattle.std.specs.Prelude.{◌≡◌, ℕ, ◌-◌, ◌*◌, ◌/◌, ◌<◌, ◌≤◌, ◌&&◌, ◌||◌, ◌==◌, Bool, not, nat_le, nat_lt, List, []}
 use Rattle.std.specs.Prelude.{◌∷◌, Option, Some, None, find, if◌then◌else◌}
 use Rattle.std.specs.List.{list_all}
@@ -8,24 +8,24 @@ use Rattle.lbk_chunks.specs.declared.chunk.Here.{Here}
 use Rattle.lbk_chunks.specs.declared.chunk.Limits.{Limits}
 use Rattle.lbk_chunks.specs.declared.cut.Cut.{Cut}
 
--- limits that can be met: at least one byte, an early end within that, and at most half of it said twice
+-- limits in range: at least one byte, an early end within the limit, at most half repeated
 abbrev pub are_limits : Limits → Bool
 are_limits l = nat_lt 0 l.most && (nat_le l.least l.most && nat_le l.overlap (l.most / 2))
 
--- the cuts behind a place
+-- the cuts past an offset
 abbrev pub cuts_past : ℕ → List Cut → List Cut
 cuts_past at [] = []
 cuts_past at (c ∷ cs) = if nat_le c.at at then cuts_past at cs else c ∷ cs
 
--- a chunk that ends at this cut is within the limits; no number of words stands for any
+-- a chunk that ends at this cut is within the limits; 0 words means any number
 abbrev pub fits : Limits → Here → Cut → Bool
 fits l here c = nat_le (c.at - here.start) l.most && (l.words == 0 || nat_le (c.words - here.words) l.words)
 
--- it may end there before it is full: the line must end, and enough is new
+-- it may end there early: a line must end there, and enough bytes are in no earlier chunk
 abbrev pub is_early : Limits → Here → Cut → Bool
 is_early l here c = c.kind == 2 && nat_le l.least (c.at - here.told)
 
--- those in front that fit
+-- the longest prefix of cuts that fit
 abbrev pub fitting : Limits → Here → List Cut → List Cut
 fitting l here [] = []
 fitting l here (c ∷ cs) = if fits l here c then c ∷ fitting l here cs else []
@@ -39,16 +39,16 @@ abbrev pub last_early : Limits → Here → Option Cut → List Cut → Option C
 last_early l here found [] = found
 last_early l here found (c ∷ cs) = last_early l here (if is_early l here c then Some c else found) cs
 
--- where a chunk ends, if these cuts are ahead: what has no cut within the limits stands alone; what is left is told
--- whole if it fits; else it is as long as fits, or up to the last early end
+-- where a chunk ends, if these cuts are ahead: at the first one, if it does not fit; at the last, if all fit; else at
+-- the last early end that fits, or at the last cut that fits
 abbrev pub end_of : Limits → Here → Cut → List Cut → Cut
 end_of l here first more =
     if not (fits l here first) then first
     else (if list_all (fits l here) more then last_of first more
     else unwrap_or (last_early l here None (first ∷ fitting l here more)) (last_of first (fitting l here more)))
 
--- the next chunk may start at this cut, before the end of this one: little enough is said twice, at most half of this
--- chunk, and the cut behind its end still fits
+-- the next chunk may start at this cut, before the end of this one: it repeats little enough, at most half of this
+-- chunk, and the cut after that end still fits
 abbrev pub may_start : Limits → Here → Cut → Cut → Cut → Bool
 may_start l here end next c =
     nat_lt c.at end.at && (nat_le (end.at - c.at) l.overlap && (nat_le (2 * (end.at - c.at)) (end.at - here.start)
@@ -88,8 +88,8 @@ AreChunks l cuts here (chunk ∷ chunks) =
     × (chunk ≡ chunk_to l here (end_of l here first more))
     × AreChunks l cuts (after l cuts here (end_of l here first more)) chunks
 
--- chunks of which each starts at the end of the one before or earlier, and ends past it and within the text; these
--- end at two places
+-- each chunk starts at the end of the one before or earlier, and ends past it and within the text; the last two
+-- numbers are the first and the last end
 abbrev pub AreTold : ℕ → ℕ → ℕ → List Chunk → Type 0
 AreTold from to size [] = from ≡ to
 AreTold from to size (c ∷ cs) = (c.start ≤ from) × (from < c.end) × (c.end ≤ size) × AreTold c.end to size cs

@@ -1,4 +1,4 @@
--- What is to come of a text from a place on.
+-- What is left of a text from a place on.
 use Rattle.std.specs.Prelude.{◌≡◌, ℕ, true, ◌+◌, ◌-◌, ◌<◌, ◌≤◌, ◌==◌, List, [], ◌∷◌, ◌++◌, drop, length, map, min}
 use Rattle.std.specs.Prelude.{take, slice_index_or, Option, Some, None, if◌then◌else◌}
 use Rattle.std.specs.List.{list_all}
@@ -39,7 +39,7 @@ held word = if word.end == 0 then 0 else 1
 abbrev pub waiting : Word → List Word
 waiting word = if word.end == 0 then [] else word ∷ []
 
--- the words to come
+-- the words that are left
 abbrev pub words_ahead : List ℕ → Place → List Word
 words_ahead text place = waiting place.word ++ words_on text place.from
 
@@ -47,33 +47,33 @@ words_ahead text place = waiting place.word ++ words_on text place.from
 abbrev pub left : List ℕ → Place → ℕ
 left text place = (length text - place.from) + held place.word
 
--- how many more breaks a state may give
+-- how many more breaks a call may return from a state
 abbrev pub breaks_left : List ℕ → State → ℕ
 breaks_left text state = (length text - state.at) + (1 - state.ended)
 
--- words stand one behind the other, from a byte on
+-- words in rising order, from a byte on
 abbrev pub AreOnward : ℕ → List Word → Type 0
 AreOnward from [] = Unit {0}
 AreOnward from (w ∷ ws) = (from ≤ w.start) × (w.start ≤ w.end) × AreOnward w.end ws
 
--- breaks stand one behind the other, past a byte
+-- breaks in rising order, past a byte
 abbrev pub AreBreaksPast : ℕ → List Break → Type 0
 AreBreaksPast at [] = Unit {0}
 AreBreaksPast at (b ∷ bs) = (at < b.at) × AreBreaksPast b.at bs
 
--- no word was passed twice, and those to come stand one behind the other
+-- no word was passed twice, and those left are in rising order
 pub record AreCounted (text : List ℕ) (place : Place) : Type 0 where
   pub few : place.words + held place.word ≤ place.from
   pub onward : AreOnward 0 (words_ahead text place)
 
--- words were passed that end before the byte `at` or at it
+-- the words that end at the byte `at` or before it were passed
 pub record IsPassed (text : List ℕ) (at : ℕ) (old new : Place) : Type 0 where
   pub same_breaks : new.breaks ≡ old.breaks
   pub counted : AreCounted text old → AreCounted text new
   pub cuts : AreCounted text old → (b : Break) (bs : List Break) → at ≤ b.at → AreBreaksPast b.at bs
       → cuts_among new.words (words_ahead text new) (b ∷ bs) ≡ cuts_among old.words (words_ahead text old) (b ∷ bs)
 
--- these cuts come from a place on
+-- these cuts are left from a place on
 pub record IsAhead (cell : ℕ → Cell) (table : FlatTable) (text : List ℕ) (place : Place) (cuts : List Cut) : Type 0 where
   pub breaks : List Break
   pub comes : Comes cell table text place.breaks breaks
@@ -81,7 +81,7 @@ pub record IsAhead (cell : ℕ → Cell) (table : FlatTable) (text : List ℕ) (
   pub rising : AreBreaksPast 0 breaks
   pub among : cuts ≡ cuts_among place.words (words_ahead text place) breaks
 
--- words that were read: those in the block, and those behind it
+-- the words that were read: those in the block, and those after it
 pub record AreRead (text : List ℕ) (block : WordBlock) : Type 0 where
   pub size : length block.words ≡ 64
   pub few : block.next ≤ block.count
@@ -103,31 +103,31 @@ pub record IsFirstWord (text : List ℕ) (from : ℕ) (word : Word) : Type 0 whe
 abbrev pub no_cut : Cut
 no_cut = record { at = 0; words = 0; kind = 0; rule = 0 }
 
--- the cuts in front of a block stand within a text of this size
+-- the cuts at the front of a block are within a text of this size
 abbrev pub StandWithin : ℕ → ℕ → List Cut → Type 0
 StandWithin size count out = (k : ℕ) → k < count → (slice_index_or out k no_cut).at ≤ size
 
--- the cut in front of a place of a block, if that is past the place from which a search began, and the one at which it began
--- else; and the cut in front of a place that is not 0
+-- the cut in front of a place of a block, if that is past the place from which a search began, and the one at which it
+-- began else; and the cut in front of a place that is not 0
 abbrev pub last_in : List Cut → ℕ → Cut → ℕ → Cut
 last_in out from first k = if from == k then first else slice_index_or out (k - 1) no_cut
 
 abbrev pub early_in : List Cut → Option Cut → ℕ → Option Cut
 early_in out early k = if k == 0 then early else Some (slice_index_or out (k - 1) no_cut)
 
--- of some breaks as many are in front of a block as it holds, and the others come from a state on
+-- the first breaks fill the front of a block, or are all, and the others are left from a state on
 pub record AreNext (cell : ℕ → Cell) (table : FlatTable) (text : List ℕ) (breaks : List Break) (room : ℕ) (block : List RawBreak) (next : NextBreaks) : Type 0 where
   pub counted : next.count ≡ min room (length breaks)
   pub shown : map raw_of (take next.count breaks) ≡ take next.count block
   pub onward : Comes cell table text next.state (drop next.count breaks)
 
--- of some cuts those in front of a block were found, and the others are among these breaks
+-- the cuts at the front of a block were found, and the others are among these breaks
 pub record AreAmong (text : List ℕ) (cuts : List Cut) (breaks : List Break) (filled : Filled) (out : List Cut) : Type 0 where
   pub counted : AreCounted text filled.place
   pub rising : AreBreaksPast 0 breaks
   pub joined : cuts ≡ take filled.count out ++ cuts_among filled.place.words (words_ahead text filled.place) breaks
 
--- of some cuts as many are in front of a block as there is room for, and the others come from a place on
+-- the first cuts fill the front of a block, or are all, and the others are left from a place on
 pub record AreFirst (cell : ℕ → Cell) (table : FlatTable) (text : List ℕ) (cuts : List Cut) (room : ℕ) (out : List Cut) (filled : Filled) : Type 0 where
   pub rest : List Cut
   pub joined : cuts ≡ take filled.count out ++ rest
@@ -139,16 +139,16 @@ pub record IsCutOf (cuts : List Cut) (c : Cut) : Type 0 where
   pub some : 0 < c.at
   pub joined : cuts_past (c.at - 1) cuts ≡ c ∷ cuts_past c.at cuts
 
--- one of the cuts stands at this byte, and so many words are before it
+-- one of the cuts is at this byte, after so many words
 abbrev pub IsStanding : List Cut → ℕ → ℕ → Type 0
 IsStanding cuts at words = (c : Cut) × (c.at ≡ at) × (c.words ≡ words) × IsCutOf cuts c
 
--- the cuts past a byte come from the place, which counts the words before the cut there
+-- the cuts past a byte are left from the place, and it counts the words before the cut there
 pub record IsMark (cell : ℕ → Cell) (table : FlatTable) (text : List ℕ) (cuts : List Cut) (mark : Mark) : Type 0 where
   pub ahead : IsAhead cell table text mark.place (cuts_past mark.at cuts)
   pub counted : (c : Cut) → c.at ≡ mark.at → IsCutOf cuts c → mark.place.words ≡ c.words
 
--- whatever the table has, the cuts of a block stand within the text, and its end is that of the last
+-- with any table, the cuts of a block are within the text, and its end is that of the last
 pub record IsSafe (text : List ℕ) (block : CutBlock) : Type 0 where
   pub size : length block.cuts ≡ 64
   pub some : 0 < block.room
@@ -182,7 +182,7 @@ pub record Knows (cell : ℕ → Cell) (table : FlatTable) (text : List ℕ) (cu
   pub home : window.home.at ≤ here.start
   pub told : here.start ≤ here.told
 
--- a state stands at a cut of a text with these cuts, or at its start
+-- a state is at a cut of a text with these cuts, or at its start
 pub record IsAt (cell : ℕ → Cell) (table : FlatTable) (text : List ℕ) (cuts : List Cut) (state : ChunkState) : Type 0 where
   pub ahead : IsAhead cell table text state.place (cuts_past state.start cuts)
   pub counted : (c : Cut) → c.at ≡ state.start → IsCutOf cuts c → state.place.words ≡ c.words
@@ -214,14 +214,14 @@ state_start profile = record {
   told = 0;
 }
 
--- these chunks are to come from a state on
+-- these chunks are left from a state on
 pub record ChunksCome (cell : ℕ → Cell) (table : FlatTable) (text : List ℕ) (limits : Limits) (state : ChunkState) (to_come : List Chunk) : Type 0 where
   pub in_range : are_limits limits ≡ true
   pub cuts : List Cut
   pub stands : IsAt cell table text cuts state
   pub chunks : AreChunks limits cuts (here_of state) to_come
 
--- what was given of the chunks to come, and what the others come from
+-- the chunks that a call returned, and the state from which the others are left
 pub record AreGiven (cell : ℕ → Cell) (table : FlatTable) (text : List ℕ) (limits : Limits) (cuts : List Cut) (to_come : List Chunk) (count : ℕ) (out : List Chunk) (window : Window) (here : Here) : Type 0 where
   pub few : count ≤ length to_come
   pub front : take count out ≡ take count to_come
@@ -229,7 +229,8 @@ pub record AreGiven (cell : ℕ → Cell) (table : FlatTable) (text : List ℕ) 
   pub knows : Knows cell table text cuts window here
   pub stands : 0 < count → IsStanding cuts here.start here.words
 
--- a cut stands past one byte, at another or before it; the last that fits, and that at which the chunk may end early, do
+-- a cut stands past one byte, at another or before it; the last that fits, and that at which the chunk may end early,
+-- do
 abbrev pub StandsIn : ℕ → ℕ → Cut → Type 0
 StandsIn from to c = (from < c.at) × (c.at ≤ to)
 

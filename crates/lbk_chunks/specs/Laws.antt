@@ -1,4 +1,4 @@
--- What holds of the chunks of a text.
+-- What the laws say about the chunks of a text.
 use Rattle.std.specs.Prelude.{◌≡◌, ℕ, ◌+◌, ◌<◌, ◌≤◌, ◌⊎◌, true, false, List, [], ◌∷◌}
 use Rattle.lbk_chunks.specs.declared.chunk.Chunk.{Chunk}
 use Rattle.lbk_chunks.specs.declared.chunk.Limits.{Limits}
@@ -6,7 +6,7 @@ use Rattle.lbk_chunks.specs.declared.cut.Cut.{Cut}
 use Rattle.lbk_chunks.specs.declared.chunk.Here.{Here}
 use Rattle.lbk_chunks.specs.Chunks.{cuts_past, fits, is_early}
 
--- each chunk is within the limits, or stands alone
+-- each chunk is within the limits, or alone
 abbrev pub IsWithin : Limits → Chunk → Type 0
 IsWithin l c = (c.alone ≡ true) ⊎ ((c.end ≤ c.start + l.most) × ((l.words ≡ 0) ⊎ (c.words ≤ l.words)))
 

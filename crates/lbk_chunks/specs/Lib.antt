@@ -1,6 +1,6 @@
--- What a reader has to believe.
+-- What a reader has to check.
 pub mod Cuts
 pub mod Chunks
 pub mod Laws
--- What only carries proofs.
+-- What only proofs use.
 pub mod Coming

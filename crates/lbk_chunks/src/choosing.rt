@@ -13,7 +13,7 @@ pub fn are_limits(limits: &Limits) -> bool
     0 < limits.most && limits.least <= limits.most && limits.overlap <= limits.most / 2
 }
 
-/// Whether a chunk from here on that ends at a byte, behind so many words of the text, is within the limits.
+/// Whether a chunk from here on that ends at a byte, after so many words of the text, is within the limits.
 #[inline(always)]
 pub fn fits(limits: &Limits, here: &Here, at: usize, words: usize) -> bool
     ensures { (cut : Cut) → cut.at ≡ at → cut.words ≡ words → result ≡ fits limits.now here.now cut }
@@ -22,7 +22,7 @@ pub fn fits(limits: &Limits, here: &Here, at: usize, words: usize) -> bool
         && (limits.words == 0 || words.saturating_sub(here.words) <= limits.words)
 }
 
-/// Whether the chunk from here on may end early at a byte, where a line must end or not.
+/// Whether the chunk from here on may end early at a byte where a line must end, or need not.
 #[inline(always)]
 pub fn is_early(limits: &Limits, here: &Here, at: usize, is_must: bool) -> bool
     ensures { (cut : Cut) → cut.at ≡ at → (cut.kind == 2) ≡ is_must → result ≡ is_early limits.now here.now cut }
@@ -30,8 +30,8 @@ pub fn is_early(limits: &Limits, here: &Here, at: usize, is_must: bool) -> bool
     is_must && limits.least <= at.saturating_sub(here.told)
 }
 
-/// Whether the next chunk may start at a place before the end of the one from here on, where the cut behind that end
-/// is at a byte, behind so many words of the text.
+/// Whether the next chunk may start before the end of the one from here on, if the cut after that end is at a byte,
+/// after so many words of the text.
 #[inline(always)]
 pub fn may_start(limits: &Limits, here: &Here, again: &Here, at: usize, words: usize) -> bool
     ensures { (end next cut : Cut) → again.now ≡ start_at cut end.at → next.at ≡ at → next.words ≡ words

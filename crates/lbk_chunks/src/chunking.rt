@@ -21,11 +21,11 @@ use crate::cut_block::Mark;
 use crate::window::Window;
 use lbk_rules::FlatTable;
 
-/// Puts the next chunks of a text into the front of the block, from the state on, and returns how many: as many as
-/// the block holds, or all that are left. The text may be any bytes.
+/// Writes the next chunks of a text to the front of the block, from the state on, and returns how many: as many as the
+/// block holds, or all that are left. The text may be any bytes.
 ///
-/// Where the block has no room, no chunk is left, or the limits are out of range, the state stays and no chunk comes.
-/// What stands in the block after the chunks is unspecified.
+/// Returns 0 and leaves the state unchanged if the block has no room, if no chunk is left, or if the limits are out of
+/// range. The entries of the block after the chunks are unspecified.
 pub fn chunks(
     table: &FlatTable,
     limits: &Limits,
@@ -79,7 +79,7 @@ pub fn chunks(
     count
 }
 
-/// Puts the chunks from here on into the front of the block.
+/// Writes the chunks from here on to the front of the block.
 fn give_chunks(
     table: &FlatTable,
     limits: &Limits,
@@ -164,9 +164,9 @@ struct Fitting {
     last: Cut,
     /// The last of them at which the chunk may end early.
     early: Option<Cut>,
-    /// The place behind the last in its block.
+    /// The place after the last one, in its block.
     next: usize,
-    /// The place behind the early one in its block.
+    /// The place after the early one, in its block.
     next_early: usize,
 }
 
@@ -219,7 +219,7 @@ fn chunk_end(
     Some(so_far.last)
 }
 
-/// All up to a cut fit, which is before a place of its block.
+/// All cuts up to the one before a place of its block fit.
 #[inline(always)]
 fn fit_up_to(
     limits: &Limits,
@@ -248,7 +248,7 @@ fn fit_up_to(
     }
 }
 
-/// Goes on over those cuts of a block that fit.
+/// Goes on over the cuts of a block that fit.
 #[inline(always)]
 fn fit_on(limits: &Limits, here: &Here, window: &Window, start: Fitting) -> Fitting
     requires kept { (text : List ℕ) × IsKept text window.now }
@@ -282,7 +282,7 @@ fn fit_on(limits: &Limits, here: &Here, window: &Window, start: Fitting) -> Fitt
     }
 }
 
-/// The place behind a cut at which the chunk may end early, or else what was found so far.
+/// The place after a cut, if the chunk may end early there, or else the one found so far.
 #[inline(always)]
 fn early_place(limits: &Limits, here: &Here, cut: &Cut, place: usize, early: usize) -> usize
     ensures early { result ≡ (if is_early limits.now here.now cut.now then place else early) }
@@ -294,7 +294,7 @@ fn early_place(limits: &Limits, here: &Here, cut: &Cut, place: usize, early: usi
     early
 }
 
-/// Where the next chunk starts, behind one that ends at a cut.
+/// Where the next chunk starts, after one that ends at a cut.
 fn next_start(
     table: &FlatTable,
     limits: &Limits,
@@ -335,7 +335,7 @@ fn next_start(
     fresh
 }
 
-/// A byte up to which no cut starts the next chunk, since too much would be said twice.
+/// A byte up to which no cut starts the next chunk, because it would repeat too much.
 fn start_from(limits: &Limits, here: &Here, end: usize) -> usize
     ensures start { here.now.start ≤ result }
     ensures none { (last next cut : Cut) → last.at ≡ end → here.now.start < end → here.now.start < cut.at

@@ -22,9 +22,9 @@ use lbk_rules::FlatTable;
 /// How far a block is filled with cuts.
 #[derive(Clone, Copy)]
 pub(crate) struct Filled {
-    /// How many cuts stand in the front of the block.
+    /// How many cuts are at the front of the block.
     pub(crate) count: usize,
-    /// The place behind the breaks that were read.
+    /// The place after the breaks that were read.
     pub(crate) place: Place,
 }
 
@@ -35,7 +35,7 @@ static NO_BREAKS: [RawBreak; 64] = [RawBreak {
     rule: 0,
 }; 64];
 
-/// Puts the first cuts from a place on into the front of a block: as many as there is room for, or all.
+/// Writes the first cuts from a place on to the front of a block: as many as there is room for, or all.
 pub(crate) fn fill_cuts(
     table: &FlatTable,
     text: &[u8],
@@ -82,14 +82,14 @@ pub(crate) fn fill_cuts(
     here
 }
 
-/// How many breaks were read, and the state behind them.
+/// How many breaks were read, and the state after them.
 #[derive(Clone, Copy)]
 pub(crate) struct NextBreaks {
     pub(crate) count: usize,
     pub(crate) state: State,
 }
 
-/// Puts the first breaks from a state on into the front of a block.
+/// Writes the first breaks from a state on to the front of a block.
 fn next_breaks(table: &FlatTable, text: &[u8], state: State, block: &mut [RawBreak]) -> NextBreaks
     ensures first { (cell : ℕ → Cell) (breaks : List Break) → Comes cell table.now text.now state breaks
         → AreNext cell table.now text.now breaks (length block.old) block.new result }
@@ -103,7 +103,7 @@ fn next_breaks(table: &FlatTable, text: &[u8], state: State, block: &mut [RawBre
     NextBreaks { count, state }
 }
 
-/// Adds the cuts among the first of some breaks to those in the front of a block.
+/// Adds the cuts among the first of some breaks to those at the front of a block.
 fn add_cuts(
     text: &[u8],
     breaks: &[RawBreak],
@@ -140,15 +140,15 @@ fn add_cuts(
     here
 }
 
-/// How far a block is filled with cuts, and the place of the break that comes next.
+/// How far a block is filled with cuts, and the index of the next break.
 #[derive(Clone, Copy)]
 pub(crate) struct Added {
     pub(crate) filled: Filled,
     pub(crate) next: usize,
 }
 
-/// Adds the cuts among breaks from a place on, as far as the words suffice that were read: without a call, the loop
-/// keeps its numbers in registers.
+/// Adds the cuts among the breaks from an index on, as far as the words read suffice. Because it makes no call, the
+/// loop keeps its numbers in registers.
 fn add_known(
     breaks: &[RawBreak],
     from: usize,
@@ -179,7 +179,7 @@ fn add_known(
     let mut k = from;
     while k < count {
         let found = breaks[k];
-        // The state is that of the start, and stays out of the loop.
+        // The state is the one at the start, so it stays out of the loop.
         let place = Place {
             breaks: start.place.breaks,
             ..pass_known(found.at, here.place, words)
@@ -200,7 +200,7 @@ fn add_known(
     }
 }
 
-/// Adds the cut at a break to those in the front of a block, if the break is within no word.
+/// Adds the cut at a break to those at the front of a block, if the break is outside words.
 #[inline(never)]
 fn add_cut(
     text: &[u8],
@@ -226,7 +226,7 @@ fn add_cut(
     put_cut(found, Filled { place, ..start }, out)
 }
 
-/// Adds the cut at a break to those in the front of a block, if the break is not within the first word that ends past
+/// Adds the cut at a break to those at the front of a block, if the break is not inside the first word that ends past
 /// it.
 #[inline(always)]
 fn put_cut(found: RawBreak, here: Filled, out: &mut [Cut; 64]) -> Filled

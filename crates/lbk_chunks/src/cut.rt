@@ -3,14 +3,14 @@
 use lbk_calls::State;
 use lbk_words::Word;
 
-/// A cut of a text: a break that stands within no word.
+/// A cut of a text: a break outside words.
 #[derive(Clone, Copy)]
 pub struct Cut {
-    /// The byte that it stands before.
+    /// The offset of the byte after it.
     pub at: usize,
     /// How many words are before it.
     pub words: usize,
-    /// Whether the line may or must end there: 1 for May, 2 for Must.
+    /// Whether a line may or must end there: 1 for May, 2 for Must.
     pub kind: u8,
     /// The number of the rule that decided there.
     pub rule: u8,
@@ -24,13 +24,13 @@ pub(crate) static NO_CUTS: [Cut; 64] = [Cut {
     rule: 0,
 }; 64];
 
-/// How far the breaks and the words of a text were read. One of zeros stands at the start of a text.
+/// How far the breaks and the words of a text were read. All zeros mean the start of a text.
 #[repr(C)]
 #[derive(Clone, Copy)]
 pub struct Place {
     /// The state after the last break that was read.
     pub breaks: State,
-    /// The byte from which the words come that were not read.
+    /// The offset from which the words were not read.
     pub from: usize,
     /// The word that was read and not passed, if its end is not 0.
     pub word: Word,

@@ -1,4 +1,4 @@
-//! Cuts of a text that follow one another.
+//! Successive cuts of a text.
 
 ghost use Rattle.std.specs.Prelude.{◌≡◌, ◌⊎◌, ℕ, ◌-◌, ◌<◌, ◌≤◌, ◌&&◌, ◌==◌, nat_le, nat_lt, length, List};
 ghost use Rattle.std.specs.Prelude.{slice_index_or, if◌then◌else◌};
@@ -27,7 +27,7 @@ pub(crate) struct Mark {
 pub(crate) struct CutBlock {
     /// The place before the first.
     pub(crate) before: Mark,
-    /// The place behind the last.
+    /// The place after the last.
     pub(crate) behind: Mark,
     /// For how many there was room.
     pub(crate) room: usize,
@@ -49,7 +49,7 @@ impl CutBlock {
         }
     }
 
-    /// Reads the cuts from a place on, in place of those that it has.
+    /// Reads the cuts from a place on, which replace those that it has.
     pub(crate) fn read(
         &mut self,
         table: &FlatTable,
@@ -100,7 +100,7 @@ impl CutBlock {
         0
     }
 
-    /// This place, if the cut before it is at a byte, or else the end.
+    /// This place, if the cut before it is at the byte, or else the end.
     #[inline(always)]
     pub(crate) fn behind_cut(&self, at: usize, place: usize) -> usize
         requires { self.now.count ≤ 64 }
@@ -155,7 +155,7 @@ impl CutBlock {
     }
 }
 
-/// Where the last of some cuts stands, if there is one.
+/// The offset of the last of some cuts, if there is one.
 fn last_or(cuts: &[Cut], count: usize, at: usize) -> usize
     requires { count ≤ length cuts.now }
     ensures { result ≡ (if count == 0 then at else (slice_index_or cuts.now (count - 1) no_cut).at) }

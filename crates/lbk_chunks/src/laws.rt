@@ -1,4 +1,4 @@
-//! What holds of the chunks of a text, over definitions only: the contract of a function that does nothing.
+//! A law about the chunks of a text: the contract of a function that does nothing.
 
 ghost use Rattle.std.specs.Prelude.{◌≡◌, ℕ, ◌≤◌, [], ◌∷◌, true, List};
 ghost use Rattle.lbk_rules.specs.declared.Cell.{Cell};
@@ -11,9 +11,8 @@ ghost use Rattle.lbk_chunks.specs.Chunks.{AreChunks, cuts_past, end_of, fits};
 ghost use Rattle.lbk_chunks.specs.Cuts.{AreCutsPast, cuts_of};
 ghost use Rattle.lbk_chunks.specs.Laws.{AreJoined, AreWithin, IsFull, StartsRise, last_end};
 
-/// There are chunks from each place on, and they come to the last cut, which is the end of a text. Each is within the
-/// limits or stands alone, and no longer one would do. Each starts past the start of the one before it. Without
-/// overlap, one after another, they are the text.
+/// From each place on there are chunks up to the last cut, the end of the text. Each is within the limits or has no cut
+/// within them, and no longer one would do. Starts rise. Without overlap the chunks, joined, are the text.
 pub fn chunks_of_cuts()
     ensures rising { (profile : Profile) (cell : ℕ → Cell) (text : List ℕ) → AreCutsPast 0 (cuts_of profile cell text) }
     ensures exist { (l : Limits) (cuts : List Cut) (here : Here) → AreCutsPast 0 cuts → (chunks : List Chunk)

@@ -1,4 +1,4 @@
-//! Chunks: a text cut for search and retrieval, where a line may end and no word does not.
+//! Chunks: a text cut for search and retrieval, at breaks outside words.
 #![tactic(auto)]
 
 mod choosing;

@@ -1,4 +1,4 @@
-//! The cuts of a text around a place, so that few are read twice.
+//! The cuts of a text around an offset, kept so that few are read twice.
 
 ghost use Rattle.std.specs.Prelude.{◌≡◌, ◌⊎◌, ℕ, ◌<◌, ◌≤◌, [], ◌∷◌, false, true, List, IfSome, MatchOption, length};
 ghost use Rattle.lbk_rules.specs.declared.Cell.{Cell};
@@ -19,7 +19,7 @@ const FIRST: usize = 4;
 /// Two blocks of cuts, and a place from which others are read again.
 #[derive(Drop)]
 pub(crate) struct Window {
-    /// A place behind which all cuts can be had.
+    /// A place after which all cuts can be read.
     home: Mark,
     /// The cuts that were read before the newer ones.
     older: CutBlock,
@@ -27,7 +27,7 @@ pub(crate) struct Window {
     newer: CutBlock,
     /// Where the search in a block begins.
     pub(crate) next: usize,
-    /// The words behind the newer, as far as they were read.
+    /// The words after the newer cuts, as far as they were read.
     words: WordBlock,
 }
 
@@ -82,7 +82,7 @@ impl Window {
         Some(self.newer.cuts[k])
     }
 
-    /// The block that has the cut behind one at a byte, if either has.
+    /// The block that has the cut after the one at a byte, if either has.
     #[inline(always)]
     pub(crate) fn block_past(&self, at: usize) -> &CutBlock
         ensures safe { (text : List ℕ) → IsKept text self.now → IsSafe text result.now }
@@ -95,7 +95,7 @@ impl Window {
         &self.newer
     }
 
-    /// Reads the cuts again from the place that is kept, if the newer are behind a byte.
+    /// Reads the cuts again from the place that is kept, if the newer ones are past a byte.
     fn reread(&mut self, table: &FlatTable, text: &[u8], at: usize)
         requires { IsKept text.now self.old }
         ensures kept { IsKept text.now self.new }
@@ -111,7 +111,7 @@ impl Window {
             .read(table, text, self.home, BLOCK, &mut self.words);
     }
 
-    /// Reads the cuts behind the newer ones.
+    /// Reads the cuts after the newer ones.
     fn read_on(&mut self, table: &FlatTable, text: &[u8])
         requires kept { IsKept text.now self.old }
         requires full { self.old.newer.count ≡ self.old.newer.room }
@@ -155,7 +155,7 @@ impl Window {
         self.newer.before.at <= at
     }
 
-    /// Keeps a place of a cut at a byte or before it, as near as one is known.
+    /// Keeps the place of the nearest known cut at a byte or before it.
     pub(crate) fn settle(&mut self, at: usize)
         ensures kept { (text : List ℕ) → IsKept text self.old → IsKept text self.new }
         ensures home { self.old.home.at ≤ at → self.new.home.at ≤ at }
@@ -169,7 +169,7 @@ impl Window {
         }
     }
 
-    /// The place of the cut at which a state stands.
+    /// The place of the cut at the offset of a state.
     pub(crate) fn place_of(&mut self, table: &FlatTable, text: &[u8], at: usize) -> Place
         requires { IsKept text.now self.old }
         ensures { (cell : ℕ → Cell) (cuts : List Cut) (words : ℕ) → AreCutsPast 0 cuts
@@ -192,7 +192,7 @@ impl Window {
         here.place
     }
 
-    /// A place at a byte or before it, as near as is known.
+    /// The nearest known place at a byte or before it.
     fn near(&mut self, table: &FlatTable, text: &[u8], at: usize) -> Mark
         requires { IsKept text.now self.old }
         ensures kept { IsKept text.now self.new }
@@ -219,7 +219,7 @@ impl Window {
         self.home
     }
 
-    /// How many cuts of the block at which the place stands that is kept are at a byte or before it.
+    /// How many cuts are at a byte or before it, in the block of the place that is kept.
     fn many_up_to(&self, at: usize) -> usize
         requires { (text : List ℕ) × IsKept text self.now }
         ensures { result ≤ 64 }

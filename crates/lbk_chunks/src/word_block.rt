@@ -15,13 +15,13 @@ const BLOCK: usize = 64;
 /// The words from a byte on, as far as they were read.
 #[derive(Clone, Copy)]
 pub(crate) struct WordBlock {
-    /// The byte from which they come.
+    /// The offset from which they were read.
     from: usize,
-    /// The place of the first of them in the block.
+    /// The index of the first of them in the block.
     next: usize,
     /// How many words were put into the block.
     count: usize,
-    /// The byte from which the words behind the block come.
+    /// The offset from which the words after the block are left.
     rest: usize,
     /// How many words are read next.
     room: usize,
@@ -44,7 +44,7 @@ impl WordBlock {
         }
     }
 
-    /// Reads the words from a byte on, if they are not there and the text may have some.
+    /// Reads the words from a byte on, unless they are in the block or the text has none left.
     #[inline(always)]
     fn load(&mut self, text: &[u8], from: usize)
         requires { AreRead text.now self.old }

@@ -1,4 +1,4 @@
-//! The words before a place.
+//! The words before an offset.
 
 ghost use Rattle.std.specs.Prelude.{◌≡◌, ◌⊎◌, ℕ, [], ◌+◌, ◌-◌, ◌<◌, ◌≤◌, List, length};
 ghost use Rattle.lbk_chunks.specs.Coming.{AreRead, IsFirstWord, IsPassed, held, left, words_ahead};
@@ -7,7 +7,7 @@ use crate::cut::Place;
 use crate::word_block::WordBlock;
 use lbk_words::Word;
 
-/// Passes the words that end before a byte or at it.
+/// Passes the words that end at a byte or before it.
 #[inline(always)]
 pub(crate) fn pass_words(text: &[u8], at: usize, place: Place, words: &mut WordBlock) -> Place
     requires { AreRead text.now words.old }
@@ -23,7 +23,7 @@ pub(crate) fn pass_words(text: &[u8], at: usize, place: Place, words: &mut WordB
     here
 }
 
-/// Passes the words that end before a byte or at it, as far as they were read.
+/// Passes the words that end at a byte or before it, as far as they were read.
 #[inline(always)]
 pub(crate) fn pass_known(at: usize, place: Place, words: &mut WordBlock) -> Place
     requires { (text : List ℕ) × AreRead text words.old }
@@ -35,7 +35,7 @@ pub(crate) fn pass_known(at: usize, place: Place, words: &mut WordBlock) -> Plac
         let Some(word) = words.known_from(here.from) else {
             return here;
         };
-        // The state is that of the start, and stays out of the loop.
+        // The state is the one at the start, so it stays out of the loop.
         here = Place {
             breaks: place.breaks,
             ..with_word(without_word(here), word)

@@ -15,7 +15,7 @@ pub fn place_byte(buf: &mut [u8], at: usize, byte: u8) -> usize
     at + 1
 }
 
-/// Writes the first `len` of some bytes. It writes all of them, so that it is one store.
+/// Writes the first `len` of some bytes. It stores all of them, so that one instruction is enough.
 #[inline(always)]
 pub fn place_front<const N: usize>(buf: &mut [u8], at: usize, bytes: [u8; N], len: usize) -> usize
     requires { (len ≤ N) × (at + N ≤ length buf.old) }

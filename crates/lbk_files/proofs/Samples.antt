@@ -11,7 +11,8 @@ use Rattle.lbk_files.specs.Cells.{AreCellsOf}
 use Rattle.lbk_files.specs.CellsRefusal.{IsCellsRefusal}
 use Rattle.lbk_files.specs.SampleFiles.{AreSampleCells, IsSampleFault, IsWantOfMemory}
 
-pub wants_memory : (files : Files) (fault : CellsFault) → AreSamples files → IsCellsRefusal files fault → IsWantOfMemory fault
+pub wants_memory : (files : Files) (fault : CellsFault) → AreSamples files → IsCellsRefusal files fault
+    → IsWantOfMemory fault
 wants_memory files (Tables fault) are refused = lawful_refused files fault (samples_lawful files are) refused
 wants_memory files Memory are refused = tt
 wants_memory files (Load which) are refused = refused

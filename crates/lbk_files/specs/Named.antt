@@ -19,7 +19,7 @@ name_in_database Emoji = codes "emoji/emoji-data.txt"
 abbrev pub joined : List ℕ → Which → List ℕ
 joined folder which = folder ++ (47 ∷ name_in_database which)
 
--- what is told about a file: about one that an option names, or about one in a folder, which has to be the published
+-- what is told about a file: about one that an option names, or about one in a folder, which must be the published
 -- one
 abbrev pub told_of : (List ℕ → Option (Option (List ℕ))) → Which → Named → Told
 told_of file which (given name) = record { contents = file name; is_claimed = false }

@@ -96,7 +96,7 @@ fn load_file<S: Store>(
     }
 }
 
-/// The bytes of the file with this name, which has to be the published one.
+/// The bytes of the file with this name, which must be the published one.
 fn load_claimed<S: Store>(
     alloc: Global,
     name: &str,

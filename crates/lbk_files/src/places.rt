@@ -16,7 +16,7 @@ use std::alloc::{AllocError, Global};
 pub(crate) enum Place<'a> {
     /// The name in its option.
     Given(&'a str),
-    /// The path of a file in a folder, which has to be the published one.
+    /// The path of a file in a folder, which must be the published one.
     InFolder(String),
 }
 

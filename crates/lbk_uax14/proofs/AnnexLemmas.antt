@@ -1,5 +1,6 @@
 -- The definitions say what the annex's words say.
-use Rattle.std.proofs.Common.{◌≡◌, true, false, cond, not, ◌&&◌, ◌||◌, Bool, ◌⊎◌, inl, inr, List, [], ◌∷◌, ◌++◌, length, reverse, refl, sym, ap, subst, ◌∙◌, append_assoc, append-nil}
+use Rattle.std.proofs.Common.{◌≡◌, true, false, cond, not, ◌&&◌, ◌||◌, Bool, ◌⊎◌, inl, inr, List, [], ◌∷◌, ◌++◌, length}
+use Rattle.std.proofs.Common.{reverse, refl, sym, ap, subst, ◌∙◌, append_assoc, append-nil}
 use Rattle.std.proofs.lemmas.Bool.{and_parts, false≢true}
 use Rattle.std.specs.List.{AllByRecursion}
 use Rattle.std.proofs.lemmas.List.{reverse-append, reverse-reverse}
@@ -9,10 +10,12 @@ use Rattle.lbk_uax14.specs.declared.classes.Class.TheVariants.{Quotation, Space}
 use Rattle.lbk_uax14.specs.declared.classes.Quote.{Quote}
 use Rattle.lbk_uax14.specs.declared.classes.Quote.TheVariants.{Neither, Initial, Final}
 use Rattle.lbk_uax14.specs.Classes.{Set, SP, RI, QU, is, hard, mark, none_of, opens_after, closes_before}
-use Rattle.lbk_uax14.specs.Sides.{Side, is_nothing, at, before_spaces, past_spaces, at_odd_run, is_initial, is_final, opening, closing, leaves_open, leaves_closed, opens_quotation, closes_quotation}
+use Rattle.lbk_uax14.specs.Sides.{Side, is_nothing, at, before_spaces, past_spaces, at_odd_run, is_initial, is_final}
+use Rattle.lbk_uax14.specs.Sides.{opening, closing, leaves_open, leaves_closed, opens_quotation, closes_quotation}
 use Rattle.lbk_uax14.specs.Units.{unit, units, heads, nearest}
 use Rattle.lbk_uax14.specs.Facts.{units_before}
-use Rattle.lbk_uax14.specs.Annex.{HasNoSpace, EndsInSpacesAfter, EndsInRun, EndsIn, BeginsIn, EndsInOpenQuotation, BeginsInClosedQuotation, is_odd, is_head}
+use Rattle.lbk_uax14.specs.Annex.{HasNoSpace, EndsInSpacesAfter, EndsInRun, EndsIn, BeginsIn, EndsInOpenQuotation}
+use Rattle.lbk_uax14.specs.Annex.{BeginsInClosedQuotation, is_odd, is_head}
 use Rattle.lbk_uax14.proofs.FactsLemmas.{units_before-reverse}
 
 -- a list read outwards, its first element last
@@ -29,13 +32,15 @@ past_all_spaces (cell ∷ spaces) side all =
     ap before_spaces (reverse-cons cell spaces side) ∙ past_all_spaces spaces (cell ∷ side) all.1 ∙ rw all.0 refl
 
 -- what is found past the spaces, read outwards, with spaces found already
-found_past : (x : Set) (side : Side) (spaces : List Cell) → HasNoSpace x → AllByRecursion (λ (c : Cell). SP c.class ≡ true) spaces
+found_past : (x : Set) (side : Side) (spaces : List Cell) → HasNoSpace x
+    → AllByRecursion (λ (c : Cell). SP c.class ≡ true) spaces
     → past_spaces x side ≡ true → EndsInSpacesAfter x (reverse side ++ spaces)
 unfolding before_spaces is
 found_past x [] spaces no_space all found = absurd (false≢true (sym (no_space Space refl) ∙ found))
 found_past x (cell ∷ side) spaces no_space all found =
     let ends : (b : Bool) → SP cell.class ≡ b → EndsInSpacesAfter x (reverse (cell ∷ side) ++ spaces) = elim [
-      | true ↦ λ e. subst (EndsInSpacesAfter x) (sym (reverse-cons cell side spaces)) (found_past x side (cell ∷ spaces) no_space (e, all) (rw e at found))
+      | true ↦ λ e. subst (EndsInSpacesAfter x) (sym (reverse-cons cell side spaces))
+          (found_past x side (cell ∷ spaces) no_space (e, all) (rw e at found))
       | false ↦ λ e. record {
         before = reverse side;
         cell = cell;
@@ -47,15 +52,19 @@ found_past x (cell ∷ side) spaces no_space all found =
     ] in
     ends (SP cell.class) refl
 
-pub ends_in_spaces : (x : Set) (cells : List Cell) → HasNoSpace x → past_spaces x (reverse cells) ≡ true → EndsInSpacesAfter x cells
+pub ends_in_spaces : (x : Set) (cells : List Cell) → HasNoSpace x → past_spaces x (reverse cells) ≡ true
+    → EndsInSpacesAfter x cells
 ends_in_spaces x cells no_space found =
-    subst (EndsInSpacesAfter x) (append-nil (reverse (reverse cells)) ∙ reverse-reverse cells) (found_past x (reverse cells) [] no_space tt found)
+    subst (EndsInSpacesAfter x) (append-nil (reverse (reverse cells)) ∙ reverse-reverse cells)
+    (found_past x (reverse cells) [] no_space tt found)
 
-pub past_spaces-ends : (x : Set) (cells : List Cell) → HasNoSpace x → EndsInSpacesAfter x cells → past_spaces x (reverse cells) ≡ true
+pub past_spaces-ends : (x : Set) (cells : List Cell) → HasNoSpace x → EndsInSpacesAfter x cells
+    → past_spaces x (reverse cells) ≡ true
 unfolding before_spaces
 past_spaces-ends x cells no_space ends =
     let outwards : reverse cells ≡ reverse ends.spaces ++ (ends.cell ∷ reverse ends.before) =
-    ap reverse ends.joined ∙ reverse-append ends.before (ends.cell ∷ ends.spaces) ∙ reverse-cons ends.cell ends.spaces (reverse ends.before) in
+    ap reverse ends.joined ∙ reverse-append ends.before (ends.cell ∷ ends.spaces)
+    ∙ reverse-cons ends.cell ends.spaces (reverse ends.before) in
     let past : before_spaces (reverse cells) ≡ before_spaces (ends.cell ∷ reverse ends.before) =
     ap before_spaces outwards ∙ past_all_spaces ends.spaces _ ends.all_spaces in
     let here : (b : Bool) → SP ends.cell.class ≡ b → x (before_spaces (ends.cell ∷ reverse ends.before)) ≡ true = elim [
@@ -79,7 +88,8 @@ odd_over_run (cell ∷ run) side all =
     ∙ ap (λ (b : Bool). cond (is_odd (length run)) (not b) b) turned ∙ twice (is_odd (length run)) (at_odd_run side)
 
 -- what does not end in an indicator ends in a run of none
-no_run : (side : Side) → ((rest : List Cell) (cell : Cell) → reverse side ≡ rest ++ cell ∷ [] → RI cell.class ≡ true → ⊥) → at_odd_run side ≡ false
+no_run : (side : Side) → ((rest : List Cell) (cell : Cell) → reverse side ≡ rest ++ cell ∷ [] → RI cell.class ≡ true
+    → ⊥) → at_odd_run side ≡ false
 unfolding at_odd_run
 no_run [] other = refl
 no_run (cell ∷ side) other =
@@ -91,9 +101,11 @@ no_run (cell ∷ side) other =
 
 pub odd_run : (cells run : List Cell) → EndsInRun cells run → at_odd_run (reverse cells) ≡ is_odd (length run)
 odd_run cells run ends =
-    let outwards : reverse cells ≡ reverse run ++ reverse ends.before = ap reverse ends.joined ∙ reverse-append ends.before run in
+    let outwards : reverse cells ≡ reverse run ++ reverse ends.before = ap reverse ends.joined
+    ∙ reverse-append ends.before run in
     let none : at_odd_run (reverse ends.before) ≡ false =
-    no_run (reverse ends.before) (λ rest cell joined. ends.longest rest cell (sym (reverse-reverse ends.before) ∙ joined)) in
+    no_run (reverse ends.before) (λ rest cell joined. ends.longest rest cell (sym (reverse-reverse ends.before)
+    ∙ joined)) in
     let parity : (b : Bool) → cond b (not false) false ≡ b = elim [ true ↦ refl | false ↦ refl ] in
     ap at_odd_run outwards ∙ odd_over_run run (reverse ends.before) ends.all_indicators
     ∙ ap (λ (b : Bool). cond (is_odd (length run)) (not b) b) none ∙ parity (is_odd (length run))
@@ -112,18 +124,22 @@ head_outwards (cell ∷ side) b =
 pub heads-is_head : (cells : List Cell) (cell : Cell) → heads (reverse cells) cell ≡ is_head cells cell
 heads-is_head cells cell = head_outwards (reverse cells) (none_of mark cell.class)
 
-pub units_one_more : (cells : List Cell) (cell : Cell) → units (cells ++ cell ∷ []) ≡ cond (is_head cells cell) (units cells ++ unit cell ∷ []) (units cells)
+pub units_one_more : (cells : List Cell) (cell : Cell)
+    → units (cells ++ cell ∷ []) ≡ cond (is_head cells cell) (units cells ++ unit cell ∷ []) (units cells)
 units_one_more cells cell =
     let side = reverse cells in
-    let joined : (b : Bool) → reverse (cond b (unit cell ∷ units_before side) (units_before side)) ≡ cond b (units cells ++ unit cell ∷ []) (units cells) =
-    let back : reverse (units_before side) ≡ units cells = ap reverse (units_before-reverse cells) ∙ reverse-reverse (units cells) in
+    let joined : (b : Bool) → reverse (cond b (unit cell ∷ units_before side) (units_before side))
+    ≡ cond b (units cells ++ unit cell ∷ []) (units cells) =
+    let back : reverse (units_before side) ≡ units cells = ap reverse (units_before-reverse cells)
+    ∙ reverse-reverse (units cells) in
     elim [
       | true ↦ reverse-append (unit cell ∷ []) (units_before side) ∙ ap (λ u. u ++ unit cell ∷ []) back
       | false ↦ back
     ] in
     sym (reverse-reverse (units (cells ++ cell ∷ [])))
     ∙ ap reverse (sym (units_before-reverse (cells ++ cell ∷ [])) ∙ ap units_before (reverse-append cells (cell ∷ [])))
-    ∙ ap (λ (b : Bool). reverse (cond b (unit cell ∷ units_before side) (units_before side))) (head_outwards side (none_of mark cell.class))
+    ∙ ap (λ (b : Bool). reverse (cond b (unit cell ∷ units_before side) (units_before side)))
+    (head_outwards side (none_of mark cell.class))
     ∙ joined (is_head cells cell)
 
 -- Quotation marks
@@ -149,7 +165,8 @@ left_open-outwards [] h = inl refl
 left_open-outwards (cell ∷ side) h =
     inr (record { before = reverse side; cell = cell; joined = reverse-append (cell ∷ []) side; of_set = h })
 
-leaves_open-left : (before : List Cell) → (before ≡ []) ⊎ EndsIn opens_after before → leaves_open (reverse before) ≡ true
+leaves_open-left : (before : List Cell) → (before ≡ []) ⊎ EndsIn opens_after before
+    → leaves_open (reverse before) ≡ true
 leaves_open-left before (inl none) = ap (λ l. leaves_open (reverse l)) none
 leaves_open-left before (inr ends) =
     ap leaves_open (ap reverse ends.joined ∙ reverse-append ends.before (ends.cell ∷ [])) ∙ ends.of_set
@@ -161,7 +178,8 @@ unfolding opens_quotation
 found_opening [] spaces all found = absurd (false≢true found)
 found_opening (cell ∷ side) spaces all found =
     let ends : (b : Bool) → SP cell.class ≡ b → EndsInOpenQuotation (reverse (cell ∷ side) ++ spaces) = elim [
-      | true ↦ λ e. subst EndsInOpenQuotation (sym (reverse-cons cell side spaces)) (found_opening side (cell ∷ spaces) (e, all) (rw e at found))
+      | true ↦ λ e. subst EndsInOpenQuotation (sym (reverse-cons cell side spaces))
+          (found_opening side (cell ∷ spaces) (e, all) (rw e at found))
       | false ↦ λ e.
           let here : (opening cell && leaves_open side) ≡ true = rw e at found in
           let parts = and_parts (opening cell) (leaves_open side) here in
@@ -181,7 +199,8 @@ found_opening (cell ∷ side) spaces all found =
 
 pub ends_in_open_quotation : (cells : List Cell) → opens_quotation (reverse cells) ≡ true → EndsInOpenQuotation cells
 ends_in_open_quotation cells found =
-    subst EndsInOpenQuotation (append-nil (reverse (reverse cells)) ∙ reverse-reverse cells) (found_opening (reverse cells) [] tt found)
+    subst EndsInOpenQuotation (append-nil (reverse (reverse cells)) ∙ reverse-reverse cells)
+    (found_opening (reverse cells) [] tt found)
 
 opens_over_spaces : (spaces : List Cell) (side : Side) → AllByRecursion (λ (c : Cell). SP c.class ≡ true) spaces
     → opens_quotation (reverse spaces ++ side) ≡ opens_quotation side
@@ -190,15 +209,18 @@ opens_over_spaces [] side all = refl
 opens_over_spaces (cell ∷ spaces) side all =
     ap opens_quotation (reverse-cons cell spaces side) ∙ opens_over_spaces spaces (cell ∷ side) all.1 ∙ rw all.0 refl
 
-opens_here : (cell : Cell) (side : Side) → QU cell.class ≡ true → cell.quote ≡ Initial → leaves_open side ≡ true → opens_quotation (cell ∷ side) ≡ true
+opens_here : (cell : Cell) (side : Side) → QU cell.class ≡ true → cell.quote ≡ Initial → leaves_open side ≡ true
+    → opens_quotation (cell ∷ side) ≡ true
 unfolding opens_quotation
 opens_here cell side of_class opens left_open = rw (QU-not_SP cell.class of_class, of_class, opens, left_open)
 
 pub opens_quotation-ends : (cells : List Cell) → EndsInOpenQuotation cells → opens_quotation (reverse cells) ≡ true
 opens_quotation-ends cells ends =
-    ap opens_quotation (ap reverse ends.joined ∙ reverse-append ends.before (ends.quotation ∷ ends.spaces) ∙ reverse-cons ends.quotation ends.spaces (reverse ends.before))
+    ap opens_quotation (ap reverse ends.joined ∙ reverse-append ends.before (ends.quotation ∷ ends.spaces)
+    ∙ reverse-cons ends.quotation ends.spaces (reverse ends.before))
     ∙ opens_over_spaces ends.spaces (ends.quotation ∷ reverse ends.before) ends.all_spaces
-    ∙ opens_here ends.quotation (reverse ends.before) ends.of_class ends.opens (leaves_open-left ends.before ends.left_open)
+    ∙ opens_here ends.quotation (reverse ends.before) ends.of_class ends.opens
+    (leaves_open-left ends.before ends.left_open)
 
 left_closed-after : (after : List Cell) → leaves_closed after ≡ true → (after ≡ []) ⊎ BeginsIn closes_before after
 left_closed-after [] h = inl refl
@@ -222,10 +244,12 @@ begins_in_closed_quotation (cell ∷ cells) h =
       left_closed = left_closed-after cells parts.1;
     }
 
-closes_here : (cell : Cell) (after : List Cell) → QU cell.class ≡ true → cell.quote ≡ Final → leaves_closed after ≡ true → closes_quotation (cell ∷ after) ≡ true
+closes_here : (cell : Cell) (after : List Cell) → QU cell.class ≡ true → cell.quote ≡ Final → leaves_closed after ≡ true
+    → closes_quotation (cell ∷ after) ≡ true
 closes_here cell after of_class closes left_closed = rw (of_class, closes, left_closed)
 
 pub closes_quotation-begins : (cells : List Cell) → BeginsInClosedQuotation cells → closes_quotation cells ≡ true
 closes_quotation-begins cells begins =
     ap closes_quotation begins.joined
-    ∙ closes_here begins.quotation begins.after begins.of_class begins.closes (leaves_closed-left begins.after begins.left_closed)
+    ∙ closes_here begins.quotation begins.after begins.of_class begins.closes
+    (leaves_closed-left begins.after begins.left_closed)

@@ -2,7 +2,8 @@
 use Rattle.std.proofs.Common.{◌≡◌, Bool, true, false, cond, ◌&&◌, not, [], ◌∷◌, refl, sym, ap, ◌∙◌}
 use Rattle.lbk_uax14.specs.declared.cells.Cell.{Cell}
 use Rattle.lbk_uax14.specs.declared.classes.Class.{Class}
-use Rattle.lbk_uax14.specs.declared.classes.Class.TheVariants.{Alphabetic, CloseParenthesis, EBase, PrefixNumeric, Quotation}
+use Rattle.lbk_uax14.specs.declared.classes.Class.TheVariants.{Alphabetic, CloseParenthesis, EBase, PrefixNumeric}
+use Rattle.lbk_uax14.specs.declared.classes.Class.TheVariants.{Quotation}
 use Rattle.lbk_uax14.specs.declared.classes.Quote.{Quote}
 use Rattle.lbk_uax14.specs.declared.classes.Quote.TheVariants.{Neither, Initial}
 use Rattle.lbk_uax14.specs.declared.verdicts.Kind.TheVariants.{No, May}
@@ -11,17 +12,21 @@ use Rattle.lbk_uax14.specs.declared.verdicts.Verdict.{Verdict}
 use Rattle.lbk_values.specs.declared.profile.Profile.{Profile}
 use Rattle.lbk_values.specs.declared.profile.Profile.TheVariants.{First, Second}
 use Rattle.lbk_uax14.specs.Asked.{asked_of_cell, asked_before_spaces, asked_class, asked_of_unit}
-use Rattle.lbk_uax14.specs.Chain.{choose, from_11, from_14, from_15, from_16, from_19, from_23, from_25, from_26, from_28}
+use Rattle.lbk_uax14.specs.Chain.{choose, from_11, from_14, from_15, from_16, from_19, from_23, from_25, from_26}
+use Rattle.lbk_uax14.specs.Chain.{from_28}
 use Rattle.lbk_uax14.specs.Classes.{Set, ◌or◌, B2, BA, CL, CP, EM, HL, HY, OP, QU, RI, SP, ZW, hard, is, opens_after}
 use Rattle.lbk_uax14.specs.Facts.{class_cell}
-use Rattle.lbk_uax14.specs.Rules.{cell_rules, joining_rules, opening_rules, quotation_rules, space_rules, hyphen_rules, affix_rules, number_rules, syllable_rules, letter_rules}
-use Rattle.lbk_uax14.specs.Sides.{Side, at, at_odd_run, before_spaces, is_initial, leaves_open, opens_quotation, past_spaces}
+use Rattle.lbk_uax14.specs.Rules.{cell_rules, joining_rules, opening_rules, quotation_rules, space_rules, hyphen_rules}
+use Rattle.lbk_uax14.specs.Rules.{affix_rules, number_rules, syllable_rules, letter_rules}
+use Rattle.lbk_uax14.specs.Sides.{Side, at, at_odd_run, before_spaces, is_initial, leaves_open, opens_quotation}
+use Rattle.lbk_uax14.specs.Sides.{past_spaces}
 
 -- The last cell
 
 -- a cell by its parts
 abbrev cell_of : Class → Bool → Bool → Quote → Bool → Cell
-cell_of class wide pict_cn quote letter = record { class = class; wide = wide; pict_cn = pict_cn; quote = quote; letter = letter }
+cell_of class wide pict_cn quote letter =
+    record { class = class; wide = wide; pict_cn = pict_cn; quote = quote; letter = letter }
 
 pub hard-asked : (class : Class) → hard (asked_of_cell class) ≡ hard class
 unfolding asked_of_cell is
@@ -37,10 +42,12 @@ cells-parts Alphabetic wide pict_cn quote letter side right v = refl
 cells-parts _ wide pict_cn quote letter side right v = refl
 
 pub cells-asked : (cell : Cell) (side right : Side) (v : Verdict)
-    → choose cell_rules (class_cell (asked_of_cell cell.class) ∷ cell ∷ side) right v ≡ choose cell_rules (cell ∷ side) right v
+    → choose cell_rules (class_cell (asked_of_cell cell.class) ∷ cell ∷ side) right v
+    ≡ choose cell_rules (cell ∷ side) right v
 cells-asked cell side right v = cells-parts cell.class cell.wide cell.pict_cn cell.quote cell.letter side right v
 
-zero_width-parts : (class : Class) (side : Side) → ZW (cond (SP (asked_of_cell class)) (cond (SP class) (before_spaces side) class) (asked_of_cell class))
+zero_width-parts : (class : Class) (side : Side)
+    → ZW (cond (SP (asked_of_cell class)) (cond (SP class) (before_spaces side) class) (asked_of_cell class))
     ≡ ZW (cond (SP class) (before_spaces side) class)
 unfolding asked_of_cell is
 zero_width-parts Alphabetic side = refl
@@ -130,25 +137,31 @@ past_spaces-asked set cell side same before =
     let last = asked_class cell.class cell.wide in
     ap (λ v. set (cond v (before_spaces side) last)) (space-asked cell.class cell.wide)
     ∙ (elim (SP cell.class)
-    as (λ v. set (cond v (before_spaces side) last) ≡ set (asked_before_spaces (cond v (before_spaces side) cell.class)))
+    as (λ v. set (cond v (before_spaces side) last)
+    ≡ set (asked_before_spaces (cond v (before_spaces side) cell.class)))
     [ true ↦ sym (before (before_spaces side)) | false ↦ same cell.class cell.wide ∙ sym (before cell.class) ])
 
-pub opening-asked : (cell : Cell) (side : Side) → past_spaces OP (asked_of_unit cell ∷ side) ≡ OP (asked_before_spaces (before_spaces (cell ∷ side)))
+pub opening-asked : (cell : Cell) (side : Side) → past_spaces OP (asked_of_unit cell ∷ side)
+    ≡ OP (asked_before_spaces (before_spaces (cell ∷ side)))
 opening-asked cell side = past_spaces-asked OP cell side open_class-asked open-before_spaces
 
-pub quoting-asked : (cell : Cell) (side : Side) → past_spaces QU (asked_of_unit cell ∷ side) ≡ QU (asked_before_spaces (before_spaces (cell ∷ side)))
+pub quoting-asked : (cell : Cell) (side : Side) → past_spaces QU (asked_of_unit cell ∷ side)
+    ≡ QU (asked_before_spaces (before_spaces (cell ∷ side)))
 quoting-asked cell side = past_spaces-asked QU cell side quotation_class-asked quotation-before_spaces
 
 pub closing-asked : (cell : Cell) (side : Side)
-    → past_spaces (CL or CP) (asked_of_unit cell ∷ side) ≡ (CL or CP) (asked_before_spaces (before_spaces (cell ∷ side)))
+    → past_spaces (CL or CP) (asked_of_unit cell ∷ side)
+    ≡ (CL or CP) (asked_before_spaces (before_spaces (cell ∷ side)))
 closing-asked cell side = past_spaces-asked (CL or CP) cell side close_class-asked close-before_spaces
 
-pub dashes-asked : (cell : Cell) (side : Side) → past_spaces B2 (asked_of_unit cell ∷ side) ≡ B2 (asked_before_spaces (before_spaces (cell ∷ side)))
+pub dashes-asked : (cell : Cell) (side : Side)
+    → past_spaces B2 (asked_of_unit cell ∷ side) ≡ B2 (asked_before_spaces (before_spaces (cell ∷ side)))
 dashes-asked cell side = past_spaces-asked B2 cell side dash_class-asked dash-before_spaces
 
 -- The last unit
 
-pub at_hyphen-asked : (cell : Cell) (side : Side) → at (HY or BA) (asked_of_unit cell ∷ side) ≡ at (HY or BA) (cell ∷ side)
+pub at_hyphen-asked : (cell : Cell) (side : Side)
+    → at (HY or BA) (asked_of_unit cell ∷ side) ≡ at (HY or BA) (cell ∷ side)
 unfolding asked_of_unit
 at_hyphen-asked cell side = hyphen-asked cell.class cell.wide
 
@@ -156,26 +169,33 @@ pub odd_run-asked : (cell : Cell) (side : Side) → at_odd_run (asked_of_unit ce
 unfolding asked_of_unit at_odd_run
 odd_run-asked cell side = ap (λ v. v && not (at_odd_run side)) (indicator-asked cell.class cell.wide)
 
-mark_opens : (q : Bool) (quote : Quote) → (q && is_initial (cond (q && is_initial quote) Initial Neither)) ≡ (q && is_initial quote)
+mark_opens : (q : Bool) (quote : Quote) → (q && is_initial (cond (q && is_initial quote) Initial Neither))
+    ≡ (q && is_initial quote)
 mark_opens false _ = refl
 mark_opens true Initial = refl
 mark_opens true _ = refl
 
-pub quotation-asked : (cell : Cell) (side : Side) → opens_quotation (asked_of_unit cell ∷ side) ≡ opens_quotation (cell ∷ side)
+pub quotation-asked : (cell : Cell) (side : Side) → opens_quotation (asked_of_unit cell ∷ side)
+    ≡ opens_quotation (cell ∷ side)
 unfolding asked_of_unit opens_quotation
 quotation-asked cell side =
     let quote = cond (QU cell.class && is_initial cell.quote) Initial Neither in
-    ap (λ v. cond v (opens_quotation side) ((QU (asked_class cell.class cell.wide) && is_initial quote) && leaves_open side)) (space-asked cell.class cell.wide)
-    ∙ ap (λ v. cond (SP cell.class) (opens_quotation side) ((v && is_initial quote) && leaves_open side)) (quotation_class-asked cell.class cell.wide)
-    ∙ ap (λ v. cond (SP cell.class) (opens_quotation side) (v && leaves_open side)) (mark_opens (QU cell.class) cell.quote)
+    ap (λ v. cond v (opens_quotation side) ((QU (asked_class cell.class cell.wide) && is_initial quote)
+    && leaves_open side)) (space-asked cell.class cell.wide)
+    ∙ ap (λ v. cond (SP cell.class) (opens_quotation side) ((v && is_initial quote) && leaves_open side))
+    (quotation_class-asked cell.class cell.wide)
+    ∙ ap (λ v. cond (SP cell.class) (opens_quotation side) (v && leaves_open side))
+    (mark_opens (QU cell.class) cell.quote)
 
 -- The rules over units
 
 -- the rules before LB28, and what they leave to it
 abbrev before_28 : Profile → Side → Side → Verdict → Verdict
 before_28 profile left right otherwise =
-    choose joining_rules left right (choose opening_rules left right (choose (quotation_rules profile) left right (choose space_rules left right
-    (choose hyphen_rules left right (choose affix_rules left right (choose number_rules left right (choose syllable_rules left right otherwise)))))))
+    choose joining_rules left right (choose opening_rules left right
+    (choose (quotation_rules profile) left right (choose space_rules left right
+    (choose hyphen_rules left right (choose affix_rules left right
+    (choose number_rules left right (choose syllable_rules left right otherwise)))))))
 
 -- the answers of LB30b and LB31
 abbrev stays_together : Verdict
@@ -191,9 +211,13 @@ decided_twice false false a b = refl
 
 after_prefix : (profile : Profile) (wide pict_cn : Bool) (quote : Quote) (letter : Bool) (side : Side)
     (class : Class) (wide_2 pict_2 : Bool) (quote_2 : Quote) (letter_2 : Bool) (more : Side)
-    → from_11 profile (asked_of_unit (cell_of PrefixNumeric wide pict_cn quote letter) ∷ side) (cell_of class wide_2 pict_2 quote_2 letter_2 ∷ more)
-    ≡ from_11 profile (cell_of PrefixNumeric wide pict_cn quote letter ∷ side) (cell_of class wide_2 pict_2 quote_2 letter_2 ∷ more)
-unfolding asked_of_unit asked_class is from_11 from_14 from_15 from_16 from_19 from_23 from_25 from_26 from_28 joining_rules opening_rules quotation_rules space_rules hyphen_rules affix_rules number_rules syllable_rules letter_rules before_spaces at_odd_run opens_quotation
+    → from_11 profile (asked_of_unit (cell_of PrefixNumeric wide pict_cn quote letter) ∷ side)
+    (cell_of class wide_2 pict_2 quote_2 letter_2 ∷ more)
+    ≡ from_11 profile (cell_of PrefixNumeric wide pict_cn quote letter ∷ side)
+    (cell_of class wide_2 pict_2 quote_2 letter_2 ∷ more)
+unfolding asked_of_unit asked_class is from_11 from_14 from_15 from_16 from_19 from_23 from_25 from_26 from_28
+    joining_rules opening_rules quotation_rules space_rules hyphen_rules affix_rules number_rules syllable_rules
+    letter_rules before_spaces at_odd_run opens_quotation
 after_prefix First wide true quote letter side Alphabetic wide_2 pict_2 quote_2 letter_2 more = refl
 after_prefix First wide false quote letter side Alphabetic wide_2 pict_2 quote_2 letter_2 more = refl
 after_prefix First wide true quote letter side _ wide_2 pict_2 quote_2 letter_2 more = refl
@@ -203,10 +227,13 @@ after_prefix Second wide false quote letter side Alphabetic wide_2 pict_2 quote_
 after_prefix Second wide true quote letter side _ wide_2 pict_2 quote_2 letter_2 more = refl
 after_prefix Second wide false quote letter side _ wide_2 pict_2 quote_2 letter_2 more = refl
 
-from_11-parts : (profile : Profile) (class : Class) (wide pict_cn : Bool) (quote : Quote) (letter : Bool) (side right : Side)
+from_11-parts : (profile : Profile) (class : Class) (wide pict_cn : Bool) (quote : Quote) (letter : Bool)
+    (side right : Side)
     → from_11 profile (asked_of_unit (cell_of class wide pict_cn quote letter) ∷ side) right
     ≡ from_11 profile (cell_of class wide pict_cn quote letter ∷ side) right
-unfolding asked_of_unit asked_class is from_11 from_14 from_15 from_16 from_19 from_23 from_25 from_26 from_28 joining_rules opening_rules quotation_rules space_rules hyphen_rules affix_rules number_rules syllable_rules letter_rules before_spaces at_odd_run opens_quotation
+unfolding asked_of_unit asked_class is from_11 from_14 from_15 from_16 from_19 from_23 from_25 from_26 from_28
+    joining_rules opening_rules quotation_rules space_rules hyphen_rules affix_rules number_rules syllable_rules
+    letter_rules before_spaces at_odd_run opens_quotation
 from_11-parts First CloseParenthesis true pict_cn quote letter side right = refl
 from_11-parts First CloseParenthesis false pict_cn quote letter side right = refl
 from_11-parts First EBase wide pict_cn quote letter side right =
@@ -214,7 +241,8 @@ from_11-parts First EBase wide pict_cn quote letter side right =
     (sym (decided_twice pict_cn (at EM right) stays_together may_break))
 from_11-parts First PrefixNumeric wide true quote letter side [] = refl
 from_11-parts First PrefixNumeric wide false quote letter side [] = refl
-from_11-parts First PrefixNumeric wide pict_cn quote letter side (r ∷ more) = after_prefix First wide pict_cn quote letter side r.class r.wide r.pict_cn r.quote r.letter more
+from_11-parts First PrefixNumeric wide pict_cn quote letter side (r ∷ more) =
+    after_prefix First wide pict_cn quote letter side r.class r.wide r.pict_cn r.quote r.letter more
 from_11-parts First _ wide pict_cn quote letter side right = refl
 from_11-parts Second CloseParenthesis true pict_cn quote letter side right = refl
 from_11-parts Second CloseParenthesis false pict_cn quote letter side right = refl
@@ -223,11 +251,13 @@ from_11-parts Second EBase wide pict_cn quote letter side right =
     (sym (decided_twice pict_cn (at EM right) stays_together may_break))
 from_11-parts Second PrefixNumeric wide true quote letter side [] = refl
 from_11-parts Second PrefixNumeric wide false quote letter side [] = refl
-from_11-parts Second PrefixNumeric wide pict_cn quote letter side (r ∷ more) = after_prefix Second wide pict_cn quote letter side r.class r.wide r.pict_cn r.quote r.letter more
+from_11-parts Second PrefixNumeric wide pict_cn quote letter side (r ∷ more) =
+    after_prefix Second wide pict_cn quote letter side r.class r.wide r.pict_cn r.quote r.letter more
 from_11-parts Second Quotation wide pict_cn Initial letter side right = refl
 from_11-parts Second Quotation wide pict_cn _ letter side right = refl
 from_11-parts Second _ wide pict_cn quote letter side right = refl
 
 pub from_11-asked : (profile : Profile) (cell : Cell) (side right : Side)
     → from_11 profile (asked_of_unit cell ∷ side) right ≡ from_11 profile (cell ∷ side) right
-from_11-asked profile cell side right = from_11-parts profile cell.class cell.wide cell.pict_cn cell.quote cell.letter side right
+from_11-asked profile cell side right = from_11-parts profile cell.class cell.wide cell.pict_cn cell.quote cell.letter
+    side right

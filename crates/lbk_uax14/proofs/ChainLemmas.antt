@@ -7,8 +7,10 @@ use Rattle.lbk_uax14.specs.declared.verdicts.Kind.TheVariants.{May}
 use Rattle.lbk_uax14.specs.declared.verdicts.Rule.TheVariants.{Lb31}
 use Rattle.lbk_uax14.specs.Sides.{Side}
 use Rattle.lbk_uax14.specs.Units.{units}
-use Rattle.lbk_uax14.specs.Rules.{Line, Entry, over_cells, over_units, first_match, rule_list, unit_rules, cell_rules, last_rule}
-use Rattle.lbk_uax14.specs.Chain.{choose, from_11, from_14, from_15, from_16, from_19, from_23, from_25, from_26, from_28, from_cells}
+use Rattle.lbk_uax14.specs.Rules.{Line, Entry, over_cells, over_units, first_match, rule_list, unit_rules, cell_rules}
+use Rattle.lbk_uax14.specs.Rules.{last_rule}
+use Rattle.lbk_uax14.specs.Chain.{choose, from_11, from_14, from_15, from_16, from_19, from_23, from_25, from_26}
+use Rattle.lbk_uax14.specs.Chain.{from_28, from_cells}
 use Rattle.lbk_uax14.specs.Verdict.{verdict_between_in}
 use Rattle.lbk_uax14.proofs.FactsLemmas.{units_before-reverse}
 
@@ -30,7 +32,8 @@ first_match-over_units : (lines : List Line) (left right : List Cell)
     ≡ choose lines (reverse (units left)) (units right) (record { kind = May; rule = Lb31 })
 first_match-over_units [] left right = refl
 first_match-over_units (line ∷ lines) left right =
-    ap (λ v. cond (line.holds (reverse (units left)) (units right)) line.answer v) (first_match-over_units lines left right)
+    ap (λ v. cond (line.holds (reverse (units left)) (units right)) line.answer v)
+    (first_match-over_units lines left right)
 
 -- the unit rules, group by group
 pub from_11-list : (profile : Profile) (left right : Side)

@@ -1,5 +1,6 @@
 -- Which positions wait for the unit after a quotation mark.
-use Rattle.std.proofs.Common.{◌≡◌, Bool, true, false, cond, ◌||◌, ◌&&◌, not, List, [], ◌∷◌, ◌++◌, map, reverse, refl, sym, ap, ◌∙◌}
+use Rattle.std.proofs.Common.{◌≡◌, Bool, true, false, cond, ◌||◌, ◌&&◌, not, List, [], ◌∷◌, ◌++◌, map, reverse, refl}
+use Rattle.std.proofs.Common.{sym, ap, ◌∙◌}
 use Rattle.std.proofs.lemmas.Bool.{false≢true}
 use Rattle.lbk_uax14.specs.declared.classes.Class.{Class}
 use Rattle.lbk_uax14.specs.declared.classes.Class.TheVariants.{CombiningMark, Quotation, ZWJ}
@@ -14,8 +15,11 @@ use Rattle.lbk_uax14.specs.Sides.{Side, closing, is_final, leaves_closed, opens_
 use Rattle.lbk_uax14.specs.Units.{letter, unit, units, units_after}
 use Rattle.lbk_uax14.specs.Facts.{units_before}
 use Rattle.lbk_uax14.specs.Held.{is_15b, before_15b, any_matches, is_held}
-use Rattle.lbk_uax14.specs.Rules.{Line, Entry, ◌×at◌, over_cells, over_units, rule_list, unit_rules, cell_rules, joining_rules, opening_rules, quotation_rules, space_rules, hyphen_rules, affix_rules, number_rules, syllable_rules, letter_rules, last_rule}
-use Rattle.lbk_uax14.specs.Chain.{choose, from_11, from_14, from_15, from_16, from_19, from_23, from_25, from_26, from_28, from_cells}
+use Rattle.lbk_uax14.specs.Rules.{Line, Entry, ◌×at◌, over_cells, over_units, rule_list, unit_rules, cell_rules}
+use Rattle.lbk_uax14.specs.Rules.{joining_rules, opening_rules, quotation_rules, space_rules, hyphen_rules, affix_rules}
+use Rattle.lbk_uax14.specs.Rules.{number_rules, syllable_rules, letter_rules, last_rule}
+use Rattle.lbk_uax14.specs.Chain.{choose, from_11, from_14, from_15, from_16, from_19, from_23, from_25, from_26}
+use Rattle.lbk_uax14.specs.Chain.{from_28, from_cells}
 use Rattle.lbk_uax14.proofs.ChainLemmas.{choose-append, from_11-list}
 use Rattle.lbk_uax14.proofs.FactsLemmas.{units_before-reverse}
 use Rattle.lbk_uax14.proofs.LookAheadLemmas.{from_16-right, from_cells-right}
@@ -75,7 +79,8 @@ choose-settled (line ∷ lines) left right x y same =
 -- The rules after 15b
 
 from_16-list : (left right : Side)
-    → choose (space_rules ++ hyphen_rules ++ affix_rules ++ number_rules ++ syllable_rules ++ letter_rules) left right (record { kind = May; rule = Lb31 })
+    → choose (space_rules ++ hyphen_rules ++ affix_rules ++ number_rules ++ syllable_rules ++ letter_rules) left right
+    (record { kind = May; rule = Lb31 })
     ≡ from_16 left right
 unfolding from_16 from_19 from_23 from_25 from_26 from_28
 from_16-list left right = simp choose-append
@@ -89,11 +94,13 @@ from_16-not_15b left right =
 
 -- in the first profile there is none
 pub from_cells-first : (left : Side) (right : List Cell) → is_15b (from_cells First left right).rule ≡ false
-unfolding from_cells cell_rules unit_rules joining_rules opening_rules quotation_rules space_rules hyphen_rules affix_rules number_rules syllable_rules letter_rules last_rule
+unfolding from_cells cell_rules unit_rules joining_rules opening_rules quotation_rules space_rules hyphen_rules
+    affix_rules number_rules syllable_rules letter_rules last_rule
 from_cells-first left right =
     not_15b-choose cell_rules left right (from_11 First (units_before left) (units right)) refl
     (ap (λ v. is_15b v.rule) (sym (from_11-list First (units_before left) (units right)))
-    ∙ not_15b-choose (unit_rules First) (units_before left) (units right) (record { kind = May; rule = Lb31 }) refl refl)
+    ∙ not_15b-choose (unit_rules First) (units_before left) (units right) (record { kind = May; rule = Lb31 }) refl
+    refl)
 
 -- Settled positions
 
@@ -102,13 +109,17 @@ from_15-settled : (left : Side) (right : Cell) (more : Side) → is_15b (from_15
 unfolding from_15 quotation_rules
 from_15-settled left right more =
     elim (opens_quotation left)
-    as (λ v. is_15b (cond v (record { kind = No; rule = Lb15a }) (cond (closing right && true) (record { kind = No; rule = Lb15b }) (from_16 left (right ∷ [])))).rule ≡ false
-    → cond v (record { kind = No; rule = Lb15a }) (cond (closing right && leaves_closed more) (record { kind = No; rule = Lb15b }) (from_16 left (right ∷ more)))
-    ≡ cond v (record { kind = No; rule = Lb15a }) (cond (closing right && true) (record { kind = No; rule = Lb15b }) (from_16 left (right ∷ [])))) [
+    as (λ v. is_15b (cond v (record { kind = No; rule = Lb15a })
+    (cond (closing right && true) (record { kind = No; rule = Lb15b }) (from_16 left (right ∷ [])))).rule ≡ false
+    → cond v (record { kind = No; rule = Lb15a })
+    (cond (closing right && leaves_closed more) (record { kind = No; rule = Lb15b }) (from_16 left (right ∷ more)))
+    ≡ cond v (record { kind = No; rule = Lb15a })
+    (cond (closing right && true) (record { kind = No; rule = Lb15b }) (from_16 left (right ∷ [])))) [
       | true ↦ λ _. refl
       | false ↦
           elim (closing right)
-          as (λ w. is_15b (cond (w && true) (record { kind = No; rule = Lb15b }) (from_16 left (right ∷ []))).rule ≡ false
+          as (λ w. is_15b (cond (w && true) (record { kind = No; rule = Lb15b }) (from_16 left (right ∷ []))).rule
+          ≡ false
           → cond (w && leaves_closed more) (record { kind = No; rule = Lb15b }) (from_16 left (right ∷ more))
           ≡ cond (w && true) (record { kind = No; rule = Lb15b }) (from_16 left (right ∷ [])))
           [ true ↦ λ h. absurd (false≢true (sym h)) | false ↦ λ _. from_16-right left right more [] ]
@@ -118,14 +129,16 @@ from_14-settled : (left : Side) (right : Cell) (more : Side) → is_15b (from_14
     → from_14 Second left (right ∷ more) ≡ from_14 Second left (right ∷ [])
 unfolding from_14 opening_rules
 from_14-settled left right more =
-    choose-settled opening_rules left (right ∷ []) (from_15 Second left (right ∷ more)) (from_15 Second left (right ∷ []))
+    choose-settled opening_rules left (right ∷ []) (from_15 Second left (right ∷ more))
+    (from_15 Second left (right ∷ []))
     (from_15-settled left right more)
 
 from_11-settled : (left : Side) (right : Cell) (more : Side) → is_15b (from_11 Second left (right ∷ [])).rule ≡ false
     → from_11 Second left (right ∷ more) ≡ from_11 Second left (right ∷ [])
 unfolding from_11 joining_rules
 from_11-settled left right more =
-    choose-settled joining_rules left (right ∷ []) (from_14 Second left (right ∷ more)) (from_14 Second left (right ∷ []))
+    choose-settled joining_rules left (right ∷ []) (from_14 Second left (right ∷ more))
+    (from_14 Second left (right ∷ []))
     (from_14-settled left right more)
 
 -- where rule 15b does not decide before the last cell, no cell after it counts
@@ -157,14 +170,17 @@ closing-unit cell =
 abbrev early : List Line
 early = joining_rules ++ opening_rules ++ (Lb15a ×at (λ left right. opens_quotation left)) ∷ []
 
-any_holds-append : (a b : List Line) (left right : Side) → any_holds (a ++ b) left right ≡ (any_holds a left right || any_holds b left right)
+any_holds-append : (a b : List Line) (left right : Side)
+    → any_holds (a ++ b) left right ≡ (any_holds a left right || any_holds b left right)
 any_holds-append [] b left right = refl
 any_holds-append (line ∷ a) b left right =
-    elim (line.holds left right) as (λ v. (v || any_holds (a ++ b) left right) ≡ ((v || any_holds a left right) || any_holds b left right))
+    elim (line.holds left right) as (λ v. (v || any_holds (a ++ b) left right)
+    ≡ ((v || any_holds a left right) || any_holds b left right))
     [ true ↦ refl | false ↦ any_holds-append a b left right ]
 
 any_matches-over_cells : (lines : List Line) (entries : List Entry) (left right : List Cell)
-    → any_matches (map over_cells lines ++ entries) left right ≡ (any_holds lines (reverse left) right || any_matches entries left right)
+    → any_matches (map over_cells lines ++ entries) left right
+    ≡ (any_holds lines (reverse left) right || any_matches entries left right)
 any_matches-over_cells [] entries left right = refl
 any_matches-over_cells (line ∷ lines) entries left right =
     elim (line.holds (reverse left) right)
@@ -185,7 +201,8 @@ before_15b-lines = refl
 -- what matches before rule 15b does not hang on the cells after the first
 any_matches-first : (left : List Cell) (cell : Cell) (more : List Cell)
     → any_matches (before_15b (rule_list Second)) left (cell ∷ more)
-    ≡ (any_holds cell_rules (reverse left) (cell ∷ []) || any_holds early (units_before (reverse left)) (unit cell ∷ []))
+    ≡ (any_holds cell_rules (reverse left) (cell ∷ []) || any_holds early (units_before (reverse left))
+    (unit cell ∷ []))
 unfolding cell_rules joining_rules opening_rules
 any_matches-first left cell more =
     ap (λ e. any_matches e left (cell ∷ more)) before_15b-lines
@@ -194,11 +211,13 @@ any_matches-first left cell more =
     (any_matches-over_units early left (cell ∷ more)
     ∙ ap (λ u. any_holds early u (unit cell ∷ [])) (sym (units_before-reverse left)))
 
-from_15-held : (left : Side) (right : Cell) → is_15b (from_15 Second left (right ∷ [])).rule ≡ (not (opens_quotation left) && closing right)
+from_15-held : (left : Side) (right : Cell) → is_15b (from_15 Second left (right ∷ [])).rule
+    ≡ (not (opens_quotation left) && closing right)
 unfolding from_15 quotation_rules
 from_15-held left right =
     elim (opens_quotation left)
-    as (λ v. is_15b (cond v (record { kind = No; rule = Lb15a }) (cond (closing right && true) (record { kind = No; rule = Lb15b }) (from_16 left (right ∷ [])))).rule
+    as (λ v. is_15b (cond v (record { kind = No; rule = Lb15a })
+    (cond (closing right && true) (record { kind = No; rule = Lb15b }) (from_16 left (right ∷ [])))).rule
     ≡ (not v && closing right)) [
       | true ↦ refl
       | false ↦
@@ -208,7 +227,8 @@ from_15-held left right =
     ]
 
 -- cells, joining, opening and quotation lines, and the closing mark
-same_test : (a j o p q : Bool) → (not a && (not j && (not o && (not p && q)))) ≡ (q && not (a || ((j || o) || (p || false))))
+same_test : (a j o p q : Bool) → (not a && (not j && (not o && (not p && q))))
+    ≡ (q && not (a || ((j || o) || (p || false))))
 same_test true j o p true = refl
 same_test true j o p false = refl
 same_test false true o p true = refl
@@ -222,7 +242,8 @@ same_test false false false false false = refl
 
 from_cells-held : (left : Side) (cell : Cell)
     → is_15b (from_cells Second left (cell ∷ [])).rule
-    ≡ (closing cell && not (any_holds cell_rules left (cell ∷ []) || any_holds early (units_before left) (unit cell ∷ [])))
+    ≡ (closing cell && not (any_holds cell_rules left (cell ∷ [])
+    || any_holds early (units_before left) (unit cell ∷ [])))
 unfolding from_cells from_11 from_14 cell_rules joining_rules opening_rules
 from_cells-held left cell =
     let u = units_before left in
@@ -238,7 +259,8 @@ from_cells-held left cell =
     ∙ ap (λ v. not o && v) (from_15-held u (unit cell))))
     ∙ same_test a j o p q
     ∙ ap (λ v. q && not (a || (v || (p || false)))) (sym (any_holds-append joining_rules opening_rules u r))
-    ∙ ap (λ v. q && not (a || v)) (sym (any_holds-append (joining_rules ++ opening_rules) ((Lb15a ×at (λ left right. opens_quotation left)) ∷ []) u r))
+    ∙ ap (λ v. q && not (a || v)) (sym (any_holds-append (joining_rules ++ opening_rules)
+    ((Lb15a ×at (λ left right. opens_quotation left)) ∷ []) u r))
     ∙ ap (λ v. v && not (a || any_holds early u r)) (closing-unit cell)
 
 -- a position is held where the table, asked as if nothing came after the quotation mark, answers rule 15b
@@ -261,12 +283,14 @@ choose-held (line ∷ lines) left right w x y same =
     → cond v line.answer (choose lines left right w) ≡ cond v line.answer (choose lines left right x))
     [ true ↦ λ _. refl | false ↦ choose-held lines left right w x y same ]
 
-choose-15b : (lines : List Line) (left right : Side) (y z : Verdict) → never_15b lines ≡ true → (is_15b y.rule ≡ true → y ≡ z)
+choose-15b : (lines : List Line) (left right : Side) (y z : Verdict) → never_15b lines ≡ true
+    → (is_15b y.rule ≡ true → y ≡ z)
     → is_15b (choose lines left right y).rule ≡ true → choose lines left right y ≡ z
 choose-15b [] left right y z never same = same
 choose-15b (line ∷ lines) left right y z never same =
     elim (line.holds left right)
-    as (λ v. is_15b (cond v line.answer (choose lines left right y)).rule ≡ true → cond v line.answer (choose lines left right y) ≡ z) [
+    as (λ v. is_15b (cond v line.answer (choose lines left right y)).rule ≡ true
+    → cond v line.answer (choose lines left right y) ≡ z) [
       | true ↦ λ h. absurd (false≢true (sym (both-left (is_15b line.answer.rule) (never_15b lines) never) ∙ h))
       | false ↦ choose-15b lines left right y z (both-right (is_15b line.answer.rule) (never_15b lines) never) same
     ]
@@ -280,7 +304,8 @@ and-left : (a b : Bool) → (a && b) ≡ true → a ≡ true
 and-left true b h = refl
 and-left false b h = absurd (false≢true h)
 
-from_15-open : (left : Side) (right : Cell) (more : Side) → leaves_closed more ≡ false → is_15b (from_15 Second left (right ∷ [])).rule ≡ true
+from_15-open : (left : Side) (right : Cell) (more : Side) → leaves_closed more ≡ false
+    → is_15b (from_15 Second left (right ∷ [])).rule ≡ true
     → from_15 First left (right ∷ more) ≡ from_15 Second left (right ∷ more)
 unfolding from_15 quotation_rules
 from_15-open left right more opens held =
@@ -291,32 +316,39 @@ from_15-open left right more opens held =
     let not_op = QU-not_OP right.class (and-left (QU right.class) (is_final right.quote) closes) in
     ap (λ v. cond (past_spaces QU left && v) (record { kind = No; rule = Lb15 }) rest) not_op
     ∙ ap (λ v. cond v (record { kind = No; rule = Lb15 }) rest) (and-false (past_spaces QU left))
-    ∙ sym (ap (λ v. cond v (record { kind = No; rule = Lb15a }) (cond (closing right && leaves_closed more) (record { kind = No; rule = Lb15b }) rest)) unopened
+    ∙ sym (ap (λ v. cond v (record { kind = No; rule = Lb15a })
+    (cond (closing right && leaves_closed more) (record { kind = No; rule = Lb15b }) rest)) unopened
     ∙ ap (λ v. cond (closing right && v) (record { kind = No; rule = Lb15b }) rest) opens
     ∙ ap (λ v. cond v (record { kind = No; rule = Lb15b }) rest) (and-false (closing right)))
 
-from_14-open : (left : Side) (right : Cell) (more : Side) → leaves_closed more ≡ false → is_15b (from_14 Second left (right ∷ [])).rule ≡ true
+from_14-open : (left : Side) (right : Cell) (more : Side) → leaves_closed more ≡ false
+    → is_15b (from_14 Second left (right ∷ [])).rule ≡ true
     → from_14 First left (right ∷ more) ≡ from_14 Second left (right ∷ more)
 unfolding from_14 opening_rules
 from_14-open left right more opens =
-    choose-held opening_rules left (right ∷ []) (from_15 First left (right ∷ more)) (from_15 Second left (right ∷ more)) (from_15 Second left (right ∷ []))
+    choose-held opening_rules left (right ∷ []) (from_15 First left (right ∷ more)) (from_15 Second left (right ∷ more))
+    (from_15 Second left (right ∷ []))
     (from_15-open left right more opens)
 
-from_11-open : (left : Side) (right : Cell) (more : Side) → leaves_closed more ≡ false → is_15b (from_11 Second left (right ∷ [])).rule ≡ true
+from_11-open : (left : Side) (right : Cell) (more : Side) → leaves_closed more ≡ false
+    → is_15b (from_11 Second left (right ∷ [])).rule ≡ true
     → from_11 First left (right ∷ more) ≡ from_11 Second left (right ∷ more)
 unfolding from_11 joining_rules
 from_11-open left right more opens =
-    choose-held joining_rules left (right ∷ []) (from_14 First left (right ∷ more)) (from_14 Second left (right ∷ more)) (from_14 Second left (right ∷ []))
+    choose-held joining_rules left (right ∷ []) (from_14 First left (right ∷ more)) (from_14 Second left (right ∷ more))
+    (from_14 Second left (right ∷ []))
     (from_14-open left right more opens)
 
 -- where the unit after it leaves the quotation open, both profiles decide it alike
-pub from_cells-open : (left : Side) (right : Cell) (more : List Cell) → leaves_closed (units_after (hard right.class) more) ≡ false
+pub from_cells-open : (left : Side) (right : Cell) (more : List Cell)
+    → leaves_closed (units_after (hard right.class) more) ≡ false
     → is_15b (from_cells Second left (right ∷ [])).rule ≡ true
     → from_cells First left (right ∷ more) ≡ from_cells Second left (right ∷ more)
 unfolding from_cells cell_rules
 from_cells-open left right more opens =
     choose-held cell_rules left (right ∷ []) (from_11 First (units_before left) (units (right ∷ more)))
-    (from_11 Second (units_before left) (units (right ∷ more))) (from_11 Second (units_before left) (units (right ∷ [])))
+    (from_11 Second (units_before left) (units (right ∷ more)))
+    (from_11 Second (units_before left) (units (right ∷ [])))
     (from_11-open (units_before left) (unit right) (units_after (hard right.class) more) opens)
 
 from_15-15b : (left : Side) (right : Cell) → is_15b (from_15 Second left (right ∷ [])).rule ≡ true
@@ -327,7 +359,8 @@ from_15-15b left right held =
     let unopened = both-left (opens_quotation left) (closing right) test in
     let closes = both-right (opens_quotation left) (closing right) test in
     let rest = from_16 left (right ∷ []) in
-    ap (λ v. cond v (record { kind = No; rule = Lb15a }) (cond (closing right && true) (record { kind = No; rule = Lb15b }) rest)) unopened
+    ap (λ v. cond v (record { kind = No; rule = Lb15a })
+    (cond (closing right && true) (record { kind = No; rule = Lb15b }) rest)) unopened
     ∙ ap (λ v. cond (v && true) (record { kind = No; rule = Lb15b }) rest) closes
 
 -- rule 15b forbids a break

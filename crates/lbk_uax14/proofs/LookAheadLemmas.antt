@@ -1,5 +1,7 @@
 -- How far to the right the rules look.
-use Rattle.std.proofs.Common.{◌≡◌, ℕ, ◌+◌, ◌<◌, ◌≤◌, Bool, true, false, cond, ◌||◌, Option, Some, None, List, [], ◌∷◌, ◌++◌, length, take, drop, reverse, refl, sym, ap, ◌∙◌, subst, IsSome, ◌⊎◌, inl, inr, arith}
+use Rattle.std.proofs.Common.{◌≡◌, ℕ, ◌+◌, ◌<◌, ◌≤◌, Bool, true, false, cond, ◌||◌, Option, Some, None, List, [], ◌∷◌}
+use Rattle.std.proofs.Common.{◌++◌, length, take, drop, reverse, refl, sym, ap, ◌∙◌, subst, IsSome, ◌⊎◌, inl, inr}
+use Rattle.std.proofs.Common.{arith}
 use Rattle.std.proofs.lemmas.Bool.{false≢true, cases_lt}
 use Rattle.std.proofs.lemmas.List.{take-take, take-append-drop, drop-take, drop_all, drop-append-le, take_all}
 use Rattle.lbk_uax14.specs.declared.cells.Cell.{Cell}
@@ -9,10 +11,12 @@ use Rattle.lbk_uax14.specs.Classes.{hard, mark, none_of, closes_before}
 use Rattle.lbk_uax14.specs.Sides.{Side, leaves_closed}
 use Rattle.lbk_uax14.specs.Units.{unit, units_after, first, next_unit}
 use Rattle.lbk_uax14.specs.Facts.{units_before, closes_in}
-use Rattle.lbk_uax14.specs.Rules.{cell_rules, joining_rules, opening_rules, quotation_rules, space_rules, hyphen_rules, affix_rules, number_rules, syllable_rules, letter_rules}
+use Rattle.lbk_uax14.specs.Rules.{cell_rules, joining_rules, opening_rules, quotation_rules, space_rules, hyphen_rules}
+use Rattle.lbk_uax14.specs.Rules.{affix_rules, number_rules, syllable_rules, letter_rules}
 use Rattle.lbk_uax14.specs.Verdict.{verdict_between_in, verdict_in}
 use Rattle.lbk_uax14.proofs.ChainLemmas.{verdict_between-chain}
-use Rattle.lbk_uax14.specs.Chain.{choose, from_11, from_14, from_15, from_16, from_19, from_23, from_25, from_26, from_28, from_cells}
+use Rattle.lbk_uax14.specs.Chain.{choose, from_11, from_14, from_15, from_16, from_19, from_23, from_25, from_26}
+use Rattle.lbk_uax14.specs.Chain.{from_28, from_cells}
 
 -- from rule 16 on only the first unit of the right counts
 from_28-right : (left : Side) (right : Cell) (a b : Side) → from_28 left (right ∷ a) ≡ from_28 left (right ∷ b)
@@ -96,7 +100,8 @@ closes_in-none a b = refl
 
 -- The look-ahead law, between lists: the right counts by its first cell, and in the second profile by the unit
 -- after it
-pub look_ahead_between : (left a b : List Cell) → take 1 a ≡ take 1 b → verdict_between_in First left a ≡ verdict_between_in First left b
+pub look_ahead_between : (left a b : List Cell) → take 1 a ≡ take 1 b
+    → verdict_between_in First left a ≡ verdict_between_in First left b
 look_ahead_between left [] [] same = refl
 look_ahead_between left [] (_ ∷ _) same = cc
 look_ahead_between left (_ ∷ _) [] same = cc
@@ -130,7 +135,8 @@ before-same a b k same =
 after-same : (a b : List Cell) (k : ℕ) → take (k + 1) a ≡ take (k + 1) b → take 1 (drop k a) ≡ take 1 (drop k b)
 after-same a b k same = sym (drop-take k 1 a) ∙ ap (λ l. drop k l) same ∙ drop-take k 1 b
 
-pub look_ahead_at : (a b : List Cell) (k : ℕ) → take (k + 1) a ≡ take (k + 1) b → verdict_in First a k ≡ verdict_in First b k
+pub look_ahead_at : (a b : List Cell) (k : ℕ) → take (k + 1) a ≡ take (k + 1) b
+    → verdict_in First a k ≡ verdict_in First b k
 look_ahead_at a b k same =
     ap (λ l. verdict_between_in First l (drop k a)) (before-same a b k same)
     ∙ look_ahead_between (take k b) (drop k a) (drop k b) (after-same a b k same)
@@ -156,7 +162,8 @@ next_unit-append : (m more : List Cell) → IsSome (next_unit m) → next_unit (
 next_unit-append [] more some = absurd (false≢true some)
 next_unit-append (cell ∷ m) more some = first-append (hard cell.class) m more some
 
-next_unit-take : (a : List Cell) (k n : ℕ) → IsSome (next_unit (drop k (take n a))) → next_unit (drop k a) ≡ next_unit (drop k (take n a))
+next_unit-take : (a : List Cell) (k n : ℕ) → IsSome (next_unit (drop k (take n a)))
+    → next_unit (drop k a) ≡ next_unit (drop k (take n a))
 next_unit-take a k n some =
     elim (cases_lt (length (take n a)) k) [
       | inr within ↦

@@ -1,5 +1,6 @@
 -- What no rule asks of a cell changes no verdict.
-use Rattle.std.proofs.Common.{◌≡◌, ℕ, Bool, true, false, cond, ◌||◌, ◌&&◌, not, Option, Some, None, List, [], ◌∷◌, ◌++◌, map, reverse, take, drop, refl, sym, ap, ◌∙◌}
+use Rattle.std.proofs.Common.{◌≡◌, ℕ, Bool, true, false, cond, ◌||◌, ◌&&◌, not, Option, Some, None, List, [], ◌∷◌, ◌++◌}
+use Rattle.std.proofs.Common.{map, reverse, take, drop, refl, sym, ap, ◌∙◌}
 use Rattle.std.specs.Option.{option_map}
 use Rattle.std.proofs.lemmas.List.{drop-map, length-map, map-append, reverse-append, take-map}
 use Rattle.lbk_uax14.specs.declared.classes.Quote.{Quote}
@@ -13,8 +14,12 @@ use Rattle.lbk_uax14.specs.Classes.{Set, CP, OP, QU, hard, is, mark, none_of}
 use Rattle.lbk_uax14.specs.Facts.{units_before}
 use Rattle.lbk_uax14.specs.Held.{is_15b, is_held, now_at, late_at, answer_at, unanswered, unanswered_before}
 use Rattle.lbk_uax14.specs.Normal.{normal}
-use Rattle.lbk_uax14.specs.Rules.{Line, unit_rules, last_rule, cell_rules, joining_rules, opening_rules, quotation_rules, space_rules, hyphen_rules, affix_rules, number_rules, syllable_rules, letter_rules}
-use Rattle.lbk_uax14.specs.Sides.{Side, at, behind, is_nothing, at_pictograph, at_narrow, at_odd_run, before_spaces, is_initial, is_final, opening, closing, opens_quotation, closes_quotation, leaves_open, leaves_closed}
+use Rattle.lbk_uax14.specs.Rules.{Line, unit_rules, last_rule, cell_rules, joining_rules, opening_rules}
+use Rattle.lbk_uax14.specs.Rules.{quotation_rules, space_rules, hyphen_rules, affix_rules, number_rules, syllable_rules}
+use Rattle.lbk_uax14.specs.Rules.{letter_rules}
+use Rattle.lbk_uax14.specs.Sides.{Side, at, behind, is_nothing, at_pictograph, at_narrow, at_odd_run, before_spaces}
+use Rattle.lbk_uax14.specs.Sides.{is_initial, is_final, opening, closing, opens_quotation, closes_quotation}
+use Rattle.lbk_uax14.specs.Sides.{leaves_open, leaves_closed}
 use Rattle.lbk_uax14.specs.Units.{letter, unit, units, units_after, heads}
 use Rattle.lbk_uax14.specs.Verdict.{verdict_in, verdict_between_in}
 use Rattle.lbk_uax14.proofs.ChainLemmas.{choose-append, from_11-list, verdict_between-chain}
@@ -44,7 +49,8 @@ unit-first : (begins : Bool) (cell : Cell) (a b : List Cell) → a ≡ map plain
 unit-first true cell a b same = let u = unit-normal cell in cc
 unit-first false cell a b same = same
 
-units_after-normal : (fresh : Bool) (cells : List Cell) → units_after fresh (map normal cells) ≡ map plain (units_after fresh cells)
+units_after-normal : (fresh : Bool) (cells : List Cell)
+    → units_after fresh (map normal cells) ≡ map plain (units_after fresh cells)
 unfolding normal
 units_after-normal fresh [] = refl
 units_after-normal fresh (cell ∷ cells) =
@@ -54,7 +60,8 @@ units_after-normal fresh (cell ∷ cells) =
 units_before-normal : (side : Side) → units_before (map normal side) ≡ map plain (units_before side)
 units_before-normal [] = refl
 units_before-normal (cell ∷ side) =
-    ap (λ v. cond v (unit (normal cell) ∷ units_before (map normal side)) (units_before (map normal side))) (heads-normal side cell)
+    ap (λ v. cond v (unit (normal cell) ∷ units_before (map normal side)) (units_before (map normal side)))
+    (heads-normal side cell)
     ∙ unit-first (heads side cell) cell (units_before (map normal side)) (units_before side) (units_before-normal side)
 
 -- Conditions
@@ -155,7 +162,8 @@ closes_quotation-plain (cell ∷ side) = rw (closing-plain cell, leaves_closed-p
 
 -- lines that ask for nothing that a plain unit lacks
 record Blind (lines : List Line) : Type 0 where
-  same : (left right : Side) (v : Verdict) → choose lines (map plain left) (map plain right) v ≡ choose lines left right v
+  same : (left right : Side) (v : Verdict) → choose lines (map plain left) (map plain right) v
+      ≡ choose lines left right v
 
 blind-append : {a b : List Line} → Blind a → Blind b → Blind (a ++ b)
 blind-append {a} {b} x y = record {
@@ -211,9 +219,11 @@ last_rule-blind = record { same = λ left right v. refl }
 unit_rules-blind : (profile : Profile) → Blind (unit_rules profile)
 unfolding unit_rules
 unit_rules-blind profile =
-    let before_16 = blind-append (blind-append joining_rules-blind opening_rules-blind) (quotation_rules-blind profile) in
+    let before_16 = blind-append (blind-append joining_rules-blind opening_rules-blind) (quotation_rules-blind profile)
+    in
     let before_23 = blind-append (blind-append before_16 space_rules-blind) hyphen_rules-blind in
-    let before_28 = blind-append (blind-append (blind-append before_23 affix_rules-blind) number_rules-blind) syllable_rules-blind in
+    let before_28 = blind-append (blind-append (blind-append before_23 affix_rules-blind) number_rules-blind)
+    syllable_rules-blind in
     blind-append (blind-append before_28 letter_rules-blind) last_rule-blind
 
 from_11-plain : (profile : Profile) (left right : Side)
@@ -257,7 +267,8 @@ between-normal profile left right =
     ∙ from_cells-normal profile (reverse left) right
     ∙ sym (verdict_between-chain profile left right)
 
-pub verdict-normal : (profile : Profile) (cells : List Cell) (k : ℕ) → verdict_in profile (map normal cells) k ≡ verdict_in profile cells k
+pub verdict-normal : (profile : Profile) (cells : List Cell) (k : ℕ)
+    → verdict_in profile (map normal cells) k ≡ verdict_in profile cells k
 verdict-normal profile cells k =
     ap (λ l. verdict_between_in profile l (drop k (map normal cells))) (take-map normal k cells)
     ∙ ap (λ r. verdict_between_in profile (map normal (take k cells)) r) (drop-map normal k cells)
@@ -285,11 +296,14 @@ unanswered_before-normal : (profile : Profile) (side : Side)
 unfolding unanswered_before
 unanswered_before-normal profile [] = refl
 unanswered_before-normal profile (cell ∷ side) =
-    let held : is_held profile (reverse (map normal side)) (normal cell ∷ []) ≡ is_held profile (reverse side) (cell ∷ []) =
-    ap (λ l. is_held profile l (normal cell ∷ [])) (reverse-map normal side) ∙ held-normal profile (reverse side) (cell ∷ []) in
+    let held : is_held profile (reverse (map normal side)) (normal cell ∷ [])
+    ≡ is_held profile (reverse side) (cell ∷ []) =
+    ap (λ l. is_held profile l (normal cell ∷ [])) (reverse-map normal side)
+    ∙ held-normal profile (reverse side) (cell ∷ []) in
     rw (held, length-map side normal, heads-normal side cell, unanswered_before-normal profile side)
 
-pub unanswered-normal : (profile : Profile) (cells : List Cell) → unanswered profile (map normal cells) ≡ unanswered profile cells
+pub unanswered-normal : (profile : Profile) (cells : List Cell)
+    → unanswered profile (map normal cells) ≡ unanswered profile cells
 unanswered-normal profile cells =
     ap (unanswered_before profile) (reverse-map normal cells) ∙ unanswered_before-normal profile (reverse cells)
 
@@ -306,7 +320,8 @@ pub answer-normal : (profile : Profile) (cells more : List Cell)
 answer-normal profile cells more =
     ap (answered (verdict_in profile (map normal cells ++ map normal more))) (unanswered-normal profile cells)
     ∙ answered-same (verdict_in profile (map normal cells ++ map normal more)) (verdict_in profile (cells ++ more))
-    (λ p. ap (λ l. verdict_in profile l p) (sym (map-append normal cells more)) ∙ verdict-normal profile (cells ++ more) p)
+    (λ p. ap (λ l. verdict_in profile l p) (sym (map-append normal cells more))
+    ∙ verdict-normal profile (cells ++ more) p)
     (unanswered profile cells)
 
 pub late-normal : (profile : Profile) (cells : List Cell) (cell : Cell) (more : List Cell)

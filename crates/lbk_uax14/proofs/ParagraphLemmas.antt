@@ -1,9 +1,11 @@
 -- What lies behind the end of a line decides nothing any more.
-use Rattle.std.proofs.Common.{◌≡◌, ℕ, ◌+◌, ◌-◌, ◌<◌, length, take, drop, get_or, suc, Bool, true, false, cond, ◌||◌, ◌&&◌, not, List, [], ◌∷◌, ◌++◌, reverse, refl, sym, ap, ◌∙◌, arith}
+use Rattle.std.proofs.Common.{◌≡◌, ℕ, ◌+◌, ◌-◌, ◌<◌, length, take, drop, get_or, suc, Bool, true, false, cond, ◌||◌}
+use Rattle.std.proofs.Common.{◌&&◌, not, List, [], ◌∷◌, ◌++◌, reverse, refl, sym, ap, ◌∙◌, arith}
 use Rattle.std.proofs.lemmas.Bool.{false≢true}
 use Rattle.std.proofs.lemmas.List.{reverse-append, take-append-drop, take-take, drop-take, drop-drop, drop_more}
 use Rattle.lbk_uax14.specs.declared.classes.Class.{Class}
-use Rattle.lbk_uax14.specs.declared.classes.Class.TheVariants.{MandatoryBreak, CarriageReturn, LineFeed, NextLine, Space}
+use Rattle.lbk_uax14.specs.declared.classes.Class.TheVariants.{MandatoryBreak, CarriageReturn, LineFeed, NextLine}
+use Rattle.lbk_uax14.specs.declared.classes.Class.TheVariants.{Space}
 use Rattle.lbk_uax14.specs.declared.cells.Cell.{Cell}
 use Rattle.lbk_uax14.specs.declared.verdicts.Kind.{Kind}
 use Rattle.lbk_uax14.specs.declared.verdicts.Kind.TheVariants.{No, May, Must}
@@ -11,13 +13,18 @@ use Rattle.lbk_uax14.specs.declared.verdicts.Rule.TheVariants.{Lb31}
 use Rattle.lbk_values.specs.declared.profile.Profile.{Profile}
 use Rattle.lbk_values.specs.declared.profile.Profile.TheVariants.{First, Second}
 use Rattle.lbk_uax14.specs.declared.verdicts.Verdict.{Verdict}
-use Rattle.lbk_uax14.specs.Classes.{Set, ◌or◌, none_of, is, hard, mark, opens_after, BK, CR, LF, NL, SP, ZW, OP, QU, CL, CP, B2, HL, RI}
+use Rattle.lbk_uax14.specs.Classes.{Set, ◌or◌, none_of, is, hard, mark, opens_after, BK, CR, LF, NL, SP, ZW, OP, QU, CL}
+use Rattle.lbk_uax14.specs.Classes.{CP, B2, HL, RI}
 use Rattle.lbk_uax14.specs.Ends.{ends_line}
-use Rattle.lbk_uax14.specs.Sides.{Side, at, before_spaces, past_spaces, at_odd_run, opens_quotation, opening, leaves_open}
+use Rattle.lbk_uax14.specs.Sides.{Side, at, before_spaces, past_spaces, at_odd_run, opens_quotation, opening}
+use Rattle.lbk_uax14.specs.Sides.{leaves_open}
 use Rattle.lbk_uax14.specs.Units.{unit, units, nearest, space}
 use Rattle.lbk_uax14.specs.Facts.{units_before}
-use Rattle.lbk_uax14.specs.Rules.{Line, unit_rules, cell_rules, joining_rules, opening_rules, quotation_rules, space_rules, hyphen_rules, affix_rules, number_rules, syllable_rules, letter_rules, last_rule}
-use Rattle.lbk_uax14.specs.Chain.{choose, from_11, from_14, from_15, from_16, from_19, from_23, from_25, from_26, from_28, from_cells}
+use Rattle.lbk_uax14.specs.Rules.{Line, unit_rules, cell_rules, joining_rules, opening_rules, quotation_rules}
+use Rattle.lbk_uax14.specs.Rules.{space_rules, hyphen_rules, affix_rules, number_rules, syllable_rules, letter_rules}
+use Rattle.lbk_uax14.specs.Rules.{last_rule}
+use Rattle.lbk_uax14.specs.Chain.{choose, from_11, from_14, from_15, from_16, from_19, from_23, from_25, from_26}
+use Rattle.lbk_uax14.specs.Chain.{from_28, from_cells}
 use Rattle.lbk_uax14.specs.Verdict.{verdict_between_in, verdict_in}
 use Rattle.lbk_uax14.proofs.ChainLemmas.{verdict_between-chain, from_11-list}
 use Rattle.lbk_uax14.proofs.FactsLemmas.{units_before-begins}
@@ -38,10 +45,62 @@ pub record IsEnd (class : Class) : Type 0 where
 
 pub IsEnd-ends : (class : Class) → ends_line class ≡ true → IsEnd class
 unfolding is
-IsEnd-ends MandatoryBreak _ = record { hard_yes = refl; mark_no = refl; space_no = refl; zero_width_no = refl; opening_no = refl; quotation_no = refl; closing_no = refl; dash_no = refl; hebrew_no = refl; indicator_no = refl; opens_after_yes = refl }
-IsEnd-ends CarriageReturn _ = record { hard_yes = refl; mark_no = refl; space_no = refl; zero_width_no = refl; opening_no = refl; quotation_no = refl; closing_no = refl; dash_no = refl; hebrew_no = refl; indicator_no = refl; opens_after_yes = refl }
-IsEnd-ends LineFeed _ = record { hard_yes = refl; mark_no = refl; space_no = refl; zero_width_no = refl; opening_no = refl; quotation_no = refl; closing_no = refl; dash_no = refl; hebrew_no = refl; indicator_no = refl; opens_after_yes = refl }
-IsEnd-ends NextLine _ = record { hard_yes = refl; mark_no = refl; space_no = refl; zero_width_no = refl; opening_no = refl; quotation_no = refl; closing_no = refl; dash_no = refl; hebrew_no = refl; indicator_no = refl; opens_after_yes = refl }
+IsEnd-ends MandatoryBreak _ = record {
+  hard_yes = refl;
+  mark_no = refl;
+  space_no = refl;
+  zero_width_no = refl;
+  opening_no = refl;
+  quotation_no = refl;
+  closing_no = refl;
+  dash_no = refl;
+  hebrew_no = refl;
+  indicator_no =
+      refl;
+  opens_after_yes = refl;
+}
+IsEnd-ends CarriageReturn _ = record {
+  hard_yes = refl;
+  mark_no = refl;
+  space_no = refl;
+  zero_width_no = refl;
+  opening_no = refl;
+  quotation_no = refl;
+  closing_no = refl;
+  dash_no = refl;
+  hebrew_no = refl;
+  indicator_no =
+      refl;
+  opens_after_yes = refl;
+}
+IsEnd-ends LineFeed _ = record {
+  hard_yes = refl;
+  mark_no = refl;
+  space_no = refl;
+  zero_width_no = refl;
+  opening_no = refl;
+  quotation_no = refl;
+  closing_no = refl;
+  dash_no = refl;
+  hebrew_no = refl;
+  indicator_no =
+      refl;
+  opens_after_yes = refl;
+}
+IsEnd-ends NextLine _ = record {
+  hard_yes = refl;
+  mark_no = refl;
+  space_no = refl;
+  zero_width_no = refl;
+  opening_no = refl;
+  quotation_no = refl;
+  closing_no = refl;
+  dash_no = refl;
+  hebrew_no = refl;
+  indicator_no =
+      refl;
+  opens_after_yes = refl;
+}
 IsEnd-ends _ h = absurd (false≢true h)
 
 -- Two lists of units that begin alike, and answer alike to all that the rules ask of the left
@@ -54,31 +113,37 @@ pub record Alike (last : Cell) (a b : Side) : Type 0 where
   pub indicators : at_odd_run (last ∷ a) ≡ at_odd_run (last ∷ b)
   pub quotation : opens_quotation (last ∷ a) ≡ opens_quotation (last ∷ b)
 
-from_28-alike : (last : Cell) (a b : Side) (right : Side) → Alike last a b → from_28 (last ∷ a) right ≡ from_28 (last ∷ b) right
+from_28-alike : (last : Cell) (a b : Side) (right : Side) → Alike last a b
+    → from_28 (last ∷ a) right ≡ from_28 (last ∷ b) right
 unfolding from_28 letter_rules
 from_28-alike last a b right alike = rw alike.indicators
 
-from_26-alike : (last : Cell) (a b : Side) (right : Side) → Alike last a b → from_26 (last ∷ a) right ≡ from_26 (last ∷ b) right
+from_26-alike : (last : Cell) (a b : Side) (right : Side) → Alike last a b
+    → from_26 (last ∷ a) right ≡ from_26 (last ∷ b) right
 unfolding from_26 syllable_rules
 from_26-alike last a b right alike =
     ap (λ v. choose syllable_rules (last ∷ a) right v) (from_28-alike last a b right alike)
 
-from_25-alike : (last : Cell) (a b : Side) (right : Side) → Alike last a b → from_25 (last ∷ a) right ≡ from_25 (last ∷ b) right
+from_25-alike : (last : Cell) (a b : Side) (right : Side) → Alike last a b
+    → from_25 (last ∷ a) right ≡ from_25 (last ∷ b) right
 unfolding from_25 number_rules
 from_25-alike last a b right alike =
     ap (λ v. choose number_rules (last ∷ a) right v) (from_26-alike last a b right alike)
 
-from_23-alike : (last : Cell) (a b : Side) (right : Side) → Alike last a b → from_23 (last ∷ a) right ≡ from_23 (last ∷ b) right
+from_23-alike : (last : Cell) (a b : Side) (right : Side) → Alike last a b
+    → from_23 (last ∷ a) right ≡ from_23 (last ∷ b) right
 unfolding from_23 affix_rules
 from_23-alike last a b right alike =
     ap (λ v. choose affix_rules (last ∷ a) right v) (from_25-alike last a b right alike)
 
-from_19-alike : (last : Cell) (a b : Side) (right : Side) → Alike last a b → from_19 (last ∷ a) right ≡ from_19 (last ∷ b) right
+from_19-alike : (last : Cell) (a b : Side) (right : Side) → Alike last a b
+    → from_19 (last ∷ a) right ≡ from_19 (last ∷ b) right
 unfolding from_19 hyphen_rules
 from_19-alike last a b right alike =
     ap (λ v. choose hyphen_rules (last ∷ a) right v) (from_23-alike last a b right alike) ∙ rw alike.hebrew
 
-from_16-alike : (last : Cell) (a b : Side) (right : Side) → Alike last a b → from_16 (last ∷ a) right ≡ from_16 (last ∷ b) right
+from_16-alike : (last : Cell) (a b : Side) (right : Side) → Alike last a b
+    → from_16 (last ∷ a) right ≡ from_16 (last ∷ b) right
 unfolding from_16 space_rules
 from_16-alike last a b right alike =
     ap (λ v. choose space_rules (last ∷ a) right v) (from_19-alike last a b right alike)
@@ -149,7 +214,8 @@ opens_quotation-end (cell ∷ side) end far here =
       | false ↦ ap (λ v. opening cell && v) (leaves_open-end side end far here.opens_after_yes)
     ]
 
-Alike-end : (last : Cell) (side : Side) (end : Cell) (far : Side) → IsEnd end.class → Alike last (side ++ end ∷ far) side
+Alike-end : (last : Cell) (side : Side) (end : Cell) (far : Side) → IsEnd end.class
+    → Alike last (side ++ end ∷ far) side
 unfolding is
 Alike-end last side end far here = record {
   after_opening = past_spaces-end OP (last ∷ side) end far here.space_no refl here.opening_no;
@@ -178,7 +244,8 @@ units_before-end [] end far here =
     rw here.mark_no (ap (λ v. cond v (end ∷ units_before far) (units_before far)) (or-true (hard (nearest far).class)))
 units_before-end (cell ∷ side) end far here =
     let rest = units_before-end side end far here in
-    ap (λ v. cond (v || none_of mark cell.class) (unit cell ∷ units_before (side ++ end ∷ far)) (units_before (side ++ end ∷ far)))
+    ap (λ v. cond (v || none_of mark cell.class) (unit cell ∷ units_before (side ++ end ∷ far))
+    (units_before (side ++ end ∷ far)))
     (hard-end side end far here.hard_yes)
     ∙ (elim (hard (nearest side).class || none_of mark cell.class)
     as (λ v. cond v (unit cell ∷ units_before (side ++ end ∷ far)) (units_before (side ++ end ∷ far))
@@ -187,7 +254,8 @@ units_before-end (cell ∷ side) end far here =
 
 -- so the rules see no further back than the start of the line
 from_11-end : (profile : Profile) (cell : Cell) (side : Side) (end : Cell) (far right : Side) → IsEnd end.class
-    → from_11 profile (units_before ((cell ∷ side) ++ end ∷ far)) right ≡ from_11 profile (units_before (cell ∷ side)) right
+    → from_11 profile (units_before ((cell ∷ side) ++ end ∷ far)) right ≡ from_11 profile (units_before (cell ∷ side))
+    right
 from_11-end profile cell side end far right here =
     let begins = units_before-begins cell side in
     let last = nearest (units_before (cell ∷ side)) in
@@ -197,11 +265,13 @@ from_11-end profile cell side end far right here =
     (Alike-end last begins.0 end (units_before far) here)
     ∙ ap (λ u. from_11 profile u right) (sym begins.1)
 
-from_cells-end : (profile : Profile) (cell : Cell) (side : Side) (end : Cell) (far : Side) (right : List Cell) → IsEnd end.class
+from_cells-end : (profile : Profile) (cell : Cell) (side : Side) (end : Cell) (far : Side) (right : List Cell)
+    → IsEnd end.class
     → from_cells profile ((cell ∷ side) ++ end ∷ far) right ≡ from_cells profile (cell ∷ side) right
 unfolding from_cells cell_rules is
 from_cells-end profile cell side end far right here =
-    ap (λ v. choose cell_rules ((cell ∷ side) ++ end ∷ far) right v) (from_11-end profile cell side end far (units right) here)
+    ap (λ v. choose cell_rules ((cell ∷ side) ++ end ∷ far) right v)
+    (from_11-end profile cell side end far (units right) here)
     ∙ rw (past_spaces-end ZW (cell ∷ side) end far here.space_no refl here.zero_width_no)
 
 -- Where a line must end though text follows
@@ -245,14 +315,16 @@ choose-never_must (line ∷ lines) left right otherwise none here =
     this
 
 units-never_must : (profile : Profile) (left right : Side) → never_must (unit_rules profile) left right ≡ true
-unfolding unit_rules joining_rules opening_rules quotation_rules space_rules hyphen_rules affix_rules number_rules syllable_rules letter_rules last_rule
+unfolding unit_rules joining_rules opening_rules quotation_rules space_rules hyphen_rules affix_rules number_rules
+    syllable_rules letter_rules last_rule
 units-never_must First left right = refl
 units-never_must Second left right = refl
 
 pub from_11-never_must : (profile : Profile) (left right : Side) → is_must (from_11 profile left right).kind ≡ false
 from_11-never_must profile left right =
     ap (λ v. is_must v.kind) (sym (from_11-list profile left right))
-    ∙ choose-never_must (unit_rules profile) left right (record { kind = May; rule = Lb31 }) (units-never_must profile left right) refl
+    ∙ choose-never_must (unit_rules profile) left right (record { kind = May; rule = Lb31 })
+    (units-never_must profile left right) refl
 
 none-of-four : (a b c d : Bool) → (((a || b) || c) || d) ≡ false → (a ≡ false) × (((b || c) || d) ≡ false)
 none-of-four true b c d h = (h, absurd (false≢true (sym h)))
@@ -283,10 +355,12 @@ Must-ends profile (end ∷ far) cell more must =
     (end, far, refl, IsEnd-ends end.class (true-unless (ends_line end.class) none))
 
 -- a list that is not empty, read outwards
-pub reverse-begins : (cell : Cell) (cells : List Cell) → (last : Cell) × (side : Side) × (reverse (cell ∷ cells) ≡ last ∷ side)
+pub reverse-begins : (cell : Cell) (cells : List Cell) → (last : Cell) × (side : Side)
+    × (reverse (cell ∷ cells) ≡ last ∷ side)
 reverse-begins cell cells =
     let e = reverse-append (cell ∷ []) cells in
-    elim (reverse cells) as (λ v. reverse (cell ∷ cells) ≡ v ++ cell ∷ [] → (last : Cell) × (side : Side) × (reverse (cell ∷ cells) ≡ last ∷ side))
+    elim (reverse cells) as (λ v. reverse (cell ∷ cells) ≡ v ++ cell ∷ [] → (last : Cell) × (side : Side)
+    × (reverse (cell ∷ cells) ≡ last ∷ side))
     [ [] ↦ λ e. (cell, [], e) | last ∷ side ↦ λ e. (last, side ++ cell ∷ [], e) ] e
 
 -- The paragraph law, between lists: after a Must before the text `a ++ b`, with some of it on the left

@@ -1,5 +1,6 @@
 -- For crates above that step a late machine over a text: which positions have their answers.
-use Rattle.std.proofs.Common.{◌≡◌, ◌≢◌, ℕ, ◌+◌, ◌<◌, ◌≤◌, Bool, true, false, cond, Option, Some, None, List, [], ◌∷◌, ◌++◌, length, reverse, refl, sym, ap, subst, ◌∙◌, inl, inr, arith}
+use Rattle.std.proofs.Common.{◌≡◌, ◌≢◌, ℕ, ◌+◌, ◌<◌, ◌≤◌, Bool, true, false, cond, Option, Some, None, List, [], ◌∷◌}
+use Rattle.std.proofs.Common.{◌++◌, length, reverse, refl, sym, ap, subst, ◌∙◌, inl, inr, arith}
 use Rattle.std.specs.Option.{option_map, ForSome}
 use Rattle.std.proofs.lemmas.Bool.{cases_eq, false≢true}
 use Rattle.std.proofs.lemmas.List.{length-reverse, length_push, append-nil}
@@ -18,16 +19,19 @@ use Rattle.lbk_uax14.proofs.MachineLemmas.{verdict_in-append}
 use Rattle.lbk_uax14.proofs.WaitingLemmas.{position_of, unanswered-waiting}
 
 -- a machine that fits holds the position that is unanswered, and none else
-pub held_position-fits : (machine : LateMachine) (profile : Profile) (cells : List Cell) → LateFits machine profile cells
+pub held_position-fits : (machine : LateMachine) (profile : Profile) (cells : List Cell)
+    → LateFits machine profile cells
     → held_position machine ≡ unanswered profile cells
 unfolding held_position
 held_position-fits machine profile cells fits =
     ap position_of fits.held_same ∙ sym (unanswered-waiting profile (reverse cells))
 
 -- an unanswered position stands before one of the cells
-pub unanswered-within : (profile : Profile) (cells : List Cell) (p : ℕ) → unanswered profile cells ≡ Some p → p < length cells
+pub unanswered-within : (profile : Profile) (cells : List Cell) (p : ℕ) → unanswered profile cells ≡ Some p
+    → p < length cells
 unanswered-within profile cells p e =
-    let below : p < length (reverse cells) = unanswered-below profile (reverse cells) p e in omega (arith, length-reverse cells)
+    let below : p < length (reverse cells) = unanswered-below profile (reverse cells) p e in
+    omega (arith, length-reverse cells)
 
 pub unanswered-none : (profile : Profile) → unanswered profile [] ≡ None
 unfolding unanswered_before
@@ -39,15 +43,18 @@ first-waits_not : (side : List Cell) → unanswered_before First side ≡ None
 unfolding unanswered_before is_held
 first-waits_not [] = refl
 first-waits_not (cell ∷ side) =
-    elim (heads side cell) as (λ v. cond v None (unanswered_before First side) ≡ None) [ true ↦ refl | false ↦ first-waits_not side ]
+    elim (heads side cell) as (λ v. cond v None (unanswered_before First side) ≡ None)
+    [ true ↦ refl | false ↦ first-waits_not side ]
 
 pub unanswered-first : (cells : List Cell) → unanswered First cells ≡ None
 unanswered-first cells = first-waits_not (reverse cells)
 
 pub late_at-first : (cells : List Cell) (cell : Cell) (more : List Cell) → late_at First cells cell more ≡ None
 late_at-first cells cell more =
-    ap (λ o. cond (heads (reverse cells) cell) (option_map (λ p. (p, verdict_in First (cells ++ cell ∷ more) p)) o) None) (unanswered-first cells)
-    ∙ (elim (heads (reverse cells) cell) as (λ v. cond {A = Option (ℕ × Verdict)} v None None ≡ None) [ true ↦ refl | false ↦ refl ])
+    ap (λ o. cond (heads (reverse cells) cell) (option_map (λ p. (p, verdict_in First (cells ++ cell ∷ more) p)) o)
+    None) (unanswered-first cells)
+    ∙ (elim (heads (reverse cells) cell) as (λ v. cond {A = Option (ℕ × Verdict)} v None None ≡ None)
+    [ true ↦ refl | false ↦ refl ])
 
 pub now_at-first : (left right : List Cell) → now_at First left right ≡ Some (verdict_between_in First left right)
 unfolding is_held
@@ -55,7 +62,8 @@ now_at-first left right = refl
 
 -- A step answers each position once
 
-once-step : (value : ℕ → Verdict) (n : ℕ) (verdict : Verdict) (holds begins : Bool) (still : Option ℕ) → (holds ≡ true → begins ≡ true)
+once-step : (value : ℕ → Verdict) (n : ℕ) (verdict : Verdict) (holds begins : Bool) (still : Option ℕ)
+    → (holds ≡ true → begins ≡ true)
     → came_late (cond begins (option_map (λ p. (p, value p)) still) None)
     ++ named (cond holds (Some n) (cond begins None still))
     ++ came_now n (cond holds None (Some verdict))
@@ -74,16 +82,20 @@ pub step_once : (profile : Profile) (cells : List Cell) (cell : Cell) (more : Li
     ++ came_now (length cells) (now_at profile cells (cell ∷ more))
     ≡ named (unanswered profile cells) ++ length cells ∷ []
 step_once profile cells cell more =
-    ap (λ s. came_late (late_at profile cells cell more) ++ named s ++ came_now (length cells) (now_at profile cells (cell ∷ more)))
+    ap (λ s. came_late (late_at profile cells cell more) ++ named s ++ came_now (length cells)
+    (now_at profile cells (cell ∷ more)))
     (unanswered-snoc profile cells cell more)
-    ∙ once-step (λ p. verdict_in profile (cells ++ cell ∷ more) p) (length cells) (verdict_between_in profile cells (cell ∷ more))
-    (is_held profile cells (cell ∷ more)) (heads (reverse cells) cell) (unanswered profile cells) (held-heads profile cells cell more)
+    ∙ once-step (λ p. verdict_in profile (cells ++ cell ∷ more) p) (length cells)
+    (verdict_between_in profile cells (cell ∷ more))
+    (is_held profile cells (cell ∷ more)) (heads (reverse cells) cell) (unanswered profile cells)
+    (held-heads profile cells cell more)
 
 once-end : (value : ℕ → Verdict) (still : Option ℕ) → came_late (option_map (λ p. (p, value p)) still) ≡ named still
 once-end value None = refl
 once-end value (Some p) = refl
 
-pub end_once : (profile : Profile) (cells more : List Cell) → came_late (answer_at profile cells more) ≡ named (unanswered profile cells)
+pub end_once : (profile : Profile) (cells more : List Cell)
+    → came_late (answer_at profile cells more) ≡ named (unanswered profile cells)
 end_once profile cells more = once-end (λ p. verdict_in profile (cells ++ more) p) (unanswered profile cells)
 
 -- The loop of a caller
@@ -96,7 +108,8 @@ pub AllCome-start : (profile : Profile) (come : ℕ → Type 0) → AllCome prof
 AllCome-start profile come = record { each = λ k below _. absurd (omega arith) }
 
 -- what is asked of a step's answers: each, which is its position's verdict in the whole text, makes `come` hold there
-pub record IsTaken (value : ℕ → Verdict) (n : ℕ) (late : Option (ℕ × Verdict)) (now : Option Verdict) (before after : ℕ → Type 0) : Type 0 where
+pub record IsTaken (value : ℕ → Verdict) (n : ℕ) (late : Option (ℕ × Verdict)) (now : Option Verdict) (before after : ℕ
+    → Type 0) : Type 0 where
   pub kept : (k : ℕ) → k < n → before k → after k
   pub late_taken : (p : ℕ) → late ≡ Some (p, value p) → after p
   pub now_taken : now ≡ Some (value n) → after n
@@ -109,12 +122,15 @@ come-open value n p holds true after begun late apart = late p refl
 come-open value n p true false after begun late apart = absurd (false≢true (begun refl))
 come-open value n p false false after begun late apart = absurd (apart refl)
 
-come-earlier : (value : ℕ → Verdict) (n k : ℕ) (holds begins : Bool) (still : Option ℕ) (before after : ℕ → Type 0) → (holds ≡ true → begins ≡ true)
+come-earlier : (value : ℕ → Verdict) (n k : ℕ) (holds begins : Bool) (still : Option ℕ) (before after : ℕ → Type 0)
+    → (holds ≡ true → begins ≡ true)
     → (before k → after k)
-    → ((p : ℕ) → cond {A = Option (ℕ × Verdict)} begins (option_map (λ p. (p, value p)) still) None ≡ Some (p, value p) → after p)
+    → ((p : ℕ) → cond {A = Option (ℕ × Verdict)} begins (option_map (λ p. (p, value p)) still) None ≡ Some (p, value p)
+    → after p)
     → (still ≢ Some k → before k)
     → cond holds (Some n) (cond begins None still) ≢ Some k → after k
-come-earlier value n k holds begins None before after begun kept late come apart = kept (come (λ e. (let none : ⊥ = cc in none)))
+come-earlier value n k holds begins None before after begun kept late come apart =
+    kept (come (λ e. (let none : ⊥ = cc in none)))
 come-earlier value n k holds begins (Some p) before after begun kept late come apart =
     elim (cases_eq k p) [
       | inl here ↦
@@ -130,7 +146,8 @@ come-now value n false rest after now apart = now refl
 
 come-step : (value : ℕ → Verdict) (n : ℕ) (holds begins : Bool) (still : Option ℕ) (before after : ℕ → Type 0)
     → (holds ≡ true → begins ≡ true)
-    → IsTaken value n (cond begins (option_map (λ p. (p, value p)) still) None) (cond holds None (Some (value n))) before after
+    → IsTaken value n (cond begins (option_map (λ p. (p, value p)) still) None) (cond holds None (Some (value n)))
+    before after
     → ((k : ℕ) → k < n → still ≢ Some k → before k)
     → (k : ℕ) → k < n + 1 → cond holds (Some n) (cond begins None still) ≢ Some k → after k
 come-step value n holds begins still before after begun taken come k below apart =
@@ -140,11 +157,13 @@ come-step value n holds begins still before after begun taken come k below apart
           (come-now value n holds (cond begins None still) after taken.now_taken (λ e. apart (e ∙ ap Some (sym here))))
       | inr other ↦
           let under : k < n = omega arith in
-          come-earlier value n k holds begins still before after begun (taken.kept k under) taken.late_taken (come k under) apart
+          come-earlier value n k holds begins still before after begun (taken.kept k under) taken.late_taken
+          (come k under) apart
     ]
 
 -- one more cell
-pub AllCome-step : (profile : Profile) (cells : List Cell) (cell : Cell) (more : List Cell) (late : Option (ℕ × Verdict)) (now : Option Verdict)
+pub AllCome-step : (profile : Profile) (cells : List Cell) (cell : Cell) (more : List Cell)
+    (late : Option (ℕ × Verdict)) (now : Option Verdict)
     (before after : ℕ → Type 0)
     → late ≡ late_at profile cells cell more → now ≡ now_at profile cells (cell ∷ more)
     → IsTaken (λ k. verdict_in profile (cells ++ cell ∷ more) k) (length cells) late now before after
@@ -158,7 +177,8 @@ AllCome-step profile cells cell more late now before after late_same now_same ta
     let now_is : now ≡ cond holds None (Some (value n)) =
     now_same ∙ ap (λ v. cond holds None (Some v)) (sym (verdict_in-append profile cells (cell ∷ more))) in
     let by_late = subst (λ (l : Option (ℕ × Verdict)). IsTaken value n l now before after) late_same taken in
-    let by_now = subst (λ (o : Option Verdict). IsTaken value n (late_at profile cells cell more) o before after) now_is by_late in
+    let by_now = subst (λ (o : Option Verdict). IsTaken value n (late_at profile cells cell more) o before after) now_is
+    by_late in
     record {
       each = λ k below apart.
           come-step value n holds begins still before after (held-heads profile cells cell more) by_now come.each k
@@ -166,7 +186,8 @@ AllCome-step profile cells cell more late now before after late_same now_same ta
     }
 
 -- the end: the answer to the position that is open, and that to the last
-pub AllCome-end : (profile : Profile) (cells : List Cell) (late : Option (ℕ × Verdict)) (end : Verdict) (before after : ℕ → Type 0)
+pub AllCome-end : (profile : Profile) (cells : List Cell) (late : Option (ℕ × Verdict)) (end : Verdict)
+    (before after : ℕ → Type 0)
     → late ≡ answer_at profile cells [] → end ≡ verdict_in profile cells (length cells)
     → IsTaken (λ k. verdict_in profile cells k) (length cells) late (Some end) before after
     → AllCome profile cells before → (k : ℕ) → k ≤ length cells → after k
@@ -177,8 +198,10 @@ AllCome-end profile cells late end before after late_same end_same taken come k 
     let late_is : late ≡ option_map (λ p. (p, value p)) still =
     late_same ∙ ap (λ c. option_map (λ p. (p, verdict_in profile c p)) still) (append-nil cells) in
     let by_late = subst (λ (l : Option (ℕ × Verdict)). IsTaken value n l (Some end) before after) late_is taken in
-    let by_end = subst (λ (o : Option Verdict). IsTaken value n (option_map (λ p. (p, value p)) still) o before after) (ap Some end_same) by_late in
-    come-step value n false true still before after (λ _. refl) by_end come.each k (omega arith) (λ e. (let none : ⊥ = cc in none))
+    let by_end = subst (λ (o : Option Verdict). IsTaken value n (option_map (λ p. (p, value p)) still) o before after)
+    (ap Some end_same) by_late in
+    come-step value n false true still before after (λ _. refl) by_end come.each k (omega arith)
+    (λ e. (let none : ⊥ = cc in none))
 
 -- one more cell of a text, `cells ++ cell ∷ more`, with `next` the cells taken then
 pub AllCome-turn : (profile : Profile) (text cells : List Cell) (cell : Cell) (more next : List Cell) (n : ℕ)
@@ -187,9 +210,12 @@ pub AllCome-turn : (profile : Profile) (text cells : List Cell) (cell : Cell) (m
     → late ≡ late_at profile cells cell more → now ≡ now_at profile cells (cell ∷ more)
     → IsTaken (λ k. verdict_in profile text k) n late now before after
     → AllCome profile cells before → AllCome profile next after
-AllCome-turn profile text cells cell more next n late now before after whole one_more place late_same now_same taken come =
-    let by_place = subst (λ (m : ℕ). IsTaken (λ k. verdict_in profile text k) m late now before after) (sym place) taken in
-    let by_whole = subst (λ (t : List Cell). IsTaken (λ k. verdict_in profile t k) (length cells) late now before after) (sym whole) by_place in
+AllCome-turn profile text cells cell more next n late now before after whole one_more place late_same now_same taken
+    come =
+    let by_place = subst (λ (m : ℕ). IsTaken (λ k. verdict_in profile text k) m late now before after) (sym place) taken
+    in
+    let by_whole = subst (λ (t : List Cell). IsTaken (λ k. verdict_in profile t k) (length cells) late now before after)
+    (sym whole) by_place in
     subst (λ (c : List Cell). AllCome profile c after) one_more
     (AllCome-step profile cells cell more late now before after late_same now_same by_whole come)
 
@@ -205,11 +231,14 @@ answer-verdict value (Some p) = λ answer e.
 
 pub answer_at-verdict : (profile : Profile) (cells more : List Cell)
     → ForSome (answer_at profile cells more) (λ answer. answer.1 ≡ verdict_in profile (cells ++ more) answer.0)
-answer_at-verdict profile cells more = answer-verdict (λ p. verdict_in profile (cells ++ more) p) (unanswered profile cells)
+answer_at-verdict profile cells more = answer-verdict (λ p. verdict_in profile (cells ++ more) p)
+    (unanswered profile cells)
 
 pub late_at-verdict : (profile : Profile) (cells : List Cell) (cell : Cell) (more : List Cell)
-    → ForSome (late_at profile cells cell more) (λ answer. answer.1 ≡ verdict_in profile (cells ++ cell ∷ more) answer.0)
+    → ForSome (late_at profile cells cell more)
+    (λ answer. answer.1 ≡ verdict_in profile (cells ++ cell ∷ more) answer.0)
 late_at-verdict profile cells cell more =
     elim (heads (reverse cells) cell)
-    as (λ v. ForSome {T = (ℕ × Verdict)} (cond v (answer_at profile cells (cell ∷ more)) None) (λ answer. answer.1 ≡ verdict_in profile (cells ++ cell ∷ more) answer.0))
+    as (λ v. ForSome {T = (ℕ × Verdict)} (cond v (answer_at profile cells (cell ∷ more)) None)
+    (λ answer. answer.1 ≡ verdict_in profile (cells ++ cell ∷ more) answer.0))
     [ true ↦ answer_at-verdict profile cells (cell ∷ more) | false ↦ λ answer e. absurd (let no : ⊥ = cc in no) ]

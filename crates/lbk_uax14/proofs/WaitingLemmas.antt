@@ -1,5 +1,6 @@
 -- What a late machine waits for.
-use Rattle.std.proofs.Common.{◌≡◌, ℕ, Bool, true, false, cond, Option, Some, None, List, [], ◌∷◌, ◌++◌, length, reverse, append_assoc, refl, sym, ap, subst, ◌∙◌}
+use Rattle.std.proofs.Common.{◌≡◌, ℕ, Bool, true, false, cond, Option, Some, None, List, [], ◌∷◌, ◌++◌, length, reverse}
+use Rattle.std.proofs.Common.{append_assoc, refl, sym, ap, subst, ◌∙◌}
 use Rattle.std.specs.Option.{option_map}
 use Rattle.std.proofs.lemmas.List.{reverse-append, reverse-reverse, length-reverse}
 use Rattle.lbk_uax14.specs.declared.cells.Cell.{Cell}
@@ -29,16 +30,19 @@ unfolding waiting
 waiting-first [] = refl
 waiting-first (cell ∷ side) =
     rw (from_cells-first side (cell ∷ []))
-    (elim (heads side cell) as (λ v. cond v None (waiting First side) ≡ None) [ true ↦ refl | false ↦ waiting-first side ])
+    (elim (heads side cell) as (λ v. cond v None (waiting First side) ≡ None)
+    [ true ↦ refl | false ↦ waiting-first side ])
 
 -- one more cell
-pub waiting-step : (profile : Profile) (side : Side) (cell : Cell) (holds begins : Bool) (held : Option Held) (position : ℕ) (left : Left)
+pub waiting-step : (profile : Profile) (side : Side) (cell : Cell) (holds begins : Bool) (held : Option Held)
+    (position : ℕ) (left : Left)
     → is_15b (from_cells profile side (cell ∷ [])).rule ≡ holds → heads side cell ≡ begins
     → position ≡ length side → left ≡ facts side → held ≡ waiting profile side
     → cond holds (Some (record { position = position; left = left; quotation = cell })) (cond begins None held)
     ≡ waiting profile (cell ∷ side)
 unfolding waiting
-waiting-step profile side cell holds begins held position left holds_same begins_same position_same left_same held_same =
+waiting-step profile side cell holds begins held position left holds_same begins_same position_same left_same
+    held_same =
     rw (sym holds_same, sym begins_same, position_same, left_same, held_same)
 
 -- what waits is the held position that has no answer
@@ -51,11 +55,13 @@ held-here profile side cell =
 abbrev pub position_of : Option Held → Option ℕ
 position_of held = option_map (λ h. h.position) held
 
-pub unanswered-waiting : (profile : Profile) (side : Side) → unanswered_before profile side ≡ position_of (waiting profile side)
+pub unanswered-waiting : (profile : Profile) (side : Side)
+    → unanswered_before profile side ≡ position_of (waiting profile side)
 unfolding unanswered_before waiting
 unanswered-waiting profile [] = refl
 unanswered-waiting profile (cell ∷ side) =
-    ap (λ v. cond v (Some (length side)) (cond (heads side cell) None (unanswered_before profile side))) (held-here profile side cell)
+    ap (λ v. cond v (Some (length side)) (cond (heads side cell) None (unanswered_before profile side)))
+    (held-here profile side cell)
     ∙ (elim (is_15b (from_cells profile side (cell ∷ [])).rule)
     as (λ v. cond v (Some (length side)) (cond (heads side cell) None (unanswered_before profile side))
     ≡ position_of (cond v (Some (record { position = length side; left = facts side; quotation = cell }))
@@ -90,7 +96,8 @@ Waits-here profile cell side here = record {
   still_open = λ rest. refl;
 }
 
-Waits-more : (profile : Profile) (cell : Cell) (side : Side) (held : Held) → heads side cell ≡ false → Waits profile side held
+Waits-more : (profile : Profile) (cell : Cell) (side : Side) (held : Held) → heads side cell ≡ false
+    → Waits profile side held
     → Waits profile (cell ∷ side) held
 Waits-more profile cell side held joins w = record {
   far = w.far;
@@ -107,13 +114,15 @@ Waits-more profile cell side held joins w = record {
       ∙ ap (λ v. cond v (unit cell ∷ units_after (hard cell.class) rest) (units_after (hard cell.class) rest)) joins;
 }
 
-pub Waits-waiting : (profile : Profile) (side : Side) (held : Held) → waiting profile side ≡ Some held → Waits profile side held
+pub Waits-waiting : (profile : Profile) (side : Side) (held : Held) → waiting profile side ≡ Some held
+    → Waits profile side held
 unfolding waiting
 Waits-waiting profile [] held = λ e. (let no : ⊥ = cc in absurd no)
 Waits-waiting profile (cell ∷ side) held =
     (elim (is_15b (from_cells profile side (cell ∷ [])).rule)
     as (λ v. is_15b (from_cells profile side (cell ∷ [])).rule ≡ v
-    → cond v (Some (record { position = length side; left = facts side; quotation = cell })) (cond (heads side cell) None (waiting profile side)) ≡ Some held
+    → cond v (Some (record { position = length side; left = facts side; quotation = cell }))
+    (cond (heads side cell) None (waiting profile side)) ≡ Some held
     → Waits profile (cell ∷ side) held) [
       | true ↦ λ there e.
           let here : Held = record { position = length side; left = facts side; quotation = cell } in
@@ -122,7 +131,8 @@ Waits-waiting profile (cell ∷ side) held =
           subst P same (Waits-here profile cell side there)
       | false ↦ λ _.
           (elim (heads side cell)
-          as (λ w. heads side cell ≡ w → cond w None (waiting profile side) ≡ Some held → Waits profile (cell ∷ side) held) [
+          as (λ w. heads side cell ≡ w → cond w None (waiting profile side) ≡ Some held
+          → Waits profile (cell ∷ side) held) [
             | true ↦ λ _ e. (let no : ⊥ = cc in absurd no)
             | false ↦ λ joins e. Waits-more profile cell side held joins (Waits-waiting profile side held e)
           ]) refl
@@ -157,7 +167,8 @@ answer-waiting Second cells more held closes verdict e closed decides =
     ∙ sym (ap (λ o. option_map (λ p. (p, verdict_in Second (cells ++ more) p)) o)
     (unanswered-waiting Second (reverse cells) ∙ ap position_of e))
 
-pub answer-none : (profile : Profile) (cells more : List Cell) → waiting profile (reverse cells) ≡ None → None ≡ answer_at profile cells more
+pub answer-none : (profile : Profile) (cells more : List Cell) → waiting profile (reverse cells) ≡ None
+    → None ≡ answer_at profile cells more
 answer-none profile cells more e =
     sym (ap (λ o. option_map (λ p. (p, verdict_in profile (cells ++ more) p)) o)
     (unanswered-waiting profile (reverse cells) ∙ ap position_of e))
@@ -174,6 +185,7 @@ now-settled profile cells cell more verdict so_far =
     as (λ v. is_15b far.rule ≡ v → cond v None (Some far) ≡ cond v None (Some whole)) [
       | true ↦ λ _. refl
       | false ↦ λ settled.
-          ap Some (sym (from_cells-settled profile (reverse cells) cell more settled) ∙ sym (verdict_between-chain profile cells (cell ∷ more)))
+          ap Some (sym (from_cells-settled profile (reverse cells) cell more settled)
+          ∙ sym (verdict_between-chain profile cells (cell ∷ more)))
     ]) refl
     ∙ ap (λ v. cond v None (Some whole)) (sym (is_held-chain profile cells cell more))

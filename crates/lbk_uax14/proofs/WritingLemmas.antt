@@ -1,5 +1,6 @@
 -- A list that is filled place by place.
-use Rattle.std.proofs.Common.{◌≡◌, ◌≢◌, ℕ, ◌+◌, ◌<◌, List, [], ◌∷◌, Some, length, zero, suc, set, refl, ap, ◌∙◌, arith, below_more}
+use Rattle.std.proofs.Common.{◌≡◌, ◌≢◌, ℕ, ◌+◌, ◌<◌, List, [], ◌∷◌, Some, length, zero, suc, set, refl, ap, ◌∙◌, arith}
+use Rattle.std.proofs.Common.{below_more}
 use Rattle.std.specs.List.{slice_get}
 use Rattle.std.proofs.lemmas.List.{length-set, get_or-set_same}
 use Rattle.std.proofs.lemmas.Option.{slice_get-get_or}
@@ -8,7 +9,8 @@ pub slice_get-set_same : {X : Type 0} (xs : List X) (i : ℕ) (x : X) → i < le
 slice_get-set_same xs i x within =
     slice_get-get_or (set xs i x) i x (omega (arith, length-set xs i x)) ∙ ap Some (get_or-set_same xs i x x within)
 
-pub slice_get-set_other : {X : Type 0} (xs : List X) (i k : ℕ) (x : X) → k ≢ i → slice_get (set xs i x) k ≡ slice_get xs k
+pub slice_get-set_other : {X : Type 0} (xs : List X) (i k : ℕ) (x : X) → k ≢ i
+    → slice_get (set xs i x) k ≡ slice_get xs k
 slice_get-set_other [] i k x other = refl
 slice_get-set_other (_ ∷ xs) zero zero x other = absurd (other refl)
 slice_get-set_other (_ ∷ xs) zero (suc k) x other = refl

@@ -16,7 +16,7 @@ pub enum Kind {
     Must,
 }
 
-/// A rule of UAX #14, section 6, by its number. `Lb15a` and `Lb15b` stand in place of `Lb15` in the
+/// A rule of UAX #14, section 6, by its number. `Lb15a` and `Lb15b` replace `Lb15` in the
 /// second profile.
 #[derive(Clone, Copy, PartialEq, Eq, Debug)]
 pub enum Rule {

@@ -36,7 +36,8 @@ pub static BOTH: [(&str, &str); 11] = [
 ];
 
 const TWO_QUOTATIONS: &str =
-    "P 0 12 5 S 0 2 May 18 S 2 7 May 18 S 7 12 Must 5 W 0 1 p 1 2 p 2 5 W 5 6 p 6 7 p 7 10 W 10 11 p 11 12\nP 12 1 3 S 0 1 Must 3 W 0 1\n";
+    "P 0 12 5 S 0 2 May 18 S 2 7 May 18 S 7 12 Must 5 W 0 1 p 1 2 p 2 5 W 5 6 p 6 7 p 7 10 W 10 11 p 11 12\n\
+     P 12 1 3 S 0 1 Must 3 W 0 1\n";
 
 /// In the first profile.
 pub static FIRST: [(&str, &str); 3] = [

@@ -59,7 +59,8 @@ static OF_FILES: [(CellsFault, &str); 8] = [
     ),
     (
         CellsFault::Claim(Which::Category, ClaimCause::Changed),
-        "DerivedGeneralCategory.txt: the file was changed or truncated: it differs from Unicode 15.0.0's DerivedGeneralCategory.txt",
+        "DerivedGeneralCategory.txt: the file was changed or truncated: it differs from Unicode 15.0.0's \
+         DerivedGeneralCategory.txt",
     ),
     (
         CellsFault::Tables(ROW),

@@ -1,5 +1,5 @@
-//! Tests of property tables, rules, machines, pages and the breaks of texts in memory; of the command line, its files and
-//! faults; and of `break_text`; the code that the pages show, as tests.
+//! Tests of property tables, rules, machines, pages and the breaks of texts in memory; of the command line, its files
+//! and faults; and of `break_text`; the code that the pages show, as tests.
 #![tactic(auto)]
 
 #[cfg(test)]

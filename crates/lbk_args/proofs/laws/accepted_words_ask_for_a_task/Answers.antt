@@ -7,7 +7,8 @@ use Rattle.lbk_args.specs.Task.{Task, task_by}
 use Rattle.lbk_args.proofs.laws.accepted_words_ask_for_a_task.Goals as goal
 
 -- where nothing is wrong, there is a task
-asks : (faults : Kinds) (found : Option Task) → or_else faults (task_fault found) ≡ [] → (task : Task) × (found ≡ Some task)
+asks : (faults : Kinds) (found : Option Task) → or_else faults (task_fault found) ≡ []
+    → (task : Task) × (found ≡ Some task)
 asks [] None clean = absurd (cc clean)
 asks [] (Some task) clean = (task, refl)
 asks (fault ∷ faults) found clean = absurd (cc clean)

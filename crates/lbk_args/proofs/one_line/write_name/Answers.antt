@@ -1,4 +1,5 @@
-use Rattle.std.proofs.Common.{◌≡◌, ℕ, List, [], ◌∷◌, ◌++◌, flat_map, chars, length, sym, ap, subst, ◌∙◌, append_assoc, append-nil, rules}
+use Rattle.std.proofs.Common.{◌≡◌, ℕ, List, [], ◌∷◌, ◌++◌, flat_map, chars, length, sym, ap, subst, ◌∙◌, append_assoc}
+use Rattle.std.proofs.Common.{append-nil, rules}
 use Rattle.std.proofs.Output.{has_written_append, has_written_of_eq}
 use Rattle.std.proofs.lemmas.List.{nil_from_length}
 use Rattle.std.proofs.lemmas.Str.{IsUtf8-past_char, chars-nil, chars_past_char}
@@ -13,12 +14,15 @@ all_left rest name same = ap (λ l. flat_map one_scalar (chars l)) same
 left_utf8 : (rest name : List ℕ) → IsUtf8 name → rest ≡ name → IsUtf8 rest
 left_utf8 rest name utf8 same = subst IsUtf8 (sym same) utf8
 
-one_more : (rest more done name : List ℕ) (scalar : ℕ) → chars rest ≡ scalar ∷ chars more → done ++ flat_map one_scalar (chars rest) ≡ one_line name
+one_more : (rest more done name : List ℕ) (scalar : ℕ) → chars rest ≡ scalar ∷ chars more
+    → done ++ flat_map one_scalar (chars rest) ≡ one_line name
     → (done ++ one_scalar scalar) ++ flat_map one_scalar (chars more) ≡ one_line name
 one_more rest more done name scalar first so_far =
-    append_assoc done (one_scalar scalar) (flat_map one_scalar (chars more)) ∙ ap (λ l. done ++ flat_map one_scalar l) (sym first) ∙ so_far
+    append_assoc done (one_scalar scalar) (flat_map one_scalar (chars more))
+    ∙ ap (λ l. done ++ flat_map one_scalar l) (sym first) ∙ so_far
 
-none_left : (rest done name : List ℕ) → length rest ≡ 0 → done ++ flat_map one_scalar (chars rest) ≡ one_line name → done ≡ one_line name
+none_left : (rest done name : List ℕ) → length rest ≡ 0 → done ++ flat_map one_scalar (chars rest) ≡ one_line name
+    → done ≡ one_line name
 none_left rest done name none so_far =
     let no_chars : chars rest ≡ [] = ap chars (nil_from_length rest none) ∙ chars-nil in
     sym (append-nil done) ∙ ap (λ l. done ++ flat_map one_scalar l) (sym no_chars) ∙ so_far
@@ -26,7 +30,8 @@ none_left rest done name none so_far =
 pub loop-scalar-init : goal.loop-scalar-init
 loop-scalar-init g c =
     let items = c.into_iter-scalar-iterator.result in
-    let same : chars_rest items ≡ c.args.name.now = ap chars_rest c.into_iter-scalar-iterator.ensures.into_iter_gives ∙ c.chars-scalar-items.ensures.rest in (
+    let same : chars_rest items ≡ c.args.name.now = ap chars_rest c.into_iter-scalar-iterator.ensures.into_iter_gives
+    ∙ c.chars-scalar-items.ensures.rest in (
       left_utf8 _ c.args.name.now c.utf8.name same,
       λ plain. ([], search rules, all_left _ _ same),
     )

@@ -6,4 +6,5 @@ returns c =
     (c.with_option-command-4.ensures _ _ c.file_option-3.ensures.rule
     (c.with_option-command-3.ensures _ _ c.file_option-2.ensures.rule
     (c.with_option-command-2.ensures _ _ c.file_option.ensures.rule
-    (c.with_option-command.ensures _ _ c.folder_option.ensures.rule (record { is_app = c.new.ensures.app; local = c.new.ensures.local })))))
+    (c.with_option-command.ensures _ _ c.folder_option.ensures.rule
+    (record { is_app = c.new.ensures.app; local = c.new.ensures.local })))))

@@ -14,7 +14,8 @@ returns-in_default-clause-refused c = rw c.in_default.is (c.mistake.ensures Miss
 
 pub returns-then-not-is_range-clause-refused : goal.returns-then-not-is_range-clause-refused
 returns-then-not-is_range-clause-refused c =
-    rw (c.in-Some.is, sym c.is_range.ensures ∙ c.if-not-is_range.true) (c.mistake-then-not-is_range.ensures ValueValidation unfit)
+    rw (c.in-Some.is, sym c.is_range.ensures ∙ c.if-not-is_range.true)
+    (c.mistake-then-not-is_range.ensures ValueValidation unfit)
 
 pub returns-then-not-is_sign-clause-refused : goal.returns-then-not-is_sign-clause-refused
 returns-then-not-is_sign-clause-refused c =

@@ -8,5 +8,7 @@ use Rattle.lbk_args.proofs.parsing.number.Goals as goal
 pub returns : goal.returns
 returns c =
     let read = one_text-rows (found_of c.args.given.now) c.args.id.now in
-    c.unwrap_or.ensures ∙ number_read _ c.args.other (one_of c.args.id.now (rows_of (found_of c.args.given.now))) c.get_one.result (λ t x (g : ParsesUnsigned 32 10 t x × ExplainsUnsignedError 10 t x × HasUnsignedDigitsIfOk t x). g.0)
+    c.unwrap_or.ensures ∙ number_read _ c.args.other (one_of c.args.id.now (rows_of (found_of c.args.given.now)))
+    c.get_one.result (λ t x (g : ParsesUnsigned 32 10 t x × ExplainsUnsignedError 10 t x
+    × HasUnsignedDigitsIfOk t x). g.0)
     (λ e. c.get_one.ensures.none (read ∙ e)) (λ t e. c.get_one.ensures.value t (read ∙ e))

@@ -23,5 +23,6 @@ returns-in-Some c =
 pub returns-in-None : goal.returns-in-None
 returns-in-None c =
     let read = c.get_strs.ensures ∙ raw_values-rows (found_of c.args.given.now) (codes "text") in
-    ap (λ (names : List (Bor Text)). map (λ name. name.now) names) c.new.ensures.items ∙ ap texts_behind (sym c.in-None.is)
+    ap (λ (names : List (Bor Text)). map (λ name. name.now) names) c.new.ensures.items
+    ∙ ap texts_behind (sym c.in-None.is)
     ∙ ap (λ (found : Option (List Text)). unwrap_or found []) read

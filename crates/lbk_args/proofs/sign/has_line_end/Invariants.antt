@@ -7,4 +7,5 @@ use Rattle.lbk_args.proofs.sign.has_line_end.Given as goal
 -- a line end is among the characters that are left, if there is one
 abbrev pub invariant-loop-scalar : goal.invariant-loop-scalar
 invariant-loop-scalar l =
-    IsUtf8 (chars_rest l.scalar-iterator) × (has_line_end (chars (chars_rest l.scalar-iterator)) ≡ has_line_end (chars l.text))
+    IsUtf8 (chars_rest l.scalar-iterator) × (has_line_end (chars (chars_rest l.scalar-iterator))
+    ≡ has_line_end (chars l.text))

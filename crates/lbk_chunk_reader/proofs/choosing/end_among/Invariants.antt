@@ -8,8 +8,10 @@ use Rattle.lbk_chunk_reader.proofs.choosing.end_among.Given as goal
 
 abbrev pub invariant-loop-next : goal.invariant-loop-next
 invariant-loop-next l = record {
-  ends : IsEnding l.limits l.here (map numbered l.fn.ahead) (numbered l.last) (option_map numbered l.early) (map numbered l.left);
-  fit : list_all (fits l.limits l.here) (map numbered l.fn.ahead) ≡ list_all (fits l.limits l.here) (map numbered l.left);
+  ends : IsEnding l.limits l.here (map numbered l.fn.ahead) (numbered l.last) (option_map numbered l.early)
+      (map numbered l.left);
+  fit : list_all (fits l.limits l.here) (map numbered l.fn.ahead)
+      ≡ list_all (fits l.limits l.here) (map numbered l.left);
 }
 
 abbrev pub decreases-loop-next : goal.decreases-loop-next

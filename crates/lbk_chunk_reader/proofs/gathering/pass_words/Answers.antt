@@ -12,10 +12,13 @@ loop-piece-preserved-then-piece c = λ from joined few.
     let left = c.loop-piece.left.now in
     let p = c.in-Some.piece.now in
     let rest = c.in-Some.rest.now in
-    let counted = counted-on c.args.start c.loop-piece.count left rest p true c.in-Some.ensures.cases.0 c.if-piece.true in
-    let one : c.loop-piece.count + 1 ≡ c.saturating_add-count.result = omega (arith, counted, passed.same, few, c.saturating_add-count.ensures) in
+    let counted = counted-on c.args.start c.loop-piece.count left rest p true c.in-Some.ensures.cases.0 c.if-piece.true
+    in
+    let one : c.loop-piece.count + 1 ≡ c.saturating_add-count.result =
+    omega (arith, counted, passed.same, few, c.saturating_add-count.ensures) in
     subst (λ n. ArePassed c.args.start c.args.at c.args.count c.args.pieces.now n rest) one
-    (passed-on c.args.start c.args.at c.args.count c.args.pieces.now c.loop-piece.count left rest p true c.in-Some.ensures.cases.0 c.if-piece.true c.if-at-start.false passed)
+    (passed-on c.args.start c.args.at c.args.count c.args.pieces.now c.loop-piece.count left rest p true
+    c.in-Some.ensures.cases.0 c.if-piece.true c.if-at-start.false passed)
 
 pub loop-piece-preserved : goal.loop-piece-preserved
 loop-piece-preserved c = λ from joined few.
@@ -25,4 +28,5 @@ loop-piece-preserved c = λ from joined few.
     let rest = c.in-Some.rest.now in
     let one : c.loop-piece.count + 0 ≡ c.loop-piece.count = omega arith in
     subst (λ n. ArePassed c.args.start c.args.at c.args.count c.args.pieces.now n rest) one
-    (passed-on c.args.start c.args.at c.args.count c.args.pieces.now c.loop-piece.count left rest p false c.in-Some.ensures.cases.0 c.if-piece.false c.if-at-start.false passed)
+    (passed-on c.args.start c.args.at c.args.count c.args.pieces.now c.loop-piece.count left rest p false
+    c.in-Some.ensures.cases.0 c.if-piece.false c.if-at-start.false passed)

@@ -16,11 +16,14 @@ loop-segment-preserved-in_ok-push c =
     record {
       pushed = λ is. (
           let p = l.invariant.pushed is in
-          let few : l.here.count + length (words_in_pieces c.args.start l.here.left.now) < 2 ^ 64 = omega (arith, p.same, is.few) in
+          let few : l.here.count + length (words_in_pieces c.args.start l.here.left.now) < 2 ^ 64 =
+          omega (arith, p.same, is.few) in
           let passed = here.ensures.passed p.from p.joined few in
           let within = c.is_within.ensures passed.from passed.joined here.ensures.past in
-          pushed-on c.args.start c.args.words c.args.segments.now c.args.pieces.now c.args.cuts.now.items l.cuts.items l.here.count here.result.count l.here.left.now here.result.left.now
-          l.left.now c.in-Some.rest.now c.in-Some.segment.now c.in-Some.ensures.cases.0 p passed c.push.new.self.items c.in_ok-push.ensures.items
+          pushed-on c.args.start c.args.words c.args.segments.now c.args.pieces.now c.args.cuts.now.items l.cuts.items
+          l.here.count here.result.count l.here.left.now here.result.left.now
+          l.left.now c.in-Some.rest.now c.in-Some.segment.now c.in-Some.ensures.cases.0 p passed c.push.new.self.items
+          c.in_ok-push.ensures.items
           (sym within.0 ∙ c.if-not-is_within.true) within.1);
       grows = omega (arith, l.invariant.grows, c.in_ok-push.ensures.len);
     }
@@ -32,23 +35,28 @@ loop-segment-preserved c =
     record {
       pushed = λ is. (
           let p = l.invariant.pushed is in
-          let few : l.here.count + length (words_in_pieces c.args.start l.here.left.now) < 2 ^ 64 = omega (arith, p.same, is.few) in
+          let few : l.here.count + length (words_in_pieces c.args.start l.here.left.now) < 2 ^ 64 =
+          omega (arith, p.same, is.few) in
           let passed = here.ensures.passed p.from p.joined few in
           let within = c.is_within.ensures passed.from passed.joined here.ensures.past in
-          pushed-over c.args.start c.args.words c.args.segments.now c.args.pieces.now c.args.cuts.now.items l.cuts.items l.here.count here.result.count l.here.left.now here.result.left.now
-          l.left.now c.in-Some.rest.now c.in-Some.segment.now c.in-Some.ensures.cases.0 p passed (sym within.0 ∙ c.if-not-is_within.false));
+          pushed-over c.args.start c.args.words c.args.segments.now c.args.pieces.now c.args.cuts.now.items l.cuts.items
+          l.here.count here.result.count l.here.left.now here.result.left.now
+          l.left.now c.in-Some.rest.now c.in-Some.segment.now c.in-Some.ensures.cases.0 p passed (sym within.0
+          ∙ c.if-not-is_within.false));
       grows = l.invariant.grows;
     }
 
 pub returns-clause-cuts : goal.returns-clause-cuts
 returns-clause-cuts c = λ is.
     let l = c.loop-segment in
-    pushed-all c.args.start c.args.words c.args.segments.now c.args.pieces.now c.args.cuts.now.items l.cuts.items l.here.count l.here.left.now l.left.now
+    pushed-all c.args.start c.args.words c.args.segments.now c.args.pieces.now c.args.cuts.now.items l.cuts.items
+    l.here.count l.here.left.now l.left.now
     (no-items l.left.now c.in_default.ensures.cases) (l.invariant.pushed is)
 
 pub returns-clause-words : goal.returns-clause-words
 returns-clause-words c = λ is.
     let l = c.loop-segment in
     let p = l.invariant.pushed is in
-    let few : l.here.count + length (words_in_pieces c.args.start l.here.left.now) < 2 ^ 64 = omega (arith, p.same, is.few) in
+    let few : l.here.count + length (words_in_pieces c.args.start l.here.left.now) < 2 ^ 64 =
+    omega (arith, p.same, is.few) in
     c.words_behind.ensures c.args.start few ∙ p.same

@@ -6,7 +6,8 @@ use Rattle.lbk_chunk_reader.proofs.gathering.push_cuts.Given as goal
 abbrev pub invariant-loop-segment : goal.invariant-loop-segment
 invariant-loop-segment l = record {
   pushed : IsRegular l.start l.fn.words l.fn.segments l.fn.pieces
-      → ArePushed l.start l.fn.words l.fn.segments l.fn.pieces l.fn.cuts.items l.cuts.items l.here.count l.here.left.now l.left;
+      → ArePushed l.start l.fn.words l.fn.segments l.fn.pieces l.fn.cuts.items l.cuts.items l.here.count l.here.left.now
+      l.left;
   grows : vec_len l.fn.cuts ≤ vec_len l.cuts;
 }
 

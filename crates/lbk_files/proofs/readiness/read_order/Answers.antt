@@ -12,4 +12,5 @@ pub returns-in-Err-Help-clause-plain : goal.returns-in-Err-Help-clause-plain
 returns-in-Err-Help-clause-plain c task plain = let other = c.in-Err-Help.ensures.plain task plain in absurd (cc other)
 
 pub returns-in-Err-Usage-clause-plain : goal.returns-in-Err-Usage-clause-plain
-returns-in-Err-Usage-clause-plain c task plain = let other = c.in-Err-Usage.ensures.plain task plain in absurd (cc other)
+returns-in-Err-Usage-clause-plain c task plain = let other = c.in-Err-Usage.ensures.plain task plain in
+    absurd (cc other)

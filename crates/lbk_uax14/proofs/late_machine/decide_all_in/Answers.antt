@@ -1,4 +1,5 @@
-use Rattle.std.proofs.Common.{◌≡◌, ◌∷◌, ◌++◌, ◌+◌, ◌-◌, ◌<◌, [], ℕ, List, take, drop, length, get_or, arith, sym, ap, subst, ◌∙◌}
+use Rattle.std.proofs.Common.{◌≡◌, ◌∷◌, ◌++◌, ◌+◌, ◌-◌, ◌<◌, [], ℕ, List, take, drop, length, get_or, arith, sym, ap}
+use Rattle.std.proofs.Common.{subst, ◌∙◌}
 use Rattle.std.proofs.lemmas.List.{take_more, take_all, length-take-le}
 use Rattle.lbk_uax14.specs.declared.cells.Cell.{Cell}
 use Rattle.lbk_uax14.specs.Units.{letter}
@@ -6,7 +7,8 @@ use Rattle.lbk_uax14.specs.Answers.{count_of}
 use Rattle.lbk_uax14.specs.Held.{late_at, unanswered}
 use Rattle.lbk_uax14.specs.LateFits.{LateFits}
 use Rattle.lbk_uax14.specs.Verdict.{verdict_in}
-use Rattle.lbk_uax14.proofs.CoverLemmas.{Covers, Covers-start, Covers-turn, Covers-finish, answer_at-below, late_at-below, late_at-count}
+use Rattle.lbk_uax14.proofs.CoverLemmas.{Covers, Covers-start, Covers-turn, Covers-finish, answer_at-below}
+use Rattle.lbk_uax14.proofs.CoverLemmas.{late_at-below, late_at-count}
 use Rattle.lbk_uax14.proofs.MachineLemmas.{split-at}
 use Rattle.lbk_uax14.proofs.late_machine.decide_all_in.Goals as goal
 
@@ -39,7 +41,8 @@ overflow_add-answers-in-loop-k c =
     let cell = get_or cells k letter in
     let late = c.step-out.ensures.late c.args.profile (take k cells) (drop (k + 1) cells) c.loop-k.invariant.fits in
     let few = late_at-count c.args.profile (take k cells) cell (drop (k + 1) cells) in
-    let come : count_of c.step-out.result.late ≡ count_of (late_at c.args.profile (take k cells) cell (drop (k + 1) cells)) =
+    let come : count_of c.step-out.result.late
+    ≡ count_of (late_at c.args.profile (take k cells) cell (drop (k + 1) cells)) =
     ap (λ a. count_of a) late in
     let count = c.write_late-answers.ensures.count in
     let counted = c.loop-k.invariant.covers.counted in
@@ -56,12 +59,15 @@ loop-k-preserved c =
     let fits = c.loop-k.invariant.fits in
     let one_more : take k cells ++ cell ∷ [] ≡ take (k + 1) cells = sym (take_more cells k letter within) in
     record {
-      fits = subst (λ (l : List Cell). LateFits c.step-out.new.self profile l) one_more (c.step-out.ensures.fits profile (take k cells) fits);
+      fits = subst (λ (l : List Cell). LateFits c.step-out.new.self profile l) one_more
+          (c.step-out.ensures.fits profile (take k cells) fits);
       covers = Covers-turn profile cells (take k cells) more (take (k + 1) cells) cell
           c.loop-k.verdicts c.write_late-answers.new.verdicts c.write_now-answers.new.verdicts
-          c.loop-k.answers k c.write_late-answers.result c.write_now-answers.result c.step-out.result.late c.step-out.result.now
+          c.loop-k.answers k c.write_late-answers.result c.write_now-answers.result c.step-out.result.late
+          c.step-out.result.now
           (split-at cells k letter within) (length-take-le k cells (omega arith)) one_more
-          (c.step-out.ensures.late profile (take k cells) more fits) (c.step-out.ensures.now profile (take k cells) more fits)
+          (c.step-out.ensures.late profile (take k cells) more fits)
+          (c.step-out.ensures.now profile (take k cells) more fits)
           (omega (arith, c.requires, c.loop-k.auto.verdicts))
           c.write_late-answers.ensures.list c.write_now-answers.ensures.list
           c.write_late-answers.ensures.count c.write_now-answers.ensures.count
@@ -87,9 +93,11 @@ returns-clause-each c =
     let place : k ≡ length cells = omega arith in
     let whole : take k cells ≡ cells = take_all k cells (omega arith) in
     let fits = subst (λ (l : List Cell). LateFits c.loop-k.machine profile l) whole c.loop-k.invariant.fits in
-    let by_place = subst (λ (n : ℕ). Covers (λ j. verdict_in profile cells j) c.loop-k.verdicts c.loop-k.answers n (unanswered profile (take k cells)))
+    let by_place = subst (λ (n : ℕ). Covers (λ j. verdict_in profile cells j) c.loop-k.verdicts c.loop-k.answers n
+    (unanswered profile (take k cells)))
     place c.loop-k.invariant.covers in
-    let covers = subst (λ (l : List Cell). Covers (λ j. verdict_in profile cells j) c.loop-k.verdicts c.loop-k.answers (length cells) (unanswered profile l))
+    let covers = subst (λ (l : List Cell). Covers (λ j. verdict_in profile cells j) c.loop-k.verdicts c.loop-k.answers
+    (length cells) (unanswered profile l))
     whole by_place in
     let finished = Covers-finish profile cells c.loop-k.verdicts c.write_late-answers-2.new.verdicts c.loop-k.answers
     c.write_late-answers-2.result (length c.args.verdicts.now - 1) c.finish-end.result.late c.finish-end.result.end
@@ -106,9 +114,11 @@ returns-clause-once c =
     let place : k ≡ length cells = omega arith in
     let whole : take k cells ≡ cells = take_all k cells (omega arith) in
     let fits = subst (λ (l : List Cell). LateFits c.loop-k.machine profile l) whole c.loop-k.invariant.fits in
-    let by_place = subst (λ (n : ℕ). Covers (λ j. verdict_in profile cells j) c.loop-k.verdicts c.loop-k.answers n (unanswered profile (take k cells)))
+    let by_place = subst (λ (n : ℕ). Covers (λ j. verdict_in profile cells j) c.loop-k.verdicts c.loop-k.answers n
+    (unanswered profile (take k cells)))
     place c.loop-k.invariant.covers in
-    let covers = subst (λ (l : List Cell). Covers (λ j. verdict_in profile cells j) c.loop-k.verdicts c.loop-k.answers (length cells) (unanswered profile l))
+    let covers = subst (λ (l : List Cell). Covers (λ j. verdict_in profile cells j) c.loop-k.verdicts c.loop-k.answers
+    (length cells) (unanswered profile l))
     whole by_place in
     let finished = Covers-finish profile cells c.loop-k.verdicts c.write_late-answers-2.new.verdicts c.loop-k.answers
     c.write_late-answers-2.result (length c.args.verdicts.now - 1) c.finish-end.result.late c.finish-end.result.end

@@ -1,4 +1,5 @@
-use Rattle.std.proofs.Common.{◌≡◌, ◌∷◌, ◌++◌, ◌+◌, ◌<◌, List, [], take, drop, length, get_or, arith, sym, ap, subst, ◌∙◌}
+use Rattle.std.proofs.Common.{◌≡◌, ◌∷◌, ◌++◌, ◌+◌, ◌<◌, List, [], take, drop, length, get_or, arith, sym, ap, subst}
+use Rattle.std.proofs.Common.{◌∙◌}
 use Rattle.std.proofs.lemmas.List.{take_more, take_all, length-take-le}
 use Rattle.lbk_uax14.specs.declared.cells.Cell.{Cell}
 use Rattle.lbk_uax14.specs.Units.{letter}
@@ -33,7 +34,8 @@ returns c =
     let n = c.loop-k.k in
     let all : n ≡ length cells = omega arith in
     let whole : take n cells ≡ cells = take_all n cells (omega arith) in
-    let decided = c.finish.ensures cells (subst (λ (l : List Cell). Fits c.loop-k.machine l) whole c.loop-k.invariant.fits) in
+    let decided = c.finish.ensures cells (subst (λ (l : List Cell). Fits c.loop-k.machine l) whole
+    c.loop-k.invariant.fits) in
     λ k within. written_more (λ k. verdict cells k) c.loop-k.verdicts (length cells) c.finish.result
     (omega (arith, c.requires, c.loop-k.auto.verdicts))
     (λ j below. c.loop-k.invariant.written j (omega arith)) decided k (omega arith)

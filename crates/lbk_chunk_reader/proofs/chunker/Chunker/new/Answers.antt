@@ -4,5 +4,6 @@ use Rattle.lbk_chunk_reader.proofs.chunker.Chunker.new.Goals as goal
 
 pub returns-in-Ok-clause-view : goal.returns-in-Ok-clause-view
 returns-in-Ok-clause-view g c =
-    view-new c.args.limits c.new-window.result (state_of g.C.CellSource.cell_of c.in-Ok.segmenter) (g.C.CellSource.cell_of c.args.cells.now) c.args.profile c.args.limit
+    view-new c.args.limits c.new-window.result (state_of g.C.CellSource.cell_of c.in-Ok.segmenter)
+    (g.C.CellSource.cell_of c.args.cells.now) c.args.profile c.args.limit
     c.new-window.ensures.new c.in-Ok.ensures.state

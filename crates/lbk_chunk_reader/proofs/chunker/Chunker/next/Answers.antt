@@ -9,7 +9,11 @@ use Rattle.lbk_chunk_reader.proofs.ReaderLemmas.{goes-chunk, goes-none, goes-the
 use Rattle.lbk_chunk_reader.proofs.chunker.Chunker.next.Goals as goal
 
 pub loop-chunk-init : goal.loop-chunk-init
-loop-chunk-init g c = record { goes = goes-none (view_of g.C.CellSource.cell_of c.args.self.now) (g.R.Source.unread c.args.reader.now); unspent = c.if-self.false }
+loop-chunk-init g c = record {
+  goes = goes-none (view_of g.C.CellSource.cell_of c.args.self.now)
+      (g.R.Source.unread c.args.reader.now);
+  unspent = c.if-self.false;
+}
 
 pub returns-in-Some-clause-answer : goal.returns-in-Some-clause-answer
 returns-in-Some-clause-answer g c =
@@ -17,9 +21,11 @@ returns-in-Some-clause-answer g c =
     let self = c.loop-chunk.self in
     let s = state_of cell self.segmenter in
     let u = g.R.Source.unread c.loop-chunk.reader in
-    goes-then (view_of cell c.args.self.now) (view_of cell self) (view_with c.next.new.self s) false (g.R.Source.unread c.args.reader.now) u u [] (numbered_chunk c.in-Some.chunk ∷ [])
+    goes-then (view_of cell c.args.self.now) (view_of cell self) (view_with c.next.new.self s) false
+    (g.R.Source.unread c.args.reader.now) u u [] (numbered_chunk c.in-Some.chunk ∷ [])
     c.loop-chunk.invariant.goes
-    (goes-chunk s self.window c.next.new.self self.is_whole (self.stands c.loop-chunk.invariant.unspent) (numbered_chunk c.in-Some.chunk)
+    (goes-chunk s self.window c.next.new.self self.is_whole (self.stands c.loop-chunk.invariant.unspent)
+    (numbered_chunk c.in-Some.chunk)
     c.next.ensures.limits.0 c.next.ensures.limits.1 c.in-Some.ensures.chunk u)
 
 pub returns-then-self-2-clause-answer : goal.returns-then-self-2-clause-answer
@@ -28,9 +34,11 @@ returns-then-self-2-clause-answer g c =
     let self = c.loop-chunk.self in
     let s = state_of cell self.segmenter in
     let same = c.next.ensures.none c.in_default.is in (
-      subst (λ w. Goes (view_of cell c.args.self.now) (view_with w s) false (g.R.Source.unread c.args.reader.now) (g.R.Source.unread c.loop-chunk.reader) []) (sym same) c.loop-chunk.invariant.goes,
+      subst (λ w. Goes (view_of cell c.args.self.now) (view_with w s) false (g.R.Source.unread c.args.reader.now)
+          (g.R.Source.unread c.loop-chunk.reader) []) (sym same) c.loop-chunk.invariant.goes,
       (self.stands c.loop-chunk.invariant.unspent).whole c.if-self-2.true,
-      subst (λ w. ChunksCome (view_with w s) [] []) (sym same) (none-come s self.window (c.next.ensures.last c.in_default.is c.if-self-2.true)),
+      subst (λ w. ChunksCome (view_with w s) [] []) (sym same)
+          (none-come s self.window (c.next.ensures.last c.in_default.is c.if-self-2.true)),
     )
 
 pub returns-in-Err-clause-answer : goal.returns-in-Err-clause-answer
@@ -42,9 +50,12 @@ returns-in-Err-clause-answer g c =
     let u = g.R.Source.unread c.loop-chunk.reader in
     let v = g.R.Source.unread c.read_on.new.reader in
     let same = c.next.ensures.none c.in_default.is in
-    let goes = subst (λ w. Goes (view_of cell c.args.self.now) (view_with w s) false u0 u []) (sym same) c.loop-chunk.invariant.goes in
-    subst (λ b. IsStopped (view_of cell c.args.self.now) (view_of cell c.read_on.new.self) u0 v b c.in-Err.fault) (sym c.if-self.false)
-    (stopped-then (view_of cell c.args.self.now) (view_with c.next.new.self s) (view_of cell c.read_on.new.self) u0 u v c.in-Err.fault goes c.in-Err.ensures.reads)
+    let goes = subst (λ w. Goes (view_of cell c.args.self.now) (view_with w s) false u0 u []) (sym same)
+    c.loop-chunk.invariant.goes in
+    subst (λ b. IsStopped (view_of cell c.args.self.now) (view_of cell c.read_on.new.self) u0 v b c.in-Err.fault)
+    (sym c.if-self.false)
+    (stopped-then (view_of cell c.args.self.now) (view_with c.next.new.self s) (view_of cell c.read_on.new.self) u0 u v
+    c.in-Err.fault goes c.in-Err.ensures.reads)
 
 pub loop-chunk-preserved : goal.loop-chunk-preserved
 loop-chunk-preserved g c =
@@ -55,22 +66,26 @@ loop-chunk-preserved g c =
     let u = g.R.Source.unread c.loop-chunk.reader in
     let v = g.R.Source.unread c.read_on.new.reader in
     let same = c.next.ensures.none c.in_default.is in
-    let goes = subst (λ w. Goes (view_of cell c.args.self.now) (view_with w s) false u0 u []) (sym same) c.loop-chunk.invariant.goes in
+    let goes = subst (λ w. Goes (view_of cell c.args.self.now) (view_with w s) false u0 u []) (sym same)
+    c.loop-chunk.invariant.goes in
     record {
-      goes = goes-then (view_of cell c.args.self.now) (view_with c.next.new.self s) (view_of cell c.read_on.new.self) false u0 u v [] [] goes c.in-Ok.ensures.reads.0;
+      goes = goes-then (view_of cell c.args.self.now) (view_with c.next.new.self s) (view_of cell c.read_on.new.self)
+          false u0 u v [] [] goes c.in-Ok.ensures.reads.0;
       unspent = c.in-Ok.ensures.unspent;
     }
 
 pub loop-chunk-smaller : goal.loop-chunk-smaller
 loop-chunk-smaller g c =
     let cell = g.C.CellSource.cell_of in
-    progress (state_of cell c.loop-chunk.self.segmenter).start (state_of cell c.read_on.new.self.segmenter).start c.loop-chunk.self.is_whole c.read_on.new.self.is_whole
+    progress (state_of cell c.loop-chunk.self.segmenter).start (state_of cell c.read_on.new.self.segmenter).start
+    c.loop-chunk.self.is_whole c.read_on.new.self.is_whole
     c.if-self-2.false c.in-Ok.ensures.reads.1
 
 pub invariant_of-self : goal.invariant_of-self
 invariant_of-self g c =
     let self = c.loop-chunk.self in
     record {
-      stands = λ unspent. stands-next (state_of g.C.CellSource.cell_of self.segmenter) self.window c.next.new.self self.is_whole (self.stands unspent)
+      stands = λ unspent. stands-next (state_of g.C.CellSource.cell_of self.segmenter) self.window c.next.new.self
+          self.is_whole (self.stands unspent)
           c.next.ensures.limits.0 c.next.ensures.limits.1 c.next.result c.next.ensures.chunk c.next.ensures.none;
     }

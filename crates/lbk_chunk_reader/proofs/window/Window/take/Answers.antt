@@ -17,13 +17,15 @@ returns c = λ is.
     let there = subst (λ n. IsRegular p.start n p.segments.now p.pieces.now) (sym same.words) is in
     record {
       limits = same.limits;
-      cuts = taken-cuts mid.passed c.push_cuts.new.cuts.items mid.cuts.items (cuts_between p.start mid.words p.segments.now p.pieces.now) (let few = mid.passed_few in omega (arith, few))
+      cuts = taken-cuts mid.passed c.push_cuts.new.cuts.items mid.cuts.items
+          (cuts_between p.start mid.words p.segments.now p.pieces.now) (let few = mid.passed_few in omega (arith, few))
           (c.in_ok-self.ensures.cuts there)
           ∙ ap (λ l. l ++ cuts_between p.start mid.words p.segments.now p.pieces.now) same.cuts
           ∙ ap (λ n. cuts_in c.args.self.now ++ cuts_between p.start n p.segments.now p.pieces.now) same.words;
       here = same.here;
       words = c.in_ok-self.ensures.words there ∙ ap (λ n. n + length (words_in_pieces p.start p.pieces.now)) same.words;
       keeps = c.in_ok-take_text.ensures.keeps ∙ ap is_some same.held;
-      holds = λ text held. c.in_ok-take_text.ensures.holds text (subst (λ h. IfSome h (IsHeld mid.here.start text)) (sym same.held)
+      holds = λ text held. c.in_ok-take_text.ensures.holds text
+          (subst (λ h. IfSome h (IsHeld mid.here.start text)) (sym same.held)
           (subst (λ (h : Here). IfSome c.args.self.now.held (IsHeld h.start text)) (sym same.here) held));
     }

@@ -14,7 +14,8 @@ pub returns-in-Some : goal.returns-in-Some
 returns-in-Some c = λ profile cells more fits closes.
     let held = c.in-Some.held in
     let q = held.quotation in
-    answer-waiting profile cells more held c.args.closes c.verdict-verdict.result (sym fits.held_same ∙ c.in-Some.is) closes
+    answer-waiting profile cells more held c.args.closes c.verdict-verdict.result (sym fits.held_same ∙ c.in-Some.is)
+    closes
     (λ side after left closed.
     c.verdict-verdict.ensures side after left
     (ap (λ p. closes_in p (units_after (hard q.class) after)) fits.profile_same ∙ closed)
