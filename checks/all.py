@@ -6,8 +6,8 @@ from importlib import import_module
 
 from checks.harness import ALL_RIGHT, FAILED, USAGE, CannotRun, Tally
 
-# In the order in which the gate runs them, which leaves out `clients`, `c-speed` and `speed`. Each is a module of this package
-# with `run(tally, arguments)`, and the first line of its text says what it checks.
+# In the order in which the gate runs them, which leaves out `clients`, `c-speed` and `speed`. Each is a module of this
+# package with `run(tally, arguments)`, and the first line of its text says what it checks.
 NAMES = [
     "verdicts",
     "stored-runs",

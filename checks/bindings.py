@@ -21,8 +21,8 @@ ADVICE = (
     "found no files of Unicode 15.0.0; install the package unicode-data (Debian 12), unpack UCD.zip from "
     "https://www.unicode.org/Public/15.0.0/ucd/ into ~/.local/share/unicode, or set UNICODE_DATA to a folder that has them. Looked for:"
 )
-# The sentences on a file that is not the published one: the program and lbk_claim_text have those of this definition, and of the
-# languages JavaScript alone, whose module has no such call, has them again.
+# The sentences on a file that is not the published one: the program and lbk_claim_text have those of this definition,
+# and of the languages JavaScript alone, whose module has no such call, has them again.
 CLAIMS = "crates/lbk_ucd/specs/ClaimTexts.antt"
 CLAIM_SOURCES = {
     "Python": ["packages/python/src/calls/calls.c", "packages/python/src/lbk"],

@@ -1,12 +1,14 @@
 #!/usr/bin/env bash
-# Installs the library for C into a fresh folder, builds the examples and packages against it by pkg-config, and runs them.
+# Installs the library for C into a fresh folder, builds the examples and packages against it by pkg-config, and runs
+# them.
 #
 #     scripts/check c-library -- TEXT..
 #
-# The examples have to write the segments that `lbk segment` writes, in both profiles, over the published files of Unicode 15.0
-# (on Debian the package unicode-data, elsewhere the folder that UNICODE_DATA names) and each TEXT. Where these files are not
-# there, they go by those of the stored runs. It needs cc, python3, binutils and pkg-config. gcc, clang, g++, clang++, cmake,
-# rustc and cargo (and another cargo in /usr/bin) are used where they are; what was not there is said.
+# The examples have to write the segments that `lbk segment` writes, in both profiles, over the published files of
+# Unicode 15.0 (on Debian the package unicode-data, elsewhere the folder that UNICODE_DATA names) and each TEXT. Where
+# these files are not there, they go by those of the stored runs. It needs cc, python3, binutils and pkg-config. gcc,
+# clang, g++, clang++, cmake, rustc and cargo (and another cargo in /usr/bin) are used where they are; what was not
+# there is said.
 set -u
 top=$(cd "$(dirname "${BASH_SOURCE[0]}")/.." && pwd)
 ucd=${UNICODE_DATA:-/usr/share/unicode}
@@ -406,8 +408,8 @@ else
     left_out 'rustc is not there'
 fi
 
-# The programs of README.md, docs/c.md and docs/coming-from.md, each in a block after its name, and in the next block what it prints. A block
-# without a name is a part of one of these.
+# The programs of README.md, docs/c.md and docs/coming-from.md, each in a block after its name, and in the next block
+# what it prints. A block without a name is a part of one of these.
 try_page() {
     local name build run
     if [ -z "${LBK_DATABASE:-}" ]; then

@@ -22,7 +22,8 @@ def build(source, to, *words, compiler="cc"):
 
 
 def library(folder):
-    """The library for C as scripts/build-library makes it, in a folder: the words for the compiler that link it statically."""
+    """The library for C as scripts/build-library makes it, in a folder: the words for the compiler that link it
+    statically."""
     subprocess.run([TOP / "scripts/build-library", folder], check=True, stdout=subprocess.DEVNULL)
     return ["-I", Path(folder) / "include", "-I", TOP / "examples", Path(folder) / "lib/liblbk.a"]
 

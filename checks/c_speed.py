@@ -22,10 +22,10 @@ QUOTES = "a run of quotation marks"
 LINES = "Arabic with CRLF"
 WORDLESS = "a text without words"
 
-# A text, a call, and the least ratio of its speed to the loop's. `-2` is the second profile, `-8` eight bytes a call, `-60` a
-# line of at most sixty, `-1` a word of bits a call, `lbk_cut` a call for each 4,096 bytes or units: over a text without a cut, where
-# each call reads to the end, 0.006 was measured. Without blocks of 64 bytes 0.2 to 0.4 was left of the pages and of letters of two
-# bytes. `lbk_words` goes at 1.28, 0.31 and 0.39 of the loop.
+# A text, a call, and the least ratio of its speed to the loop's. `-2` is the second profile, `-8` eight bytes a call,
+# `-60` a line of at most sixty, `-1` a word of bits a call, `lbk_cut` a call for each 4,096 bytes or units: over a text
+# without a cut, where each call reads to the end, 0.006 was measured. Without blocks of 64 bytes 0.2 to 0.4 was left of
+# the pages and of letters of two bytes. `lbk_words` goes at 1.28, 0.31 and 0.39 of the loop.
 BOUNDS = [
     ("the pages", "lbk_breaks", 0.45),
     ("the pages", "lbk_breaks-2", 0.45),
@@ -92,9 +92,10 @@ BOUNDS = [
     ("letters of three bytes", "lbk_chunks-100", 0.027),
 ]
 
-# A text, two calls, and the least ratio of the speed of the first to that of the second, which decides each byte by steps alone. So a
-# third less is seen: 1.3, 1.9, 3.4 and 2.5 are measured, where steps that are constants of the code made positions up to 1.3 times as
-# fast as before. Of letters of three bytes 0.6 of the ratio was left where bytes that masks do not tell were never found to be many.
+# A text, two calls, and the least ratio of the speed of the first to that of the second, which decides each byte by
+# steps alone. So a third less is seen: 1.3, 1.9, 3.4 and 2.5 are measured, where steps that are constants of the code
+# made positions up to 1.3 times as fast as before. Of letters of three bytes 0.6 of the ratio was left where bytes that
+# masks do not tell were never found to be many.
 BESIDE = [
     ("letters of three bytes", "lbk_breaks", "lbk_positions", 1.05),
     ("letters of three bytes", "lbk_breaks_utf16", "lbk_positions_utf16", 1.1),
@@ -102,9 +103,9 @@ BESIDE = [
     ("the pages", "lbk_breaks", "lbk_positions", 1.9),
 ]
 
-# A text, a call, and the least ratio of its speed to that of the call over the pages. Where masks were made anew after each byte
-# that they do not cover, and calls took single pieces, 0.02, 0.02, 0.11, 0.03 and 0.03 were left. Where each break searched for a
-# word in the rest of the text, chunks took minutes.
+# A text, a call, and the least ratio of its speed to that of the call over the pages. Where masks were made anew after
+# each byte that they do not cover, and calls took single pieces, 0.02, 0.02, 0.11, 0.03 and 0.03 were left. Where each
+# break searched for a word in the rest of the text, chunks took minutes.
 ACROSS = [
     (ILL_FORMED, "lbk_breaks", 0.1),
     (ILL_FORMED, "lbk_feed", 0.1),

@@ -1,4 +1,5 @@
-"""The lines and objects of `lbk chunk` and the chunks of the definition, over random texts, sizes and ranges, for worked_rows.
+"""The lines and objects of `lbk chunk` and the chunks of the definition, over random texts, sizes and ranges, for
+worked_rows.
 
 The cuts of a text are taken from the lines of `lbk segment`; what a chunk is, is said here once more, slowly."""
 
@@ -46,7 +47,8 @@ def cuts_of(lines):
 
 
 def chunks(cuts, sizes):
-    """The chunks of a text with these cuts: where each starts and ends, its words, and the kind and the rule at its end."""
+    """The chunks of a text with these cuts: where each starts and ends, its words, and the kind and the rule at its
+    end."""
     here, told, found = Cut(0, 0, "", ""), 0, []
     fits = lambda start, it: it.at - start.at <= sizes.most and (not sizes.words or it.words - start.words <= sizes.words)
     while ahead := [it for it in cuts if it.at > told]:

@@ -39,7 +39,8 @@ class Maker:
         return (plain * (size // len(plain) + 1))[:size]
 
     def pieces(self, size, long):
-        """Pieces of a text. Something lies across each place where a part is to be cut; the middle is one long paragraph."""
+        """Pieces of a text. Something lies across each place where a part is to be cut; the middle is one long
+        paragraph."""
         at, mark, across, long_at = 0, self.blocksize, itertools.cycle(ACROSS), size // 2
         while at < size:
             if long and at >= long_at:

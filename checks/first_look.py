@@ -114,7 +114,8 @@ def told_at_once(tally, clone, program):
 
 
 def handed_over(tally, clone):
-    """What is built runs on the files that the words name, texts among them, and on standard input where it is wanted."""
+    """What is built runs on the files that the words name, texts among them, and on standard input where it is
+    wanted."""
     ended, _ = clone.run(["mark", "--ucd", "ucd", "text", "--limit=9", "other"], b"not to be read")
     words = clone.tried()
     place = clone.room / "place"

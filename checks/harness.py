@@ -110,8 +110,8 @@ def page(*names):
 
 
 def run_script(tally, words):
-    """Runs a script that prints rows and ends with its count, shows what it prints, and takes its count over. Its status has
-    the meaning that a check's has."""
+    """Runs a script that prints rows and ends with its count, shows what it prints, and takes its count over. Its
+    status has the meaning that a check's has."""
     last, counted = "", None
     with subprocess.Popen(list(map(str, words)), stdout=subprocess.PIPE, text=True, errors="replace") as script:
         for line in script.stdout:

@@ -60,7 +60,8 @@ def filled(of_all):
 
 
 def of_calls(room, words, of_all, calls, files):
-    """The instructions of calls over texts. A dump of valgrind's ends behind each call, and behind the loop before it."""
+    """The instructions of calls over texts. A dump of valgrind's ends behind each call, and behind the loop before
+    it."""
     program = c_programs.build("c/speed.c", room / "once", "-DRUNS=1", *words)
     names = dict(GO.findall(Path(c_programs.HERE, "c/speed.c").read_text(encoding="utf-8")))
     dumps = [f"--dump-after={go}" for go in ("go_byte_by_byte", *names.values())]

@@ -88,7 +88,8 @@ def plain(lines):
 
 
 def examples():
-    """Each example in the docs of an item, and what is wrong with it: nothing, or that no compiled file has its lines."""
+    """Each example in the docs of an item, and what is wrong with it: nothing, or that no compiled file has its
+    lines."""
     sources = sorted(TOP.glob("crates/*/src/**/*.rt"))
     code = [plain(line for line in lines_of(path) if not line.strip().startswith("///")) for path in sources]
     for path in sources:

@@ -21,14 +21,16 @@ class Ended(NamedTuple):
 
 
 def run(words, given=b"", seconds=600, **more):
-    """Runs a program over some bytes, and returns how it ended. One that takes longer than so many seconds ends the check."""
+    """Runs a program over some bytes, and returns how it ended. One that takes longer than so many seconds ends the
+    check."""
     ran = subprocess.run(words, input=given, capture_output=True, check=False, timeout=seconds, **more)
     return Ended(ran.returncode, ran.stdout, ran.stderr)
 
 
 class Long:
-    """How a run over a long stream ended: status, standard error, the front and the end of what was written, its bytes and
-    lines, the seconds of processor time, and the most bytes that it held before its input ended. `memory` is the most bytes that it may take."""
+    """How a run over a long stream ended: status, standard error, the front and the end of what was written, its bytes
+    and lines, the seconds of processor time, and the most bytes that it held before its input ended. `memory` is the
+    most bytes that it may take."""
 
     def __init__(self, words, parts, memory=ANY):
         with tempfile.TemporaryFile() as out, tempfile.TemporaryFile() as err:

@@ -75,7 +75,8 @@ def replay(runs, folder, words):
 
 
 def cover(lines, size):
-    """What is wrong with the passages and segments of a text of some size, which have to join, each word within its passage."""
+    """What is wrong with the passages and segments of a text of some size, which have to join, each word within its
+    passage."""
     end = part = passages = 0
     for line in lines:
         kind, *places = line.split()
@@ -164,7 +165,8 @@ def one_file_less(runs, folder, here, mark, marked):
 
 
 def cut_files(runs, words, show):
-    """A file that an option names, and that was cut, is read with a warning. One of another first line may end as it likes."""
+    """A file that an option names, and that was cut, is read with a warning. One of another first line may end as it
+    likes."""
     own = runs.room / "cut.txt"
     for k, option in enumerate(words[::2]):
         contents = Path(words[2 * k + 1]).read_bytes()

@@ -26,8 +26,8 @@ BOUNDS = [
     ("segments of passages", "Breaks, profile 1", (0.3, 0.3, 0.3)),
     ("next", "words", (0.2, 0.2, 0.2)),
     ("mark", "show", (1.1, 0.9, 0.7)),
-    # Time that grew as the square of the text would leave less than 0.2. These are two runs, which other load sets apart: 0.40 was
-    # seen of a body that is right.
+    # Time that grew as the square of the text would leave less than 0.2. These are two runs, which other load sets
+    # apart: 0.40 was seen of a body that is right.
     ("Breaks by the rules", "Breaks by the rules, an eighth of the text", (0.25, 0.25, 0.25)),
 ]
 
@@ -55,11 +55,12 @@ SUBCOMMANDS = [
 ]
 
 
-# Lines of so many bytes, and the least ratio of a subcommand's speed into a pipe that is read to that into a file: 1.0 to 1.4 are
-# measured. A write for each line costs most where lines are short.
+# Lines of so many bytes, and the least ratio of a subcommand's speed into a pipe that is read to that into a file: 1.0
+# to 1.4 are measured. A write for each line costs most where lines are short.
 LENGTHS, PIPED = (8, 60, 1000), 0.4
 
-# How many times md5sum's time over the four published files a run over no text takes at most, and how often both are run.
+# How many times md5sum's time over the four published files a run over no text takes at most, and how often both are
+# run.
 MOST_OF_FOLDER, MOST_OF_FILES, STARTS = 9.0, 6.0, 40
 
 
@@ -101,7 +102,8 @@ def subcommands(tally, of_all):
 
 
 def written(words, text, into_pipe):
-    """The processor time of a run over a text, of which the output goes into a file or into a pipe that another program reads."""
+    """The processor time of a run over a text, of which the output goes into a file or into a pipe that another program
+    reads."""
     with tempfile.TemporaryFile() as given, tempfile.TemporaryFile() as kept:
         given.write(text)
         given.seek(0)

@@ -34,5 +34,6 @@ def options(files):
 
 
 def layers_input(files, text):
-    """What `trials_bench layers` reads: four property files and a text, each but the last with a zero byte behind it."""
+    """What `trials_bench layers` reads: four property files and a text, each but the last with a zero byte behind
+    it."""
     return b"\0".join([*(Path(it).read_bytes() for it in files), text])

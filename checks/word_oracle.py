@@ -82,8 +82,8 @@ class Rules:
         return True  # WB999
 
     def units(self, codes):
-        """What WB4 leaves, as places and values: marks count as one with what stands before them, but at the start of the
-        text or a line."""
+        """What WB4 leaves, as places and values: marks count as one with what stands before them, but at the start of
+        the text or a line."""
         found = []
         for k, code in enumerate(codes):
             own = self.value(code)

@@ -1,5 +1,6 @@
 #!/usr/bin/env python3
-"""How a text engine asks for breaks: for lines of its own width, again after an edit, and of a text that comes in parts.
+"""How a text engine asks for breaks: for lines of its own width, again after an edit, and of a text that comes in
+parts.
 
     engine.py LINE_BREAK EAST_ASIAN CATEGORY EMOJI
 
@@ -31,12 +32,11 @@ def moved(found, by):
 
 
 def after_edit(table, old, breaks, at, removed, inserted):
-    """The text `old`, of bytes, with its breaks, after `removed` bytes from `at` on gave way to others: the new text, its breaks, and
-    how many of them had to be asked for.
+    """The text `old`, of bytes, with its breaks, after `removed` bytes from `at` on gave way to others: the new text,
+    its breaks, and how many of them had to be asked for.
 
-    Nothing changes up to the last Must before the edit; not one right at it, since a CR may stand there. Behind the edit, nothing
-    changes from the first place on that was a Must and is one again.
-    """
+    Nothing changes up to the last Must before the edit; not one right at it, since a CR may stand there. Behind the
+    edit, nothing changes from the first place on that was a Must and is one again. """
     new = old[:at] + inserted + old[at + removed :]
     by = len(inserted) - removed
     kept = next((k + 1 for k in reversed(range(len(breaks))) if breaks[k].at < at and breaks[k].kind is Kind.MUST), 0)

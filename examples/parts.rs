@@ -1,5 +1,5 @@
-//! Writes the segments of a text between its breaks, as `breaks` does, but finds them in parts of some 4 KB: each could be found by
-//! another thread or machine.
+//! Writes the segments of a text between its breaks, as `breaks` does, but finds them in parts of some 4 KB: each could
+//! be found by another thread or machine.
 //!
 //!     parts LINE_BREAK EAST_ASIAN CATEGORY EMOJI [PROFILE] < TEXT
 

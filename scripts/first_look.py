@@ -1,8 +1,7 @@
 """Looks at the arguments of the program before it is built: what it would say of them, and which files they name.
 
-It reads arguments as the program does, and knows what the program says of the mistakes that are made most; of others it says
-nothing, so that the program itself does. scripts/check first-look compares both.
-"""
+It reads arguments as the program does, and knows what the program says of the mistakes that are made most; of others it
+says nothing, so that the program itself does. scripts/check first-look compares both. """
 import os
 from typing import NamedTuple
 
@@ -47,7 +46,8 @@ class Unsure(Exception):
 
 
 class Order(NamedTuple):
-    """The subcommand, the values of the options by their names, and the operands; no subcommand stands for no arguments."""
+    """The subcommand, the values of the options by their names, and the operands; no subcommand stands for no
+    arguments."""
 
     task: str
     given: dict

@@ -1,9 +1,8 @@
 """What `rt ci` proved of a program, by what it keeps beside the kit: for each crate the sums of the files that it made.
 
-The kit's own `rt`, read as a module, names the entry of a crate: by the kit, HANDLES, the crate's line and sources, and the libraries
-below as they were built. So an entry is found only where `rt ci` would say again that the crate is kept. Whatever else is met, as
-in a kit that keeps its entries in another way, counts as none.
-"""
+The kit's own `rt`, read as a module, names the entry of a crate: by the kit, HANDLES, the crate's line and sources, and
+the libraries below as they were built. So an entry is found only where `rt ci` would say again that the crate is kept.
+Whatever else is met, as in a kit that keeps its entries in another way, counts as none. """
 import contextlib
 import hashlib
 import importlib.machinery

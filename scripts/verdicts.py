@@ -1,17 +1,16 @@
 """What was proved: a verdict names the sources, the kit and the file that was made, each by its SHA-256.
 
-A verdict stands beside that file: `verdict` in crates/NAME/out for a program or a static library, in crates/NAME/out/rlib for another
-library. Its lines:
+A verdict stands beside that file: `verdict` in crates/NAME/out for a program or a static library, in
+crates/NAME/out/rlib for another library. Its lines:
 
     kit rattle-kit-13f logic dac8208d650f15bf      what `rt version` prints
     proof logic=proved functions=25 ..             what `rt` said, where it said something
     made SHA-256 out/lbk                           the file, or the folder of a library
     sources SHA-256 lbk_values                     src/, specs/ and proofs/ of each crate below, lowest first, and of the crate
 
-The sum of a crate's sources is that of its line in crates.txt, without a comment, and of what `sha256sum` writes of its files,
-sorted by name; the sum of a folder is that of what it writes of its files. A verdict fits where all of these are as it says. Times of
-files count for nothing.
-"""
+The sum of a crate's sources is that of its line in crates.txt, without a comment, and of what `sha256sum` writes of its
+files, sorted by name; the sum of a folder is that of what it writes of its files. A verdict fits where all of these are
+as it says. Times of files count for nothing. """
 import hashlib
 import os
 import re
@@ -27,7 +26,8 @@ KEPT_BY_GATE = r"^rt: {name} is kept: .*"
 
 
 class Crate:
-    """A crate of a repository, by its line `NAME [staticlib|wasm64]: LIBRARY ..` of crates.txt, and those below it, lowest first."""
+    """A crate of a repository, by its line `NAME [staticlib|wasm64]: LIBRARY ..` of crates.txt, and those below it,
+    lowest first."""
 
     def __init__(self, top, line, below):
         head, _, _ = line.partition(":")
@@ -128,7 +128,8 @@ def read_verdict(crate):
 
 
 def fault(crate, sums=None):
-    """Why no verdict fits the crate as it is, or None where one does. `sums` keeps sums of sources from one call to the next."""
+    """Why no verdict fits the crate as it is, or None where one does. `sums` keeps sums of sources from one call to the
+    next."""
     found = read_verdict(crate)
     if not crate.is_built():
         return f"{crate.name} is not built"
@@ -156,7 +157,8 @@ def keep(crate, proof, sources):
 
 
 def said_by_gate(name, log):
-    """What `rt ci` said of a crate that it proved, in this run or in an earlier one, by all that it printed; nothing where it failed."""
+    """What `rt ci` said of a crate that it proved, in this run or in an earlier one, by all that it printed; nothing
+    where it failed."""
     if not re.search(r"^\d+ passed, 0 failed\n?\Z", log, re.M):
         return ""
     section = re.search(IN_GATE.format(name=re.escape(name)), log, re.M)

@@ -22,8 +22,8 @@ and --overlap 0 to 16777216, --from and --to 0 to 4294967295, --profile 1 or 2.
 LIMIT_OPTION, FROM_OPTION = "--limit <NUMBER>", "--from <BYTE>"
 SIGN = "--sign <TEXT> must be 1 to 8 bytes of UTF-8 without a line end"
 
-# Arguments behind those that name the files, and what is said of them, as the library clap words it for Rust; whether the usage
-# follows.
+# Arguments behind those that name the files, and what is said of them, as the library clap words it for Rust; whether
+# the usage follows.
 MISTAKES = [
     ("show", "--limit 9 --limit 9", TWICE.format(LIMIT_OPTION), True),
     ("mark", "--profile 1 --profile=2", TWICE.format("--profile <NUMBER>"), True),

@@ -1,5 +1,5 @@
-"""How often the system is asked: to read in blocks, and to write what is known before the next read, or once for each line of a
-replay."""
+"""How often the system is asked: to read in blocks, and to write what is known before the next read, or once for each
+line of a replay."""
 
 import os
 import subprocess
@@ -32,8 +32,8 @@ def run(place):
         _, read_without, _, _ = counted_calls(place, words)
         place.write("text", text)
         ended, read, wrote, written = counted_calls(place, words)
-        # Of the text at least 3,000 bytes a read, and one read for the end; of a file 12,000, and some reads to start: three
-        # quarters of the room that each read has.
+        # Of the text at least 3,000 bytes a read, and one read for the end; of a file 12,000, and some reads to start:
+        # three quarters of the room that each read has.
         reads = read - read_without + 1
         few = reads <= len(text) // 3_000 + 2 and read_without <= length // 12_000 + 50
         # One write for each read and each block of lines that waits for one, or one for each line and one at the end.
@@ -58,7 +58,8 @@ def each_size(place):
 
 
 def counted_calls(place, words):
-    """The status of a run over the file text, how often the system was asked to read and to write, and how many bytes were written."""
+    """The status of a run over the file text, how often the system was asked to read and to write, and how many bytes
+    were written."""
     with open(place.folder / "text", "rb") as text:
         program = subprocess.Popen([place.program, *words], stdin=text, stdout=subprocess.DEVNULL, cwd=place.folder)
         # What was counted is kept until the run is waited for.

@@ -1,4 +1,5 @@
-"""No read into no room and no write of no bytes: a library that is loaded before the program ends it where it makes one."""
+"""No read into no room and no write of no bytes: a library that is loaded before the program ends it where it makes
+one."""
 
 import os
 import sys

@@ -10,14 +10,15 @@ from checks.program import MIB
 
 LENGTH = 8_388_608
 ROWS = 65_536
-# What a run over four files of that length, or of so many rows, may hold once it has read them: less than one of them, and some
-# of the tables.
+# What a run over four files of that length, or of so many rows, may hold once it has read them: less than one of them,
+# and some of the tables.
 MOST = 5 * MIB
 SECONDS = 60
 
 
 def held(place, words):
-    """How many bytes and open files a run holds that has read its files and written a paragraph, or None where it wrote none."""
+    """How many bytes and open files a run holds that has read its files and written a paragraph, or None where it wrote
+    none."""
     streams = {"stdin": subprocess.PIPE, "stdout": subprocess.PIPE, "bufsize": 0}
     program = subprocess.Popen([place.program, *words], cwd=place.folder, **streams)
     try:

@@ -94,7 +94,8 @@ OPENED_OF = [
 
 
 def opened_once(place):
-    """Each file and text is opened once, and none after one that is refused, as the system tells whoever watches their folders."""
+    """Each file and text is opened once, and none after one that is refused, as the system tells whoever watches their
+    folders."""
     if not hasattr(ctypes.CDLL(None), "inotify_init1"):
         place.tally.leave_out("how often files are opened, which this system does not tell")
         return

@@ -1,4 +1,5 @@
-"""Texts that operands name: their order, their names, and those that are missing, may not be read, are no files or shrink."""
+"""Texts that operands name: their order, their names, and those that are missing, may not be read, are no files or
+shrink."""
 
 import os
 import resource

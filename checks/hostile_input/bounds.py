@@ -62,8 +62,8 @@ class Hostile:
         return [self.program, task, *options(self.names), *more]
 
     def grows(self, what, words, parts_of, length, fits, memory=ANY):
-        """Runs over an input of some length and of four times that, in so much memory, and compares the times and, where it
-        is bounded, the memory. `fits` says what is wrong with a run over a length, if anything is."""
+        """Runs over an input of some length and of four times that, in so much memory, and compares the times and,
+        where it is bounded, the memory. `fits` says what is wrong with a run over a length, if anything is."""
         small, great, is_slow = side_by_side(lambda size: Long(words, parts_of(size), memory), length)
         fault = fits(small, length) or fits(great, 4 * length)
         if fault is None and is_slow:
@@ -76,8 +76,8 @@ class Hostile:
 
 
 def side_by_side(run, size):
-    """Runs of a size and of four times that, and whether the greater took too many times the time. Where it did, both are made
-    again, twice at most: the machine may have become slower between them."""
+    """Runs of a size and of four times that, and whether the greater took too many times the time. Where it did, both
+    are made again, twice at most: the machine may have become slower between them."""
     for _ in range(3):
         small, great = run(size), run(4 * size)
         is_slow = great.seconds > MOST_TIMES * max(small.seconds, LEAST_SECONDS)

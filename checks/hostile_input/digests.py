@@ -9,8 +9,8 @@ CLASSES = (
     "AL B2 BA BB BK CB CL CM CP CR EB EM EX GL H2 H3 HL HY ID IN IS JL JT JV LF NL NS NU OP PO PR QU RI SP SY WJ ZW ZWJ"
 ).split()
 
-# The multipliers of two digests of a page that are the sum of its cells' numbers by the multiplier's powers, each with the
-# digest's bits and how many codes of a page are chosen so that the digest comes out the same.
+# The multipliers of two digests of a page that are the sum of its cells' numbers by the multiplier's powers, each with
+# the digest's bits and how many codes of a page are chosen so that the digest comes out the same.
 DIGESTS = [(0x100000001B3, 64, 15), (0x2360ED051FC65DA44385DF649FCCF645, 128, 30)]
 
 ROWS = 65_536

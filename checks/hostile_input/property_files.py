@@ -42,7 +42,8 @@ def shuffled_codes():
 
 
 def rows():
-    """Files of as many rows as a file may have: names, contents, and the line and text of the fault, if one is wanted."""
+    """Files of as many rows as a file may have: names, contents, and the line and text of the fault, if one is
+    wanted."""
     shuffled, spread = shuffled_codes(), range(0, 0x110000, 17)
     for name, codes in (
         ("rows rising", range(ROWS)),

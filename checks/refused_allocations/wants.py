@@ -41,7 +41,8 @@ def row_wants(key, run):
 
 
 def row_fits(key, ample, run):
-    """Whether a row, an allocation of which was refused, returns that it is out of memory, or what ample memory gives."""
+    """Whether a row, an allocation of which was refused, returns that it is out of memory, or what ample memory
+    gives."""
     if WANT[key] is None:
         return False
     if run == ample:

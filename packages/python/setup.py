@@ -86,8 +86,8 @@ SYSTEM = {"libc.so.6", "libm.so.6", "libpthread.so.0", "ld-linux-x86-64.so.2", "
 
 
 def manylinux(library, platform):
-    """The platform for a library as PEP 600 names it, by the version of glibc that it needs. Where that is not seen, or the
-    library needs others, too, it is the one that is given."""
+    """The platform for a library as PEP 600 names it, by the version of glibc that it needs. Where that is not seen, or
+    the library needs others, too, it is the one that is given."""
     if shutil.which("objdump") is None:
         return platform
     said = subprocess.run(["objdump", "-p", library], capture_output=True, text=True, check=True).stdout

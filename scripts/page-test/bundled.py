@@ -1,4 +1,5 @@
-"""Joins the modules of the page, and those of the package that it imports, in one script, so that a first visit fetches fewer bytes."""
+"""Joins the modules of the page, and those of the package that it imports, in one script, so that a first visit fetches
+fewer bytes."""
 import re
 
 IMPORT = re.compile(r'^import \{ ([^}]*) \} from "\./([\w.]+)";\n', re.M)
@@ -21,7 +22,8 @@ def order_of(name, texts, found):
 
 
 def bundled(main, texts):
-    """A script that does what the module `main` does. Each other module is a function of its own, which returns its exports."""
+    """A script that does what the module `main` does. Each other module is a function of its own, which returns its
+    exports."""
     order, made, exported = order_of(main, texts, []), [], {}
     for name in order:
         text = texts[name]

@@ -1,5 +1,5 @@
-// What the page decides of a text paragraph by paragraph, beside what is decided of the whole. LBK_PAGE is a folder with the page's
-// modules, LBK_PACKAGE one with the package, LBK_TABLE a table.
+// What the page decides of a text paragraph by paragraph, beside what is decided of the whole. LBK_PAGE is a folder
+// with the page's modules, LBK_PACKAGE one with the package, LBK_TABLE a table.
 import assert from "node:assert/strict";
 import test from "node:test";
 import { pathToFileURL } from "node:url";

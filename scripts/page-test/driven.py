@@ -63,7 +63,8 @@ for (const it of document.querySelectorAll(".position:not([aria-selected=true])"
 }
 return found;
 """
-# Whether the chosen sign and all of the answer are on the screen, with nothing over them, and nothing goes beyond its width.
+# Whether the chosen sign and all of the answer are on the screen, with nothing over them, and nothing goes beyond its
+# width.
 OPENING = """
 const isIn = (box) => box.top >= 0 && box.left >= 0 && box.bottom <= innerHeight && box.right <= innerWidth;
 const sign = document.querySelector("[aria-selected=true]");

@@ -62,7 +62,8 @@ def short_strings(draw, count):
 
 
 def write_texts(here, folder, given):
-    """The texts that are tried, as files: those of the database, made-up ones, and the first million bytes of those given."""
+    """The texts that are tried, as files: those of the database, made-up ones, and the first million bytes of those
+    given."""
     draw = random.Random(SEED)
     made = {name: made_text(draw, *how, SIZE) for name, how in SCRIPTS.items()}
     made["published-test"] = "\n".join(test_lines(folder)).encode("utf-8", "replace")

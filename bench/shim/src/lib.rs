@@ -1,5 +1,6 @@
-//! Line breakers and words of Rust, as calls of C. Each takes a text that is UTF-8, which is not looked at again, and hands each break
-//! to nobody or to `found`: the byte that it stands before, and 1 for a break that may be or 2 for one that must.
+//! Line breakers and words of Rust, as calls of C. Each takes a text that is UTF-8, which is not looked at again, and
+//! hands each break to nobody or to `found`: the byte that it stands before, and 1 for a break that may be or 2 for one
+//! that must.
 
 use std::{slice, str};
 use unicode_linebreak::{linebreaks, BreakOpportunity};

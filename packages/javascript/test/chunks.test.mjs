@@ -1,5 +1,5 @@
-// Chunks, compared with a literal form of their definition. LBK_TABLE names a table of Unicode 15.0 that save_table wrote, and LBK_UNICODE the
-// folder of its files.
+// Chunks, compared with a literal form of their definition. LBK_TABLE names a table of Unicode 15.0 that save_table
+// wrote, and LBK_UNICODE the folder of its files.
 import assert from "node:assert/strict";
 import { readFileSync } from "node:fs";
 import { test } from "node:test";

@@ -1,6 +1,6 @@
-// The package in Node. LBK_TABLE names a table of Unicode 15.0 that save_table wrote, and LBK_UNICODE the folder of its files.
-// By the library for C there are LBK_CASES, JSON rows of "SHA-256 of what its example writes, call, profile, file of the text",
-// and LBK_STRINGS, JSON rows of "string, profile, positions". scripts/page makes all.
+// The package in Node. LBK_TABLE names a table of Unicode 15.0 that save_table wrote, and LBK_UNICODE the folder of its
+// files. By the library for C there are LBK_CASES, JSON rows of "SHA-256 of what its example writes, call, profile,
+// file of the text", and LBK_STRINGS, JSON rows of "string, profile, positions". scripts/page makes all.
 import assert from "node:assert/strict";
 import { spawnSync } from "node:child_process";
 import { createHash } from "node:crypto";

@@ -86,7 +86,8 @@ class Threads(unittest.TestCase):
 class Interpreters(unittest.TestCase):
     @staticmethod
     def run_in_another(create):
-        """What an interpreter that is made so raises where it imports the package and uses it, in a process of its own."""
+        """What an interpreter that is made so raises where it imports the package and uses it, in a process of its
+        own."""
         program = f"""
             try:
                 import _interpreters as interpreters

@@ -1,5 +1,5 @@
-//! Breaks by the iterators of Rust crates: each function goes through all breaks of a text, cut into pieces of so many bytes, adds up
-//! their places and kinds, and returns how many there are.
+//! Breaks by the iterators of Rust crates: each function goes through all breaks of a text, cut into pieces of so many
+//! bytes, adds up their places and kinds, and returns how many there are.
 
 use lbk::{Kind, Table};
 use std::{slice, str};
