@@ -84,7 +84,8 @@ FORM(flat_columns, FLAT, AS_COLUMNS)
 FORM(flat_narrow, FLAT, AS_NARROW)
 
 static const struct { const char *name; size_t (*run)(const uint8_t *, size_t); } FORMS[] = {
-    {"flat, 16 bytes", flat_wide}, {"pages, 16 bytes", paged_wide}, {"flat, columns", flat_columns}, {"flat, 2 bytes", flat_narrow}};
+    {"flat, 16 bytes", flat_wide}, {"pages, 16 bytes", paged_wide}, {"flat, columns", flat_columns},
+    {"flat, 2 bytes", flat_narrow}};
 enum { COUNT = sizeof FORMS / sizeof *FORMS };
 
 static double now(void)
@@ -148,7 +149,8 @@ int main(int argc, char **argv)
         const char *name = strrchr(argv[k], '/');
         printf("%-12s", name ? name + 1 : argv[k]);
         for (int form = 0; form < COUNT; form++)
-            printf("  %s %.0f MB/s (%.2f)%s", FORMS[form].name, best[form], best[form] / best[0], breaks[form] == breaks[0] ? "" : " DIFFERS");
+            printf("  %s %.0f MB/s (%.2f)%s", FORMS[form].name, best[form], best[form] / best[0],
+                breaks[form] == breaks[0] ? "" : " DIFFERS");
         putchar('\n');
         free(text);
     }

@@ -230,8 +230,8 @@ static void compare(const char *name, cut_text text)
         }
     double size = (double)text.ends[text.pieces - 1];
     for (int k = 0; k < PEERS; k++) {
-        printf("%s\t%s\t%.0f MB/s\t%.2f of xi-unicode\t%.0f ns a call\t%zu breaks", name, peers[k].name, size / best[k] * 1e-6,
-               best[XI] / best[k], best[k] / (double)text.pieces * 1e9, found_by[k]);
+        printf("%s\t%s\t%.0f MB/s\t%.2f of xi-unicode\t%.0f ns a call\t%zu breaks", name, peers[k].name,
+            size / best[k] * 1e-6, best[XI] / best[k], best[k] / (double)text.pieces * 1e9, found_by[k]);
         if (k < XI && OLD + k < PEERS)
             printf("\t%.2f of older lbk", best[OLD + k] / best[k]);
         putchar('\n');
@@ -301,8 +301,8 @@ static void first(char **files, const char *name)
     u_strFromUTF8(wide, 100, &length, line, sizeof line - 1, &status);
     last = seconds(CLOCK_MONOTONIC);
     for (int run = 0; run < 3; run++) {
-        lbk_fault fault = lbk_read(&table, property[0].at, property[0].size, property[1].at, property[1].size, property[2].at,
-                                   property[2].size, property[3].at, property[3].size);
+        lbk_fault fault = lbk_read(&table, property[0].at, property[0].size, property[1].at, property[1].size,
+            property[2].at, property[2].size, property[3].at, property[3].size);
         must(fault.cause == LBK_CAUSE_NONE, "the four files are refused");
         step(run == 0 ? "lbk_read, the first time" : "lbk_read again");
     }
@@ -394,7 +394,8 @@ int main(int words, char **word)
     } else if (words == 4 && strcmp(word[1], "answers") == 0) {
         answers(word[2], word[3]);
     } else {
-        fprintf(stderr, "usage: peers speed FILES.. TEXT.., peers first FILES.. TABLE, or peers answers PEER SIZES < TEXT\n");
+        fprintf(stderr,
+            "usage: peers speed FILES.. TEXT.., peers first FILES.. TABLE, or peers answers PEER SIZES < TEXT\n");
         return 2;
     }
     return total == 1;

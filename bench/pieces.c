@@ -90,8 +90,8 @@ int main(int words, char **word)
                 pieces = end - middle < pieces ? end - middle : pieces;
             }
             double size = (double)text.size * 1e-6;
-            printf("%s, profile %d: whole %.0f MB/s, pieces %.0f MB/s, %.2f of it\n", word[k], profile + 1, size / whole, size / pieces,
-                   whole / pieces);
+            printf("%s, profile %d: whole %.0f MB/s, pieces %.0f MB/s, %.2f of it\n", word[k], profile + 1,
+                size / whole, size / pieces, whole / pieces);
         }
         free(text.at);
     }

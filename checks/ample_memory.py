@@ -32,7 +32,8 @@ TOGETHER = 20_000_000
 GREATEST = ["--limit", str(LIMIT)]
 # The names of the values of each property, as the definitions have them, and which files have default lines.
 DEFINED = (TOP / "crates/lbk_ucd/specs/Names.antt").read_text(encoding="utf-8")
-VALUES = [re.findall(r'\(codes "(\w+)"', part) for part in re.findall(r"^\w+_names =$(.*?)\[\]$", DEFINED, re.DOTALL | re.MULTILINE)]
+VALUES = [re.findall(r'\(codes "(\w+)"', part) for part in re.findall(r"^\w+_names =$(.*?)\[\]$", DEFINED,
+    re.DOTALL | re.MULTILINE)]
 WITH_DEFAULTS = (0, 1)
 # The codes of which no row of `DECIDES` says anything.
 FREE = [code for code in range(0x80, 0x110000) if code not in (0xE31, 0x1F3FB, 0x1FAFF)]
@@ -189,7 +190,8 @@ def ranges(drawn):
     """The paragraphs that begin in a range of a text."""
     sizes = drawn.sizes_together(LIMIT - 1)
     text = b"".join(b"a" * size + b"\n" for size in sizes)
-    first, end = sorted(drawn.chance.choice((drawn.size(len(text)), drawn.chance.randrange(len(text)))) for _ in range(2))
+    first, end = sorted(drawn.chance.choice((drawn.size(len(text)), drawn.chance.randrange(len(text))))
+        for _ in range(2))
     starts = [sum(sizes[:k]) + k for k in range(len(sizes))]
     out = b"".join(text[at : at + size + 1] for at, size in zip(starts, sizes) if first <= at < end)
     words = drawn.words("mark", *GREATEST, "--from", str(first), "--to", str(end))
@@ -200,7 +202,8 @@ def pieces(drawn, sizes=None):
     """Paragraphs of some numbers of pieces between word boundaries, none of which is a word, in one segment."""
     sizes = sizes or drawn.sizes_together(LIMIT - 1)
     text = b"".join(b"!" * size + b"\n" for size in sizes)
-    drawn.run("numbers of pieces", sizes, drawn.words("segment", *GREATEST), text, 0, lambda ran: ran.out.count(b"\n") == 2 * len(sizes))
+    drawn.run("numbers of pieces", sizes, drawn.words("segment", *GREATEST), text, 0,
+        lambda ran: ran.out.count(b"\n") == 2 * len(sizes))
 
 
 def segments(drawn, sizes=None):
@@ -221,7 +224,8 @@ def arguments(drawn):
     """More arguments than are taken, which is said by status 2 and the usage."""
     number = drawn.size(MOST_ARGUMENTS)
     word = drawn.chance.choice(("x", "--kinds", "-", "--limit=9"))
-    drawn.run("numbers of arguments", [number], ["replay", *[word] * number, "x"], b"", 2, lambda ran: b"Usage: " in ran.err)
+    drawn.run("numbers of arguments", [number], ["replay", *[word] * number, "x"], b"", 2,
+        lambda ran: b"Usage: " in ran.err)
 
 
 def texts(drawn):
@@ -248,7 +252,8 @@ def names(drawn):
     words = words_of("show", with_name(k, name))
     if drawn.chance.randrange(2):
         drawn.place.write(name, front + last)
-        drawn.run("names of files", [len(name.encode())], words, text.encode(), 0, lambda ran: ran.out == decided.encode())
+        drawn.run("names of files", [len(name.encode())], words, text.encode(), 0,
+            lambda ran: ran.out == decided.encode())
         os.remove(drawn.place.folder / name)
     else:
         err = f"lbk: {name}: the file cannot be read: no such file\n".encode()
@@ -259,7 +264,8 @@ def folders(drawn, size=None):
     """A folder of a name of some size that is not there: the line names its first file."""
     name = named(drawn, size or drawn.size(LONGEST_NAME - 20))
     err = f"lbk: {name}/LineBreak.txt: the file cannot be read: no such file".encode()
-    drawn.run("names of folders", [len(name.encode())], ["mark", "--ucd", name], b"a", 1, lambda ran: ran.err.startswith(err))
+    drawn.run("names of folders", [len(name.encode())], ["mark", "--ucd", name], b"a", 1,
+        lambda ran: ran.err.startswith(err))
 
 
 def lines(drawn):

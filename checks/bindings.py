@@ -34,9 +34,11 @@ READS_VERSION = "Used with Emoji Version"
 # Where the calls of each column are declared, and how.
 CALLS = {
     "C": (["include/lbk.h"], r"^\w+ {}\("),
-    "C++": (["include/lbk.hpp"], r"^class {0} |^using {0} = |^inline [\w:<> ]+ {0}\(|^    (?:static const table &|std::string ){0}\("),
+    "C++": (["include/lbk.hpp"],
+        r"^class {0} |^using {0} = |^inline [\w:<> ]+ {0}\(|^    (?:static const table &|std::string ){0}\("),
     "Rust": (["packages/rust/src"], r"^ *pub fn {0}\b|^pub struct {0} "),
-    "Python": ([f"packages/python/src/lbk/_{it}.py" for it in ("table", "stream", "labels")], r"^    def {0}\(|^class {0}\b"),
+    "Python": ([f"packages/python/src/lbk/_{it}.py" for it in ("table", "stream", "labels")],
+        r"^    def {0}\(|^class {0}\b"),
     "JavaScript": (
         [f"packages/javascript/{it}.d.ts" for it in ("lbk", "words", "parts", "chunks")],
         r"^  (?:static )?{0}(?:<.*>)?\(|^export (?:class|function) {0}\b",
@@ -78,7 +80,8 @@ def text_of(paths):
 def rows_of(page):
     """The rows of the table of calls: what a call gives, and its name in each language, "" where there is none."""
     section = re.search(r"^## Which call each language has\n(.*?)^## ", page, re.S | re.M)[1]
-    head, _, *rows = [[it.strip(" `") for it in line.split("|")[1:-1]] for line in section.split("\n") if line.startswith("|")]
+    head, _, *rows = [[it.strip(" `") for it in line.split("|")[1:-1]] for line in section.split("\n")
+        if line.startswith("|")]
     return [(row[0], dict(zip(head[1:], row[1:], strict=True))) for row in rows]
 
 
@@ -87,7 +90,8 @@ def names_for(language, names):
     plain = {it.removeprefix("lbk_") for it in names if it}
     if language == "C":
         return {f"lbk_{it}" for it in plain}
-    return plain | {re.sub(r"_(\w)", lambda found: found[1].upper(), it) for it in plain} if language == "JavaScript" else plain
+    return plain | {re.sub(r"_(\w)", lambda found: found[1].upper(), it)
+        for it in plain} if language == "JavaScript" else plain
 
 
 def declared(names, language, source):
@@ -117,10 +121,12 @@ def try_claims(tally):
     for language, paths in CLAIM_SOURCES.items():
         source = text_of(paths)
         if language == "JavaScript":
-            tally.equal(f"{language} says what a file claims as lbk_claim_text does", [it for it in parts if it not in source], [])
+            tally.equal(f"{language} says what a file claims as lbk_claim_text does",
+                [it for it in parts if it not in source], [])
         else:
             calls = [name for name in ("lbk_claim_text", "lbk_remedy_text") if f"{name}(" not in source]
-            tally.equal(f"{language} calls what says it, and reads no version itself", calls + re.findall(READS_VERSION, source), [])
+            tally.equal(f"{language} calls what says it, and reads no version itself",
+                calls + re.findall(READS_VERSION, source), [])
 
 
 def run(tally, _arguments):
@@ -131,5 +137,7 @@ def run(tally, _arguments):
     try_claims(tally)
     for language, path in SOURCES.items():
         source = (TOP / path).read_text(encoding="utf-8")
-        tally.equal(f"{language} looks into the folders of {PAGE.name}, in their order", looked_into(source, folders), folders)
-        tally.tell(f"{language} says the same where none has the files", None if ADVICE in joined(source) else f"not in {path}: {ADVICE}")
+        tally.equal(f"{language} looks into the folders of {PAGE.name}, in their order", looked_into(source, folders),
+            folders)
+        tally.tell(f"{language} says the same where none has the files", None if ADVICE in joined(source)
+            else f"not in {path}: {ADVICE}")

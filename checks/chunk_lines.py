@@ -14,7 +14,8 @@ from checks.files_and_pipes.place import words_of
 from checks.program import run as run_program
 
 TEXTS = 500
-PARTS = ["\"", "\\", "\0", "\x7f", "\x1f ", "\t", "a", "bc", "def ", " ", "  ", ",", "- ", "\n", "\n\n", "\r\n", "(", "12", "é", "カ", "タ", "（", "กั", "🀀🏻", "\u2028", "-1)"]
+PARTS = ["\"", "\\", "\0", "\x7f", "\x1f ", "\t", "a", "bc", "def ", " ", "  ", ",", "- ", "\n", "\n\n", "\r\n", "(",
+    "12", "é", "カ", "タ", "（", "กั", "🀀🏻", "\u2028", "-1)"]
 
 
 class Cut(NamedTuple):
@@ -50,7 +51,8 @@ def chunks(cuts, sizes):
     """The chunks of a text with these cuts: where each starts and ends, its words, and the kind and the rule at its
     end."""
     here, told, found = Cut(0, 0, "", ""), 0, []
-    fits = lambda start, it: it.at - start.at <= sizes.most and (not sizes.words or it.words - start.words <= sizes.words)
+    fits = lambda start, it: it.at - start.at <= sizes.most and (not sizes.words
+        or it.words - start.words <= sizes.words)
     while ahead := [it for it in cuts if it.at > told]:
         good = list(takewhile(lambda it: fits(here, it), ahead))
         early = [it for it in good if it.kind == "Must" and it.at - told >= sizes.least]
@@ -82,7 +84,8 @@ def in_packets(place, words, text, rng):
             ours.send(text[:size])
             text = text[size:]
         ours.shutdown(socket.SHUT_WR)
-        return subprocess.run([place.program, *words], stdin=theirs, capture_output=True, cwd=place.folder, check=True).stdout
+        return subprocess.run([place.program, *words], stdin=theirs, capture_output=True, cwd=place.folder,
+            check=True).stdout
 
 
 def chunk_lines(place):
@@ -91,7 +94,8 @@ def chunk_lines(place):
     for _ in range(TEXTS):
         text = "".join(rng.choices(PARTS, k=rng.randint(0, 40))).encode()
         sizes, profile = random_sizes(rng), ["--profile", rng.choice("12")]
-        cuts = cuts_of(run_program([place.program, *words_of("segment", more=profile)], text, cwd=place.folder).out.decode().splitlines())
+        cuts = cuts_of(run_program([place.program, *words_of("segment", more=profile)], text,
+            cwd=place.folder).out.decode().splitlines())
         found = chunks(cuts, sizes)
         words = words_of("chunk", more=[*sizes.options(), *profile])
         wanted = lambda its: "".join("C {} {} {} {} {}\n".format(*it) for it in its).encode()
@@ -99,8 +103,10 @@ def chunk_lines(place):
         place.row(what, words, text, 0, wanted(found))
         place.tally.equal(f"{what} in pieces", in_packets(place, words, text, rng), wanted(found))
         told = [{"start": it[0], "end": it[1], "words": it[2], "text": text[it[0] : it[1]].decode()} for it in found]
-        place.tally.equal(f"{what} --text", objects(run_program([place.program, *words, "--text"], text, cwd=place.folder).out), told)
+        place.tally.equal(f"{what} --text", objects(run_program([place.program, *words, "--text"], text,
+            cwd=place.folder).out), told)
         place.tally.equal(f"{what} --text in pieces", objects(in_packets(place, [*words, "--text"], text, rng)), told)
         middle = rng.randint(0, len(text))
-        for part, its in (("--to", [it for it in found if it[0] < middle]), ("--from", [it for it in found if it[0] >= middle])):
+        for part, its in (("--to", [it for it in found if it[0] < middle]),
+            ("--from", [it for it in found if it[0] >= middle])):
             place.row(f"{what} {part} {middle}", [*words, part, str(middle)], text, 0, wanted(its))

@@ -38,7 +38,8 @@ LINES = [
 def done(words, log, **options):
     """Whether a command ended with status 0. What it wrote is in the log."""
     with open(log, "ab") as out:
-        ran = subprocess.run(list(map(str, words)), stdin=subprocess.DEVNULL, stdout=out, stderr=out, check=False, **options)
+        ran = subprocess.run(list(map(str, words)), stdin=subprocess.DEVNULL, stdout=out, stderr=out, check=False,
+            **options)
     return ran.returncode == 0
 
 
@@ -52,8 +53,8 @@ def fetched(room):
     lists.write_text(f"deb-src [signed-by={KEYS}] http://deb.debian.org/debian bookworm main\n", encoding="utf-8")
     for folder in ("lists/partial", "cache/archives/partial", "source"):
         (room / folder).mkdir(parents=True)
-    apt = ["apt-get", "-q", "-o", f"Dir::Etc::sourcelist={lists}", "-o", "Dir::Etc::sourceparts=/dev/null", "-o", f"Dir::State::lists={room}/lists",
-           "-o", f"Dir::Cache={room}/cache", "-o", "APT::Sandbox::User=root"]
+    apt = ["apt-get", "-q", "-o", f"Dir::Etc::sourcelist={lists}", "-o", "Dir::Etc::sourceparts=/dev/null", "-o",
+        f"Dir::State::lists={room}/lists", "-o", f"Dir::Cache={room}/cache", "-o", "APT::Sandbox::User=root"]
     log = room / "log"
     if done([*apt, "update"], log) and done([*apt, "source", "libass"], log, cwd=room / "source"):
         return next((it for it in (room / "source").iterdir() if it.is_dir()), None)
@@ -71,7 +72,8 @@ def wanted_breaks(folder, line):
 def built_wraps(room, prefix, source, unicode, paths):
     """Builds the drop-in, libass over it, and checks/c/wraps.c. Returns which step failed, or None."""
     program = 'cc -O2 -Wall -Wextra "$0" $(pkg-config --static --cflags --libs libass) -o "$1"'
-    options = ["--quiet", "--disable-fontconfig", "--disable-require-system-font-provider", "--enable-libunibreak", "--disable-shared"]
+    options = ["--quiet", "--disable-fontconfig", "--disable-require-system-font-provider", "--enable-libunibreak",
+        "--disable-shared"]
     steps = [
         ([TOP / "packages/unibreak/build", unicode, room / "unibreak"], TOP),
         (["./configure", *options, f"--prefix={prefix}"], source),
@@ -79,7 +81,8 @@ def built_wraps(room, prefix, source, unicode, paths):
         (["sh", "-c", program, TOP / "checks/c/wraps.c", room / "wraps"], TOP),
     ]
     log = room / "libass.log"
-    return next((f"{words[0]}: {last_lines(log)}" for words, folder in steps if not done(words, log, env=paths, cwd=folder)), None)
+    return next((f"{words[0]}: {last_lines(log)}" for words, folder in steps if not done(words, log, env=paths,
+        cwd=folder)), None)
 
 
 def try_libass(tally, room, prefix, unicode):
@@ -93,10 +96,12 @@ def try_libass(tally, room, prefix, unicode):
         tally.leave_out("libass, whose source apt-get cannot fetch")
         return
     drop_in = room / "unibreak/lib"
-    paths = {**os.environ, "PKG_CONFIG_PATH": f"{prefix}/lib/pkgconfig:{drop_in}/pkgconfig", "LD_LIBRARY_PATH": str(drop_in)}
+    paths = {**os.environ, "PKG_CONFIG_PATH": f"{prefix}/lib/pkgconfig:{drop_in}/pkgconfig",
+        "LD_LIBRARY_PATH": str(drop_in)}
     if not tally.tell(f"{source.name} is built over the drop-in", built_wraps(room, prefix, source, unicode, paths)):
         return
-    ran = subprocess.run([room / "wraps", FONT], input="\n".join(LINES).encode(), capture_output=True, env=paths, check=True)
+    ran = subprocess.run([room / "wraps", FONT], input="\n".join(LINES).encode(), capture_output=True, env=paths,
+        check=True)
     found = re.findall(r"^(\d+) (\d+)( forced)?$", ran.stdout.decode(), re.M)
     for number, line in enumerate(LINES, 1):
         wraps = {(int(at), bool(forced)) for of, at, forced in found if int(of) == number}

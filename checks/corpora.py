@@ -11,7 +11,8 @@ from typing import NamedTuple
 
 # Line ends, what lies beside them, and ill-formed bytes.
 ENDS = [end.encode() for end in ("\n", "\r\n", "\r", "\x85", "\u2028", "\u2029", "\v", "\f", "\n\n", "\r\r\n", "\n\r")]
-ODD = [b"", b"", b" ", b"\xff", b"\xe4\xb8", b"\xf0\x9f\x98", b"\x80\x80", b"\xed\xa0\x80", b"\xc0\xaf", "\u200d".encode(), b"\0"]
+ODD = [b"", b"", b" ", b"\xff", b"\xe4\xb8", b"\xf0\x9f\x98", b"\x80\x80", b"\xed\xa0\x80", b"\xc0\xaf",
+    "\u200d".encode(), b"\0"]
 # What lies across a cut, and how many of its bytes before it.
 ACROSS = [
     (b"\r\n", 1), ("\x85".encode(), 1), ("\u2029".encode(), 1), ("\u2029".encode(), 2), (b"\n", 1), (b"\n", 0),
@@ -46,7 +47,8 @@ class Maker:
             if long and at >= long_at:
                 piece, long = self.paragraph(long), 0
             else:
-                piece = self.cut(self.chance.choice((9, 200, 5000, 1 << 18))) + self.chance.choice(ENDS) + self.chance.choice(ODD)
+                piece = self.cut(self.chance.choice((9, 200, 5000,
+                    1 << 18))) + self.chance.choice(ENDS) + self.chance.choice(ODD)
             if at + len(piece) > mark - 8 > at:
                 between, before = next(across)
                 piece = piece[: mark - before - at].ljust(mark - before - at, b".") + between

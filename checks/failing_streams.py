@@ -97,7 +97,8 @@ def long_paragraphs(runs, task, words):
         if HAS_FULL:
             runs.ends(f"{name}: a full output", runs.redirected(f"< {text} > /dev/full", words), 1, NO_SPACE)
         runs.ends(f"{name}: a reader that closes early", closed_early(runs, words, text), 1)
-        runs.ends(f"{name}: an output that is not ready", not_ready_output(runs, words, text), 1, f"{OUT_FAULT}: {NOT_READY}")
+        runs.ends(f"{name}: an output that is not ready", not_ready_output(runs, words, text), 1,
+            f"{OUT_FAULT}: {NOT_READY}")
 
 
 def closed_early(runs, words, text="many"):
@@ -158,7 +159,8 @@ def inputs(runs, name, words, first):
     runs.ends(f"{name}: a closed input and a closed output", runs.redirected("<&- >&-", words), 1, IN_FAULT, first)
     runs.ends(f"{name}: all three closed", runs.redirected("<&- >&- 2>&-", words), 1)
     if HAS_FULL:
-        runs.ends(f"{name}: a closed input and a full standard error", runs.redirected("<&- > /dev/full 2> /dev/full", words), 1)
+        runs.ends(f"{name}: a closed input and a full standard error",
+            runs.redirected("<&- > /dev/full 2> /dev/full", words), 1)
     ended = not_ready_input(runs, words, b"")
     runs.ends(f"{name}: an input that is not ready", ended, 1, f"{IN_FAULT}: {NOT_READY}", first)
     runs.wrote(f"{name}: an input that is not ready", ended)
@@ -199,7 +201,8 @@ def property_files(runs):
             for what, name, status, line in rows:
                 files = [name if k == other else file for other, file in enumerate(runs.files)]
                 ended = runs.redirected("< two", [task, *runs.words(files)])
-                runs.ends(f"{task} {option}: {what}", ended, status, line if line is not None else NOT_TEXT.format(3 + 2 * k, r"\xff"))
+                runs.ends(f"{task} {option}: {what}", ended, status, line if line is not None
+                    else NOT_TEXT.format(3 + 2 * k, r"\xff"))
                 if status:
                     runs.wrote(f"{task} {option}: {what}", ended)
 
@@ -207,7 +210,8 @@ def property_files(runs):
 def arguments(runs):
     for word in (b"\xff", b"show\xc3", b"mark\xc3", b"\xed\xa0\x80", b"--limit=\xfe"):
         seen = "".join(chr(it) if 0x21 <= it < 0x7F else f"\\x{it:02x}" for it in word)
-        runs.ends(f"an argument that is not UTF-8: {word!r}", runs.redirected("< two", [word]), 2, NOT_TEXT.format(1, seen))
+        runs.ends(f"an argument that is not UTF-8: {word!r}", runs.redirected("< two", [word]), 2,
+            NOT_TEXT.format(1, seen))
     # (Linux takes 131,071 bytes)
     long = b"x" * 131_070 + b"\xff"
     ended = runs.redirected("< two", ["mark", long])
@@ -244,7 +248,8 @@ def run(tally, _arguments):
         runs = Runs(tally, room)
         library = None
         if has("gcc"):
-            library = c_programs.build("c/interrupted.c", runs.room / "interrupted.so", "-shared", "-fPIC", compiler="gcc")
+            library = c_programs.build("c/interrupted.c", runs.room / "interrupted.so", "-shared", "-fPIC",
+                compiler="gcc")
         else:
             tally.leave_out("interrupted calls, for which gcc is not there")
         for task in ("", "mark", "show", "segment", "chunk", "replay"):

@@ -20,20 +20,28 @@ TASKS = ("mark", "show", "segment", "chunk", "replay")
 FILES = [word for pair in zip(OPTIONS, "LECM") for word in pair]
 # Arguments that no program is needed for; the program says the same of them.
 WORDS = [
-    ["--help"], ["-h"], ["help"], ["--version"], ["-V"], *(["help", it] for it in TASKS), *([it, "--help"] for it in TASKS),
+    ["--help"], ["-h"], ["help"], ["--version"], ["-V"], *(["help", it] for it in TASKS),
+    *([it, "--help"] for it in TASKS),
     ["README.md"], ["a/b"], ["bogus"], ["a\nb"], ["\u202eb."], ["mark"], ["replay", "x", "y"], ["mark", "--ucd="],
     ["mark", "--limit", "64K"], ["show", "--limit", "1e6"], ["show", "--limit", "-1"], ["segment", "--to", "1\n0"],
-    ["mark", "--limit=99999999999999999999"], ["mark", "--profile", "3"], ["mark", "--no\x1b[1m"], ["segment", "--from", "+5", "--to", "4"],
-    ["mark", *FILES, "--from", "5", "--to", "4"], ["mark", "--ucd", "none"], ["mark", "--ucd", "U.zip"], ["replay", "--ucd", "a\u2066\nb"],
+    ["mark", "--limit=99999999999999999999"], ["mark", "--profile", "3"], ["mark", "--no\x1b[1m"],
+    ["segment", "--from", "+5", "--to", "4"],
+    ["mark", *FILES, "--from", "5", "--to", "4"], ["mark", "--ucd", "none"], ["mark", "--ucd", "U.zip"],
+    ["replay", "--ucd", "a\u2066\nb"],
     ["mark", *FILES, "none", "fo\u200flder"], ["mark", *FILES, "--", "--limit", "-x"], ["show", *FILES[:7], "none"],
-    ["mark", *FILES, "--sign", "ninebytes"], ["mark", *FILES, "--sign="], ["mark", *FILES, "--sign", "a\u2028"], ["show", *FILES, "--sign", "|"],
-    ["chunk", "--most", "64K"], ["chunk", "--most", "0"], ["chunk", "--words=0"], ["chunk", "--least", "-1"], ["chunk", "--overlap", "1e6"],
-    ["chunk", *FILES, "--most", "4", "--least", "5"], ["chunk", *FILES, "--most", "5", "--overlap", "3"], ["chunk", "--most", "5"],
-    ["chunk", *FILES, "--most", "5", "--most", "6"], ["mark", *FILES, "--most", "5"],
-    ["chunk", *FILES], ["show", "--least=9"], ["show", "--to", "x", "--bogus"], ["show", "--to=x", "--bogus"], ["mark", "--limit", "-h"],
-    ["segment", "--from", "--sign=|"], ["segment", "--from", "--names"], ["segment", "--from", "--help=1"], ["mark", "--limit", "--", "-1"],
+    ["mark", *FILES, "--sign", "ninebytes"], ["mark", *FILES, "--sign="], ["mark", *FILES, "--sign", "a\u2028"],
+    ["show", *FILES, "--sign", "|"],
+    ["chunk", "--most", "64K"], ["chunk", "--most", "0"], ["chunk", "--words=0"], ["chunk", "--least", "-1"],
+    ["chunk", "--overlap", "1e6"],
+    ["chunk", *FILES, "--most", "4", "--least", "5"], ["chunk", *FILES, "--most", "5", "--overlap", "3"],
+    ["chunk", "--most", "5"], ["chunk", *FILES, "--most", "5", "--most", "6"], ["mark", *FILES, "--most", "5"],
+    ["chunk", *FILES], ["show", "--least=9"], ["show", "--to", "x", "--bogus"], ["show", "--to=x", "--bogus"],
+    ["mark", "--limit", "-h"],
+    ["segment", "--from", "--sign=|"], ["segment", "--from", "--names"], ["segment", "--from", "--help=1"],
+    ["mark", "--limit", "--", "-1"],
     ["mark", *FILES, "--bogus", "-1"], ["mark", *FILES, "--ucd", "u", "--ucd", "v", "--bogus"], ["--bogus", "-1"],
-    ["mark", *FILES, "--sign", "|", "--sign", "+"], ["mark", *FILES, "--sign"], ["show", *FILES, "--name", "x"], ["replay", "--kind"],
+    ["mark", *FILES, "--sign", "|", "--sign", "+"], ["mark", *FILES, "--sign"], ["show", *FILES, "--name", "x"],
+    ["replay", "--kind"],
 ]  # fmt: skip
 SECONDS = 1  # of processor time
 SAID = ("nothing of this run is proved", "./lbk --prove", "rt ci")
@@ -134,14 +142,17 @@ def handed_over(tally, clone):
     tally.equal("the same is handed over with --unproved", clone.tried(), wanted)
     ended, _ = clone.run(["mark", *FILES, "-", "text"], b"read")
     tally.equal("standard input is handed over where it is named", (clone.room / "input").read_bytes(), b"read")
-    tally.equal("a name that no file was handed over by stays", ended.err.decode().splitlines()[-1], "lbk: handed-over-5: byte 3: a fault")
+    tally.equal("a name that no file was handed over by stays", ended.err.decode().splitlines()[-1],
+        "lbk: handed-over-5: byte 3: a fault")
     ended, _ = clone.run(["mark", *FILES, "other", "text"])
     tally.equal("a message names the second text", ended.err.decode().splitlines()[-1], "lbk: text: byte 3: a fault")
     tally.equal("a line of the text that looks like one of --names stays", ended.out, out)
     ended, _ = clone.run(["replay", "--names", *FILES, "te\u202ext"])
-    tally.equal("a line of --names has the name of the text", ended.out, b"==> te\\u{202e}xt <==\n==> handed-over-4\nwrote")
+    tally.equal("a line of --names has the name of the text", ended.out,
+        b"==> te\\u{202e}xt <==\n==> handed-over-4\nwrote")
     ended, _ = clone.run([], b"ab")
-    tally.equal("no words: standard input is handed over", (clone.tried(), (clone.room / "input").read_bytes()), (["try", *INTERPRETER, "--"], b"ab"))
+    tally.equal("no words: standard input is handed over", (clone.tried(), (clone.room / "input").read_bytes()),
+        (["try", *INTERPRETER, "--"], b"ab"))
 
 
 def too_much(tally, clone):
@@ -180,7 +191,8 @@ def built(tally):
         text = Path(room) / "text"
         text.write_bytes(b"ab cd")
         started = time.monotonic()
-        ended = subprocess.run([clone / "lbk", "mark", "--ucd", published(), text], stdin=subprocess.DEVNULL, capture_output=True, check=False)
+        ended = subprocess.run([clone / "lbk", "mark", "--ucd", published(), text], stdin=subprocess.DEVNULL,
+            capture_output=True, check=False)
         print(f"a fresh clone answers after {time.monotonic() - started:.0f} s")
         tally.equal("a fresh clone answers", (ended.stdout, ended.returncode), ("ab ÷cd\n".encode(), 0))
 

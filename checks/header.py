@@ -17,11 +17,13 @@ NUMBERS = {
     "rule_number": ("lbk_uax14/specs/Codes.antt", lambda name: "LBK_RULE_" + name.removeprefix("Lb").upper()),
     "file_number": (
         "lbk_c/specs/Faults.antt",
-        {"LineBreak": "LBK_LINE_BREAK", "EastAsianWidth": "LBK_EAST_ASIAN", "Category": "LBK_CATEGORY", "Emoji": "LBK_EMOJI"},
+        {"LineBreak": "LBK_LINE_BREAK", "EastAsianWidth": "LBK_EAST_ASIAN", "Category": "LBK_CATEGORY",
+            "Emoji": "LBK_EMOJI"},
     ),
     "cause_number": (
         "lbk_c/specs/Faults.antt",
-        lambda name: "LBK_CAUSE_" + {"Memory": "OUT_OF_MEMORY"}.get(name, re.sub(r"(?<=.)(?=[A-Z])", "_", name).upper()),
+        lambda name: "LBK_CAUSE_" + {"Memory": "OUT_OF_MEMORY"}.get(name,
+            re.sub(r"(?<=.)(?=[A-Z])", "_", name).upper()),
     ),
     "refusal_number": (
         "lbk_calls/specs/Refused.antt",
@@ -125,13 +127,15 @@ def run(tally, _arguments):
     ours = list(numbers())
     lines = ["#include <lbk.h>", "#ifdef __cplusplus", "#define HOLDS(it) static_assert(it, #it)", "#else"]
     lines += ["#define HOLDS(it) _Static_assert(it, #it)", "#endif"]
-    lines += [f"enum {{ {name} = {constants[name].replace('_', '')} }};" for name in ("STEPS", "CODES") if name in constants]
+    lines += [f"enum {{ {name} = {constants[name].replace('_', '')} }};" for name in ("STEPS", "CODES")
+        if name in constants]
     lines += [f"HOLDS({name} == {number});" for name, number in ours]
     lines += [f"HOLDS(LBK_LAYOUT == {constants['LAYOUT']});"]
     shared = {name: fields for name, fields in structs.items() if is_in_header(name)}
     for name, fields in shared.items():
         lines += layout(name, fields, structs)
-    tally.tell("numbers and types are found", None if len(ours) > 50 and len(shared) > 10 else f"{len(ours)}, {len(shared)}")
+    tally.tell("numbers and types are found", None if len(ours) > 50 and len(shared) > 10
+        else f"{len(ours)}, {len(shared)}")
     with tempfile.TemporaryDirectory() as room:
         for compiler, ending in (("cc", "c"), ("c++", "cc")):
             source = Path(room) / f"holds.{ending}"

@@ -43,7 +43,8 @@ def drawn(letters):
         state = state * 6364136223846793005 + 1442695040888963407 & (1 << 64) - 1
         word = [letters[state >> k & 15] for k in range(12, 60, 4)]
         text += word[: 2 + (state >> 60) // 2]
-        text += (" ", " ", " ", " ", ", ", " ", " (", ") ", ". ", " ", ".\n", "-", " 17 ", "\u2019", " ", "; ")[state >> 8 & 15]
+        text += (" ", " ", " ", " ", ", ", " ", " (", ") ", ". ", " ", ".\n", "-", " 17 ", "\u2019", " ",
+            "; ")[state >> 8 & 15]
     return "".join(text)
 
 
@@ -71,7 +72,8 @@ def of_calls(room, words, of_all, calls, files):
         path.write_bytes(text)
         paths[str(path)] = name
     out = room / "dump"
-    ran = run_program(["valgrind", "--tool=callgrind", f"--callgrind-out-file={out}", *dumps, program, calls, *files, *paths])
+    ran = run_program(["valgrind", "--tool=callgrind", f"--callgrind-out-file={out}", *dumps, program, calls, *files,
+        *paths])
     rows = re.findall(r"^(\S+) (\S+) [0-9.]+$", ran.out.decode(), re.M)
     if ran.status != 0 or not rows:
         raise CannotRun(f"the calls ended with status {ran.status}: {ran.err[-300:]!r}")
@@ -126,12 +128,14 @@ def run(tally, arguments):
         if arguments == ["--write"]:
             STORED.write_text("".join(f"{count} {name}\n" for name, count in found.items()), encoding="utf-8")
         stored = {name: int(count) for count, name in (line.split(" ", 1) for line in STORED.read_text().splitlines())}
-        tally.tell("a count is stored for each row, and for no other", None if stored.keys() == found.keys() else "store them: --write")
+        tally.tell("a count is stored for each row, and for no other", None if stored.keys() == found.keys()
+            else "store them: --write")
         for name, count in found.items():
             said = f"{name}: {count} instructions, {count / stored.get(name, 1):.3f} times those stored"
             tally.tell(said, None if count <= ROOM * stored.get(name, 0) else "more work than before")
         program = room / "instructions"
         for call in CUTS:
             short, long = (counted([program, call, str(size), *files], call) for size in (SHORT, LONG))
-            tally.tell(f"{call}: {long} instructions in 1 GB, {short} in 256 KiB", None if long <= ROOM * short else "it reads more")
+            tally.tell(f"{call}: {long} instructions in 1 GB, {short} in 256 KiB", None if long <= ROOM * short
+                else "it reads more")
         grows(tally, room, words, files)

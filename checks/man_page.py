@@ -43,14 +43,16 @@ def form(tally, page, helps):
             line = f'.SY "lbk {name}"\n'
             tally.tell(f"a synopsis of {name}", None if line in page else "docs/lbk.1 has none")
         wide = [line for line in text.split("\n") if len(line) > WIDTH]
-        tally.tell(f"the width of the help of lbk {name}".rstrip(), f"more than {WIDTH} columns: {wide[0]}" if wide else None)
+        tally.tell(f"the width of the help of lbk {name}".rstrip(), f"more than {WIDTH} columns: {wide[0]}" if wide
+            else None)
 
 
 def run(tally, _arguments):
     page = (TOP / "docs/lbk.1").read_text(encoding="utf-8").replace("\\-", "-")
     sections = dict(re.findall(r"^\.SH ([A-Z ]+)\n(.*?)(?=^\.SH |\Z)", page, re.M | re.S))
     page_subcommands = set(re.findall(r"^\.TP\n\.B (\w+)$", sections["COMMANDS"], re.M))
-    page_options = set(re.findall(r"--[a-z][a-z-]*", "\n".join(re.findall(r"^\.TP\n(\.B.*)$", sections["OPTIONS"], re.M))))
+    page_options = set(re.findall(r"--[a-z][a-z-]*",
+        "\n".join(re.findall(r"^\.TP\n(\.B.*)$", sections["OPTIONS"], re.M))))
     own = help_of()
     helps = {name: help_of(name) for name in sorted(subcommands(own) - {"help"})}
     form(tally, page, {"": own, **helps})

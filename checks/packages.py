@@ -22,11 +22,13 @@ def try_forged(tally, crate, file, room):
     try:
         forge(file)
         path = f"{room / 'kit/bin'}:{os.environ['PATH']}"
-        ran = subprocess.run([TOP / "scripts/packages"], env={**os.environ, "PATH": path}, capture_output=True, text=True, check=False)
+        ran = subprocess.run([TOP / "scripts/packages"], env={**os.environ, "PATH": path}, capture_output=True,
+            text=True, check=False)
     finally:
         shutil.copy2(kept, file)
     is_refused = ran.returncode == 1 and REFUSED in ran.stdout
-    tally.tell(f"{file.name} put into out/ by hand is refused", None if is_refused else ran.stdout[-500:] + ran.stderr[-500:])
+    tally.tell(f"{file.name} put into out/ by hand is refused", None if is_refused else ran.stdout[-500:]
+        + ran.stderr[-500:])
     fits = subprocess.run([TOP / "scripts/verdict-of", crate], capture_output=True, text=True, check=False)
     tally.equal(f"the proved {file.name} is taken again", (fits.returncode, fits.stdout), (0, ""))
 

@@ -109,7 +109,8 @@ def large_text(runs, folder, words):
         lines = ended.out.splitlines()
         marks = [word for line in lines for word in line.partition(b"\t")[0].split()]
         found = sum(re.fullmatch(rb"[0-9A-F]{4,6}", word) is not None for word in marks)
-        runs.tally.equal(f"show, profile {profile}: a line a passage, each scalar once", (len(lines), found), (passages, scalars))
+        runs.tally.equal(f"show, profile {profile}: a line a passage, each scalar once", (len(lines), found),
+            (passages, scalars))
 
 
 def with_flipped_bit(contents):
@@ -172,7 +173,8 @@ def cut_files(runs, words, show):
         contents = Path(words[2 * k + 1]).read_bytes()
         given = [*words[: 2 * k], option, own, *words[2 * k + 2 :]]
         for what, bytes_of, err in [
-            ("lacks its last line", contents[: contents.rindex(b"\n", 0, -1)], f"^lbk: {own}: warning: the file was truncated: "),
+            ("lacks its last line", contents[: contents.rindex(b"\n", 0, -1)],
+                f"^lbk: {own}: warning: the file was truncated: "),
             ("has more line ends", contents + b"\r\n\n", ""),
             ("lacks its first and its last line", contents[contents.index(b"\n") : contents.rindex(b"\n", 0, -1)], ""),
         ]:

@@ -35,7 +35,8 @@ class Shown:
 
     def ran(self, text):
         """What a shell writes that runs this in the folder of the repository."""
-        return run_program(["bash", "-c", text], cwd=TOP, env=self.environment).out.decode(errors="replace").rstrip("\n")
+        return run_program(["bash", "-c", text], cwd=TOP,
+            env=self.environment).out.decode(errors="replace").rstrip("\n")
 
     def command(self, command, lines):
         if command.startswith(NOT_RUN):

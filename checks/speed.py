@@ -147,13 +147,15 @@ def starts(tally):
         tally.leave_out(MISSING)
         return
     program, files = str(built_program()), [str(folder / it) for it in NAMES]
-    runs = {"md5sum": ["md5sum", *files], "a folder": [program, "mark", "--ucd", str(folder)], "four files": [program, "mark", *options(files)]}
+    runs = {"md5sum": ["md5sum", *files], "a folder": [program, "mark", "--ucd", str(folder)],
+        "four files": [program, "mark", *options(files)]}
     took = {name: float("inf") for name in runs}
     for _ in range(STARTS):
         took = {name: min(took[name], started(words)) for name, words in runs.items()}
     for name, most in (("a folder", MOST_OF_FOLDER), ("four files", MOST_OF_FILES)):
         ratio = took[name] / took["md5sum"]
-        tally.tell(f"start by {name}: {ratio:.1f} times md5sum, at most {most}", None if ratio <= most else "it is slower")
+        tally.tell(f"start by {name}: {ratio:.1f} times md5sum, at most {most}", None if ratio <= most
+            else "it is slower")
 
 
 def layers(tally, of_all):

@@ -64,7 +64,8 @@ class Repository:
 
     def run(self, command, *words):
         """The status, and what was written to standard output and to standard error."""
-        how = {"capture_output": True, "text": True, "cwd": self.top, "env": {**os.environ, "PATH": self.path, "RT_JOBS": "2"}}
+        how = {"capture_output": True, "text": True, "cwd": self.top,
+            "env": {**os.environ, "PATH": self.path, "RT_JOBS": "2"}}
         ran = subprocess.run([command, *words], check=False, stdin=subprocess.DEVNULL, **how)
         return ran.returncode, ran.stdout.strip(), ran.stderr.strip()
 
@@ -114,7 +115,8 @@ def try_changes(tally, here):
     source, verdict = here.top / "crates/low/src/lib.rt", here.top / "crates/shown/out/verdict"
     later = time.time() + 3600
     os.utime(source, (later, later))
-    tally.equal("a source with another time and the same contents changes nothing", here.told("low", "lbk", "shown"), (0, ""))
+    tally.equal("a source with another time and the same contents changes nothing", here.told("low", "lbk", "shown"),
+        (0, ""))
     text, kept = source.read_bytes(), verdict.read_text(encoding="utf-8")
     source.write_bytes(text.replace(b"x\n", b"x \n"))
     wanted = 1, "the sources of low have changed since lbk was proved"
@@ -239,7 +241,8 @@ def try_without_proof(tally, here, room):
     here.path = f"{failing_kit(room)}:{here.path}"
     forge(here.program)
     status, said = here.prove("lbk")
-    tally.equal("where no proof is to be had, no program is left", (status, here.program.exists()), (FAILED_PROOF, False))
+    tally.equal("where no proof is to be had, no program is left", (status, here.program.exists()),
+        (FAILED_PROOF, False))
     tally.tell("it says of which crate", None if "is not proved, as the lines above say" in said else said)
 
 

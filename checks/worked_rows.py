@@ -45,9 +45,11 @@ ROWS = [
     ("mark", "--limit 6", "a\nabcdefg", "a\n", too_long(2, 6), 1),
     ("show", "--limit 4", "abc\r\n", "", too_long(0, 4), 1),
     ("chunk", "--most 4", "ab cd", "C 0 3 1 May 18\nC 3 5 1 Must 3\n", "", 0),
-    ("chunk", "--most 4 --words 1 --least 2 --overlap 2 --profile 2 --limit 5", "ab\ncd", "C 0 3 1 Must 5\nC 3 5 1 Must 3\n", "", 0),
+    ("chunk", "--most 4 --words 1 --least 2 --overlap 2 --profile 2 --limit 5", "ab\ncd",
+        "C 0 3 1 Must 5\nC 3 5 1 Must 3\n", "", 0),
     ("chunk", "--most 4", "", "", "", 0),
-    ("chunk", "--most 4 --text", "a\\\"\r\nä", '{"start":0,"end":5,"words":1,"text":"a\\\\\\"\\r\\n"}\n{"start":5,"end":7,"words":0,"text":"ä"}\n', "", 0),
+    ("chunk", "--most 4 --text", "a\\\"\r\nä",
+        '{"start":0,"end":5,"words":1,"text":"a\\\\\\"\\r\\n"}\n{"start":5,"end":7,"words":0,"text":"ä"}\n', "", 0),
     ("chunk", "--most 4 --text --profile 2", "", "", "", 0),
     ("chunk", "--most 1 --limit 4", "a\nbcdef", "", too_long(2, 4), 1),
     ("chunk", "--most 2 --limit 4", "a b\nbcdef", "C 0 2 1 May 18\n", too_long(4, 4), 1),
@@ -79,7 +81,8 @@ OPERANDS = [
     # A chunk that begins in a range is written, and all of the text is read.
     ("chunk", "--most 3 one two", "C 0 3 2 Must 3\nC 0 3 1 Must 3\n", "", 0),
     ("chunk", "--most 2 --from 1 --to 2 --names one", "==> one <==\n", "", 0),
-    ("chunk", "--most 2 --to 4 lines two", "C 0 2 1 May 18\nC 2 4 1 Must 5\nC 0 3 1 Must 3\n", ILL_FORMED.format("lines", 9), 1),
+    ("chunk", "--most 2 --to 4 lines two", "C 0 2 1 May 18\nC 2 4 1 Must 5\nC 0 3 1 Must 3\n",
+        ILL_FORMED.format("lines", 9), 1),
     ("replay", "tests tests", "D 1 1 ÷ × 28\nT 1 0 1 0\nD 1 1 ÷ × 28\nT 1 0 1 0\n", "", 3),
     ("replay", "tests none", "D 1 1 ÷ × 28\nT 1 0 1 0\n", MISSING.format("none"), 1),
 ]

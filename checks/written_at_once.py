@@ -21,7 +21,8 @@ LIMIT = 16_777_216
 GREATEST = b"a" * (LIMIT - 1) + b"\n"
 
 # What is sent in turn, and how many lines it makes known.
-PARAGRAPHS = [(b"ab\nc", 1), (b"d\ne", 1), (b"f g\nh", 1), (b"\n" + LONG + b"i", 2), (b"\n" + GREATEST + b"k", 2), (b"\nj", 1)]
+PARAGRAPHS = [(b"ab\nc", 1), (b"d\ne", 1), (b"f g\nh", 1), (b"\n" + LONG + b"i", 2), (b"\n" + GREATEST + b"k", 2),
+    (b"\nj", 1)]
 TASKS = {
     "": PARAGRAPHS[:3],
     "mark": PARAGRAPHS,
@@ -65,7 +66,8 @@ def lines_of(out, count, seen):
 
 
 def one_task(tally, name, steps, words):
-    program = subprocess.Popen(words, stdin=subprocess.PIPE, stdout=subprocess.PIPE, stderr=subprocess.DEVNULL, bufsize=0)
+    program = subprocess.Popen(words, stdin=subprocess.PIPE, stdout=subprocess.PIPE, stderr=subprocess.DEVNULL,
+        bufsize=0)
     seen = bytearray()
     for number, (part, count) in enumerate(steps, 1):
         program.stdin.write(part)
@@ -88,7 +90,8 @@ def one_task(tally, name, steps, words):
 
 def passed(tally, task, words):
     """A run ends once the scalar after its range was seen, while its input goes on."""
-    with subprocess.Popen(words, stdin=subprocess.PIPE, stdout=subprocess.PIPE, stderr=subprocess.DEVNULL, bufsize=0) as program:
+    with subprocess.Popen(words, stdin=subprocess.PIPE, stdout=subprocess.PIPE, stderr=subprocess.DEVNULL,
+        bufsize=0) as program:
         program.stdin.write(b"ab\ncd\ne")
         try:
             status = program.wait(WAIT)

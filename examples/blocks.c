@@ -59,7 +59,8 @@ static int agrees(const char *made, size_t size, const size_t *rooms, size_t cou
         if (turns)
             fill_random(text, state->at);
     } while (came == room);
-    return got == all->count && state->at == size && lbk_words(state, text, size, place(blocks, sizeof(lbk_word)), 1) == 0;
+    return got == all->count && state->at == size && lbk_words(state, text, size, place(blocks, sizeof(lbk_word)),
+        1) == 0;
 }
 
 /* From where a state stands on, the text is one of its own: its words are those that were left. */
@@ -91,9 +92,12 @@ static void try_all_rooms(const char *text, size_t size)
 /* Texts for the end of a block: words that a rule keeps together over two scalars, marks, flags, and cut scalars. */
 static void try_short_texts(void)
 {
-    static const char *const short_texts[] = {"", "a", " ", "a b\r\nc", "can't stop", "3.5, 4,000.1 x", "a.b.c a..b", "e\xCC\x81\xCC\x81" "e f",
-        "a_b __ c", "\xF0\x9F\x87\xA6\xF0\x9F\x87\xA6\xF0\x9F\x87\xA6 a", "\xD7\x90\"\xD7\x90\" '\xD7\x90'", "a\xE2\x80\x8D" "b \xE2\x80\x8D c",
-        "\xE3\x82\xAB\xE3\x82\xBF\xE4\xB8\x80\xE4\xB8\x80 1", "a\xFF" "b\xE4\xB8 c\xF0\x9F", "\xC2 a'\xC2" "b'c \xED\xA0\x80" "d"};
+    static const char *const short_texts[] = {"", "a", " ", "a b\r\nc", "can't stop", "3.5, 4,000.1 x", "a.b.c a..b",
+        "e\xCC\x81\xCC\x81" "e f",
+        "a_b __ c", "\xF0\x9F\x87\xA6\xF0\x9F\x87\xA6\xF0\x9F\x87\xA6 a", "\xD7\x90\"\xD7\x90\" '\xD7\x90'",
+        "a\xE2\x80\x8D" "b \xE2\x80\x8D c",
+        "\xE3\x82\xAB\xE3\x82\xBF\xE4\xB8\x80\xE4\xB8\x80 1", "a\xFF" "b\xE4\xB8 c\xF0\x9F",
+        "\xC2 a'\xC2" "b'c \xED\xA0\x80" "d"};
     for (size_t k = 0; k < sizeof short_texts / sizeof *short_texts; k++)
         try_all_rooms(short_texts[k], strlen(short_texts[k]));
     try_all_rooms("a\0b'\0c", 6);

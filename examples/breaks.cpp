@@ -24,7 +24,8 @@ static void write_segments(const lbk::table &table, std::string_view text, lbk::
     static const char *const kinds[] = {"No", "May", "Must"};
     std::size_t start = 0;
     for (lbk_break found : lbk::breaks(table, text, rules)) {
-        std::cout << "S " << start << ' ' << found.at << ' ' << kinds[found.kind] << ' ' << lbk::label(found.rule) << '\n';
+        std::cout << "S " << start << ' ' << found.at << ' ' << kinds[found.kind] << ' ' << lbk::label(found.rule)
+            << '\n';
         start = found.at;
     }
 }

@@ -130,13 +130,15 @@ static void try_random_text(void)
     size_t size = random_text(made);
     char *text = place(texts, size);
     memcpy(text, made, size);
-    told("random bytes have the chunks of the definition", has_its_chunks(text, size, (uint8_t)below(2), random_limits()));
+    told("random bytes have the chunks of the definition",
+        has_its_chunks(text, size, (uint8_t)below(2), random_limits()));
 }
 
 /* Limits that are out of range give no chunk. */
 static void try_bad_limits(void)
 {
-    static const lbk_limits bad[] = {{0, 0, 0, 0}, {5, 0, 6, 0}, {5, 0, 0, 3}, {1, 0, 0, 1}, {SIZE_MAX, 0, 0, SIZE_MAX}};
+    static const lbk_limits bad[] = {{0, 0, 0, 0}, {5, 0, 6, 0}, {5, 0, 0, 3}, {1, 0, 0, 1},
+        {SIZE_MAX, 0, 0, SIZE_MAX}};
     for (size_t k = 0; k < sizeof bad / sizeof *bad; k++) {
         lbk_chunk_state state = {0};
         lbk_chunk block[4];
@@ -179,8 +181,8 @@ static void try_any_table(const lbk_table *any)
     memcpy(text, made, size);
     fill_random(state, sizeof *state);
     if (below(8) != 0) {
-        *state = (lbk_chunk_state){.breaks = {.at = below(size + 2), .row = (uint16_t)below(65536), .profile = (uint8_t)below(4)},
-            .from = below(size + 2), .start = below(size + 2), .told = below(size + 2)};
+        *state = (lbk_chunk_state){.breaks = {.at = below(size + 2), .row = (uint16_t)below(65536),
+            .profile = (uint8_t)below(4)}, .from = below(size + 2), .start = below(size + 2), .told = below(size + 2)};
     }
     old = *state;
     size_t count = lbk_chunks(any, &limits, state, text, size, block, room), from = old.told;
@@ -195,7 +197,8 @@ static void try_any_table(const lbk_table *any)
 
 static void try_file(const char *name)
 {
-    static const lbk_limits some[] = {{500, 0, 250, 0}, {500, 0, 250, 100}, {2000, 0, 1000, 0}, {SIZE_MAX, 100, 0, 200}, {1, 0, 0, 0}};
+    static const lbk_limits some[] = {{500, 0, 250, 0}, {500, 0, 250, 100}, {2000, 0, 1000, 0}, {SIZE_MAX, 100, 0, 200},
+        {1, 0, 0, 0}};
     bytes text = load(name);
     size_t size = text.size < 20000 ? text.size : 20000;
     for (uint8_t profile = 0; profile < 2; profile++)

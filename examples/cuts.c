@@ -98,7 +98,8 @@ static void try_text(const lbk_table *table, unsigned profile, const char *text,
     }
     for (unsigned times = 0; times < 2; times++) {
         size_t past = times == 0 ? size + 1 + below(9) : SIZE_MAX - below(2);
-        told("past the end", lbk_cut(table, text, size, past) == size && lbk_cut_before(table, text, size, past) == size);
+        told("past the end", lbk_cut(table, text, size, past) == size && lbk_cut_before(table, text, size,
+            past) == size);
     }
 }
 

@@ -22,7 +22,8 @@ static void told(const char *what, int holds)
 }
 
 /* Small files: a and b are letters, U+FFFD is an ideograph, with a break on either side. */
-static const char LINE_BREAKS[] = "000A;LF\n000D;CR\n0020;SP\n0022;QU\n0028;OP\n0061..0062;AL\n0085;NL\n00AB;QU\n00BB;QU\n0301;CM\n2029;BK\n"
+static const char LINE_BREAKS[] =
+    "000A;LF\n000D;CR\n0020;SP\n0022;QU\n0028;OP\n0061..0062;AL\n0085;NL\n00AB;QU\n00BB;QU\n0301;CM\n2029;BK\n"
                                   "4E00;ID\n1F600;ID\nFFFD;ID\n";
 static const char CATEGORIES[] = "00AB;Pi\n00BB;Pf\n0301;Mn\n";
 
@@ -58,7 +59,8 @@ static void try_nothing(void)
     lbk_state state = {0}, start = {0};
     lbk_break block[1];
     lbk_fault fault = lbk_read(&before, NULL, 0, NULL, 0, NULL, 0, NULL, 0);
-    told("four empty files have no fault", fault.cause == LBK_CAUSE_NONE && fault.file == LBK_NO_FILE && fault.line == 0);
+    told("four empty files have no fault", fault.cause == LBK_CAUSE_NONE && fault.file == LBK_NO_FILE
+        && fault.line == 0);
     told("the table of four empty files is whole", lbk_check(&before));
     told("an empty text has no break", lbk_breaks(&table, &state, NULL, 0, block, 1) == 0);
     state = start;
@@ -97,7 +99,8 @@ static void try_rooms(void)
     for (size_t k = 0; k < all; k++) {
         lbk_state back = state;
         size_t count = lbk_breaks(&table, &state, text, size, &one, 1);
-        told("room for one: the next break", count == 1 && one.at == whole[k].at && one.kind == whole[k].kind && one.rule == whole[k].rule);
+        told("room for one: the next break", count == 1 && one.at == whole[k].at && one.kind == whole[k].kind
+            && one.rule == whole[k].rule);
         count = lbk_breaks(&table, &back, text, size, &one, 1);
         told("a copy of a state answers the same", count == 1 && one.at == whole[k].at && same(back, state));
     }
@@ -151,7 +154,8 @@ static int ends_part(const char *part, size_t size, uint8_t rule)
     size_t count = lbk_breaks(&table, &state, part, size, block, ROOM);
     if (rule == 0)
         return count == 0 || block[count - 1].at < size;
-    return count > 0 && block[count - 1].at == size && block[count - 1].kind == LBK_MUST && block[count - 1].rule == rule;
+    return count > 0 && block[count - 1].at == size && block[count - 1].kind == LBK_MUST
+        && block[count - 1].rule == rule;
 }
 
 static void try_parts(void)
@@ -165,15 +169,19 @@ static void try_parts(void)
     told("a part ends at NEL", ends_part("a\xC2\x85", 3, LBK_RULE_5));
     told("a part ends at PS", ends_part("a\xE2\x80\xA9", 4, LBK_RULE_4));
     lbk_state state = {2, 0, LBK_FIRST, 0};
-    told("a part from a byte on: places from the text's start", lbk_breaks(&table, &state, "\nab", 3, &one, 1) == 1 && one.at == 3);
+    told("a part from a byte on: places from the text's start", lbk_breaks(&table, &state, "\nab", 3, &one, 1) == 1
+        && one.at == 3);
     state = (lbk_state){3, 0, LBK_FIRST, 0};
     told("an empty part at the text's end has no break", lbk_breaks(&table, &state, "\nab", 3, &one, 1) == 0);
     state = (lbk_state){0, 0, LBK_FIRST + LBK_GOES_ON, 0};
-    told("a block that is full at a part's last scalar", lbk_breaks(&table, &state, "a \n", 3, &one, 1) == 1 && one.at == 3);
+    told("a block that is full at a part's last scalar", lbk_breaks(&table, &state, "a \n", 3, &one, 1) == 1
+        && one.at == 3);
     told("nothing is left then", lbk_breaks(&table, &state, "a \n", 3, &one, 1) == 0);
     state = (lbk_state){0, 0, LBK_FIRST + LBK_GOES_ON, 0};
-    told("a block that is full before a part's last scalar", lbk_breaks(&table, &state, "a\n\n", 3, &one, 1) == 1 && one.at == 2);
-    told("the end is left", lbk_breaks(&table, &state, "a\n\n", 3, &one, 1) == 1 && one.at == 3 && one.rule == LBK_RULE_5);
+    told("a block that is full before a part's last scalar", lbk_breaks(&table, &state, "a\n\n", 3, &one, 1) == 1
+        && one.at == 2);
+    told("the end is left", lbk_breaks(&table, &state, "a\n\n", 3, &one, 1) == 1 && one.at == 3
+        && one.rule == LBK_RULE_5);
 }
 
 /* Whether the segments of a text, taken with so much room, are those between its breaks. */
@@ -188,7 +196,8 @@ static int has_segments(const char *text, size_t size, uint8_t profile, size_t r
     do {
         count = lbk_segments(&table, &of_segments, text, size, block, room);
         for (size_t k = 0; k < count; start = block[k++].end, from++)
-            if (from >= all || block[k].start != start || block[k].end != breaks[from].at || block[k].kind != breaks[from].kind
+            if (from >= all || block[k].start != start || block[k].end != breaks[from].at
+                || block[k].kind != breaks[from].kind
                 || block[k].rule != breaks[from].rule)
                 return 0;
     } while (count == room);
@@ -219,10 +228,12 @@ static void try_safe_breaks(void)
     } rows[] = {{"ab c d", 5}, {"ab\ncd", 3}, {"ab\n", 0}, {"ab", 0}, {"", 0}, {"a\nb c", 4}};
     size_t safe;
     for (size_t k = 0; k < sizeof rows / sizeof rows[0]; k++)
-        told("a safe break", has_safe_break(rows[k].text, strlen(rows[k].text), LBK_FIRST, &safe) && safe == rows[k].safe);
+        told("a safe break", has_safe_break(rows[k].text, strlen(rows[k].text), LBK_FIRST, &safe)
+            && safe == rows[k].safe);
     for (uint8_t profile = LBK_FIRST; profile <= LBK_SECOND; profile++)
         for (size_t size = 0; size < sizeof many; size++)
-            told("after a safe break the breaks are those of the text from there on", has_safe_break(many, size, profile, &safe));
+            told("after a safe break the breaks are those of the text from there on",
+                has_safe_break(many, size, profile, &safe));
     told("no text has no safe break", lbk_safe_break(&table, LBK_FIRST, NULL, 0) == 0);
 }
 
@@ -233,25 +244,31 @@ static void try_segments(void)
         many[k] = k % 2 == 0 ? 'a' : k % 10 == 1 ? '\n' : ' ';
     for (uint8_t profile = LBK_FIRST; profile <= LBK_SECOND + LBK_GOES_ON; profile++)
         for (size_t size = 0; size <= sizeof many; size += size < 12 ? 1 : 9)
-            for (size_t room = 1; room <= 3 * ROOM + 1; room += room < 3 ? 1 : room < ROOM - 1 ? ROOM - 1 - room : room < ROOM + 1 ? 1 : ROOM)
+            for (size_t room = 1; room <= 3 * ROOM + 1; room += room < 3 ? 1 : room < ROOM - 1 ? ROOM - 1 - room
+                : room < ROOM + 1 ? 1 : ROOM)
                 told("segments in blocks of any size", has_segments(many, size, profile, room));
     lbk_segment one;
     lbk_segment_state state = {.breaks = {.at = 2}, .start = 2}, old = state;
-    told("segments without room: 0", lbk_segments(&table, &state, "a\nb", 3, NULL, 0) == 0 && same(state.breaks, old.breaks) && state.start == 2);
-    told("a segment of a part", lbk_segments(&table, &state, "a\nb", 3, &one, 1) == 1 && one.start == 2 && one.end == 3 && one.rule == LBK_RULE_3);
+    told("segments without room: 0", lbk_segments(&table, &state, "a\nb", 3, NULL, 0) == 0
+        && same(state.breaks, old.breaks) && state.start == 2);
+    told("a segment of a part", lbk_segments(&table, &state, "a\nb", 3, &one, 1) == 1 && one.start == 2 && one.end == 3
+        && one.rule == LBK_RULE_3);
     told("no segment is left", lbk_segments(&table, &state, "a\nb", 3, &one, 1) == 0 && state.start == 3);
     state = (lbk_segment_state){.breaks = {.profile = 4}};
     told("segments of no profile: 0", lbk_segments(&table, &state, "a", 1, &one, 1) == 0 && state.start == 0);
     state = (lbk_segment_state){.breaks = {.at = 2}};
-    told("segments from a place past the text: 0", lbk_segments(&table, &state, "a", 1, &one, 1) == 0 && state.breaks.at == 2);
+    told("segments from a place past the text: 0", lbk_segments(&table, &state, "a", 1, &one, 1) == 0
+        && state.breaks.at == 2);
 }
 
 /* The examples of the Unicode Standard, section 3.9, tables 3-8 to 3-11, and what they leave out. */
 static void try_ill_formed(void)
 {
-    told("non-shortest forms", has_breaks(0, "\xC0\xAF\xE0\x80\xBF\xF0\x81\x82\x41", 9, PLACES(1, 2, 3, 4, 5, 6, 7, 8, 9)));
+    told("non-shortest forms", has_breaks(0, "\xC0\xAF\xE0\x80\xBF\xF0\x81\x82\x41", 9,
+        PLACES(1, 2, 3, 4, 5, 6, 7, 8, 9)));
     told("surrogates", has_breaks(0, "\xED\xA0\x80\xED\xBF\xBF\xED\xAF\x41", 9, PLACES(1, 2, 3, 4, 5, 6, 7, 8, 9)));
-    told("other ill-formed bytes", has_breaks(0, "\xF4\x91\x92\x93\xFF\x61\x80\xBF\x62", 9, PLACES(1, 2, 3, 4, 5, 6, 7, 8, 9)));
+    told("other ill-formed bytes", has_breaks(0, "\xF4\x91\x92\x93\xFF\x61\x80\xBF\x62", 9,
+        PLACES(1, 2, 3, 4, 5, 6, 7, 8, 9)));
     told("cut scalars", has_breaks(0, "\xE1\x80\xE2\xF0\x91\x92\xF1\xBF\x61", 9, PLACES(2, 3, 6, 8, 9)));
     told("a cut scalar of two bytes", has_breaks(0, "a\xC3", 2, PLACES(1, 2)));
     told("a cut scalar of three bytes, one there", has_breaks(0, "a\xE4", 2, PLACES(1, 2)));
@@ -288,7 +305,8 @@ static void try_faults(void)
     };
     for (size_t k = 0; k < sizeof rows / sizeof *rows; k++) {
         lbk_fault fault = read_lines(&read, rows[k].line_break, rows[k].category);
-        told("the first fault", fault.file == rows[k].file && fault.line == rows[k].line && fault.cause == rows[k].cause);
+        told("the first fault", fault.file == rows[k].file && fault.line == rows[k].line
+            && fault.cause == rows[k].cause);
         told("at a fault the table is as it was", memcmp(&read, &before, sizeof read) == 0);
     }
 }
@@ -312,7 +330,8 @@ static void try_sizes(void)
     fault = lbk_read(&read, NULL, 0, file, most, NULL, 0, NULL, 0);
     told("the greatest number of rows", fault.cause == LBK_CAUSE_NONE);
     fault = lbk_read(&read, NULL, 0, file, size, NULL, 0, NULL, 0);
-    told("a row past it", fault.file == LBK_EAST_ASIAN && fault.line == MOST_ROWS + 1 && fault.cause == LBK_CAUSE_TOO_MANY_ROWS);
+    told("a row past it", fault.file == LBK_EAST_ASIAN && fault.line == MOST_ROWS + 1
+        && fault.cause == LBK_CAUSE_TOO_MANY_ROWS);
 }
 
 static void try_tables(void)
@@ -322,7 +341,8 @@ static void try_tables(void)
     told("a table that was read is whole", lbk_check(&table));
     told("its layout is the header's", table.layout == LBK_LAYOUT);
     told("a copy is whole", lbk_check(&copy));
-    told("a table can be read again", read_lines(&copy, LINE_BREAKS, CATEGORIES).cause == LBK_CAUSE_NONE && memcmp(&copy, &table, sizeof table) == 0);
+    told("a table can be read again", read_lines(&copy, LINE_BREAKS, CATEGORIES).cause == LBK_CAUSE_NONE
+        && memcmp(&copy, &table, sizeof table) == 0);
     unsigned char *bytes = (unsigned char *)&copy;
     size_t wrong = 0;
     for (size_t k = 0; k < sizeof copy; k += k < 4096 ? 1 : 40009) {
@@ -345,8 +365,10 @@ static void try_labels(void)
         [LBK_RULE_2] = "2", [LBK_RULE_3] = "3", [LBK_RULE_4] = "4", [LBK_RULE_5] = "5", [LBK_RULE_6] = "6",
         [LBK_RULE_7] = "7", [LBK_RULE_8] = "8", [LBK_RULE_8A] = "8a", [LBK_RULE_9] = "9", [LBK_RULE_11] = "11",
         [LBK_RULE_12] = "12", [LBK_RULE_12A] = "12a", [LBK_RULE_13] = "13", [LBK_RULE_14] = "14", [LBK_RULE_15] = "15",
-        [LBK_RULE_15A] = "15a", [LBK_RULE_15B] = "15b", [LBK_RULE_16] = "16", [LBK_RULE_17] = "17", [LBK_RULE_18] = "18",
-        [LBK_RULE_19] = "19", [LBK_RULE_20] = "20", [LBK_RULE_21] = "21", [LBK_RULE_21A] = "21a", [LBK_RULE_21B] = "21b",
+        [LBK_RULE_15A] = "15a", [LBK_RULE_15B] = "15b", [LBK_RULE_16] = "16", [LBK_RULE_17] = "17",
+        [LBK_RULE_18] = "18",
+        [LBK_RULE_19] = "19", [LBK_RULE_20] = "20", [LBK_RULE_21] = "21", [LBK_RULE_21A] = "21a",
+        [LBK_RULE_21B] = "21b",
         [LBK_RULE_22] = "22", [LBK_RULE_23] = "23", [LBK_RULE_23A] = "23a", [LBK_RULE_24] = "24", [LBK_RULE_25] = "25",
         [LBK_RULE_26] = "26", [LBK_RULE_27] = "27", [LBK_RULE_28] = "28", [LBK_RULE_29] = "29", [LBK_RULE_30] = "30",
         [LBK_RULE_30A] = "30a", [LBK_RULE_30B] = "30b", [LBK_RULE_31] = "31"
@@ -376,7 +398,8 @@ static int is_refused(const char *packed, size_t size, uint32_t cause)
     static lbk_table other;
     other = table;
     const uint32_t found = lbk_unpack(&other, packed, size);
-    return found == cause && (cause == LBK_CAUSE_DAMAGED ? !lbk_check(&other) : memcmp(&other, &table, sizeof table) == 0);
+    return found == cause && (cause == LBK_CAUSE_DAMAGED ? !lbk_check(&other) : memcmp(&other, &table, sizeof table)
+        == 0);
 }
 
 static void try_packing(void)
@@ -384,24 +407,29 @@ static void try_packing(void)
     static lbk_table unpacked;
     static char packed[1 << 16], again[1 << 16];
     const size_t size = lbk_pack(&table, packed, sizeof packed);
-    told("a table is packed into few bytes", size > 12 && size < sizeof packed && memcmp(packed, "lbk", 3) == 0 && packed[3] == LBK_LAYOUT);
-    told("what is packed is unpacked", lbk_unpack(&unpacked, packed, size) == LBK_CAUSE_NONE && memcmp(&unpacked, &table, sizeof table) == 0);
+    told("a table is packed into few bytes", size > 12 && size < sizeof packed && memcmp(packed, "lbk", 3) == 0
+        && packed[3] == LBK_LAYOUT);
+    told("what is packed is unpacked", lbk_unpack(&unpacked, packed, size) == LBK_CAUSE_NONE
+        && memcmp(&unpacked, &table, sizeof table) == 0);
     memset(again, 1, sizeof again);
     told("without room: the size", lbk_pack(&table, NULL, 0) == size && lbk_pack(&table, again, size - 1) == size);
     told("without room nothing is written", again[0] == 1 && memchr(again, packed[0], size) == NULL);
-    told("just enough room", lbk_pack(&table, again, size) == size && memcmp(packed, again, size) == 0 && again[size] == 1);
+    told("just enough room", lbk_pack(&table, again, size) == size && memcmp(packed, again, size) == 0
+        && again[size] == 1);
     for (size_t cut = 0; cut < size; cut += cut < 16 ? 1 : 977)
         told("packed bytes that were cut", is_refused(packed, cut, cut < 4 ? LBK_CAUSE_NOT_PACKED : LBK_CAUSE_DAMAGED));
     for (size_t at = 0; at < size; at += at < 16 ? 1 : 977) {
         packed[at] ^= 1;
         told("packed bytes that were changed",
-             is_refused(packed, size, at < 3 ? LBK_CAUSE_NOT_PACKED : at == 3 ? LBK_CAUSE_OTHER_LAYOUT : LBK_CAUSE_DAMAGED));
+             is_refused(packed, size, at < 3 ? LBK_CAUSE_NOT_PACKED : at == 3 ? LBK_CAUSE_OTHER_LAYOUT
+                 : LBK_CAUSE_DAMAGED));
         packed[at] ^= 1;
     }
     told("more than the packed bytes", is_refused(packed, size + 1, LBK_CAUSE_DAMAGED));
     told("a table is no packed table", is_refused((const char *)&table, sizeof table, LBK_CAUSE_NOT_PACKED));
     unpacked.kinds[65] ^= 1;
-    told("a corrupt table is not packed", lbk_pack(&unpacked, again, sizeof again) == 0 && memcmp(packed, again, size) == 0);
+    told("a corrupt table is not packed", lbk_pack(&unpacked, again, sizeof again) == 0
+        && memcmp(packed, again, size) == 0);
 }
 
 static void try_classes(void)
@@ -410,8 +438,8 @@ static void try_classes(void)
         uint32_t scalar;
         const char *name;
     } rows[] = {
-        {'a', "AL"}, {' ', "SP"}, {'\n', "LF"}, {'"', "QU"}, {'(', "OP"}, {0x0301, "CM"}, {0x4E00, "ID"}, {0x1F600, "ID"},
-        {0x10FFFF, "AL"}, {0xD800, ""}, {0xDFFF, ""}, {0x110000, ""}, {UINT32_MAX, ""},
+        {'a', "AL"}, {' ', "SP"}, {'\n', "LF"}, {'"', "QU"}, {'(', "OP"}, {0x0301, "CM"}, {0x4E00, "ID"},
+        {0x1F600, "ID"}, {0x10FFFF, "AL"}, {0xD800, ""}, {0xDFFF, ""}, {0x110000, ""}, {UINT32_MAX, ""},
     };
     for (size_t k = 0; k < sizeof rows / sizeof rows[0]; k++) {
         lbk_class_label label = lbk_class(&table, rows[k].scalar), wanted = {{0}};
@@ -447,10 +475,12 @@ static void try_words(void)
     }
     state.at = 0;
     for (size_t k = 0; k < 2; k++)
-        told("room for one word", lbk_words(&state, "a b", 3, &one, 1) == 1 && one.start == 2 * k && one.end == 2 * k + 1);
+        told("room for one word", lbk_words(&state, "a b", 3, &one, 1) == 1 && one.start == 2 * k && one.end == 2 * k
+            + 1);
     told("room for one word: no more", lbk_words(&state, "a b", 3, &one, 1) == 0);
     state.at = 1;
-    told("a text that is taken from a byte on", lbk_words(&state, "ab", 2, &one, 1) == 1 && one.start == 1 && one.end == 2);
+    told("a text that is taken from a byte on", lbk_words(&state, "ab", 2, &one, 1) == 1 && one.start == 1
+        && one.end == 2);
 
     told("words and no words", has_words("can't, 3.5 - \xE4\xB8\x80!", 17, WORDS(0, 5, 7, 10, 13, 16)));
     told("a mid letter without a letter behind it", has_words("a' b.", 5, WORDS(0, 1, 3, 4)));
@@ -481,10 +511,11 @@ static void try_cut_files(void)
         const char *file;
         bool is_cut;
     } rows[] = {
-        {"", false}, {"0061;AL\n", false}, {"# EOF", false}, {"# LineBreak-15.0.0.txt", true}, {"# LineBreak-15.0.0.txt\n# EOF", false},
+        {"", false}, {"0061;AL\n", false}, {"# EOF", false}, {"# LineBreak-15.0.0.txt", true},
+        {"# LineBreak-15.0.0.txt\n# EOF", false},
         {"# LineBreak-15.0.0.txt\r\n# EOF \r\n\n", false}, {"# LineBreak-15.0.0.txt\n# EOF\n0061;AL\n", true},
-        {"# EastAsianWidth-14.0.0.txt\n#EOF\n", false}, {"# DerivedGeneralCategory-15.0.0.txt\n# EO", true}, {"# emoji-data.txt\n # EOF", true},
-        {"# Linebreak-15.0.0.txt\n", false}, {"\n# LineBreak-15.0.0.txt\n", false},
+        {"# EastAsianWidth-14.0.0.txt\n#EOF\n", false}, {"# DerivedGeneralCategory-15.0.0.txt\n# EO", true},
+        {"# emoji-data.txt\n # EOF", true}, {"# Linebreak-15.0.0.txt\n", false}, {"\n# LineBreak-15.0.0.txt\n", false},
     };
     for (size_t k = 0; k < sizeof rows / sizeof rows[0]; k++)
         told("a file was cut, or not", lbk_is_cut(rows[k].file, strlen(rows[k].file)) == rows[k].is_cut);
@@ -504,21 +535,25 @@ static void try_claims(void)
         {LBK_EMOJI, "# emoji-data-15.0\n", "this is not emoji-data.txt of the Unicode Character Database"},
         {LBK_CATEGORY, "# DerivedGeneralCategory-15.0.0.txt\n",
          "the file was changed or truncated: it differs from Unicode 15.0.0's DerivedGeneralCategory.txt"},
-        {LBK_CATEGORY, "# LineBreak-14.0.0.txt\n", "this is not DerivedGeneralCategory.txt of the Unicode Character Database"},
-        {LBK_LINE_BREAK, "# LineBreak-4294967295.4294967295.4294967295", "this is Unicode 4294967295.4294967295.4294967295, and lbk needs 15.0.0"},
+        {LBK_CATEGORY, "# LineBreak-14.0.0.txt\n",
+            "this is not DerivedGeneralCategory.txt of the Unicode Character Database"},
+        {LBK_LINE_BREAK, "# LineBreak-4294967295.4294967295.4294967295",
+            "this is Unicode 4294967295.4294967295.4294967295, and lbk needs 15.0.0"},
         {LBK_LINE_BREAK, "# LineBreak-4294967296.0", "this is not LineBreak.txt of the Unicode Character Database"},
         {LBK_LINE_BREAK, "", "this is not LineBreak.txt of the Unicode Character Database"},
         {LBK_NO_FILE, "# LineBreak-14.0.0.txt\n", ""}, {5, "# LineBreak-14.0.0.txt\n", ""},
     };
     for (size_t k = 0; k < sizeof rows / sizeof rows[0]; k++)
-        told("what a file claims", is_text(lbk_claim_text(rows[k].file, rows[k].contents, strlen(rows[k].contents)), rows[k].says));
-    told("where the files are", strstr(lbk_remedy_text().text, "15.0.0/ucd/UCD.zip") != NULL && lbk_remedy_text().text[95] == 0);
+        told("what a file claims", is_text(lbk_claim_text(rows[k].file, rows[k].contents, strlen(rows[k].contents)),
+            rows[k].says));
+    told("where the files are", strstr(lbk_remedy_text().text, "15.0.0/ucd/UCD.zip") != NULL
+        && lbk_remedy_text().text[95] == 0);
 }
 
 static void try_texts(void)
 {
-    static const char *const names[] = {"the four files", "LineBreak.txt", "EastAsianWidth.txt", "DerivedGeneralCategory.txt",
-                                        "emoji-data.txt"};
+    static const char *const names[] = {"the four files", "LineBreak.txt", "EastAsianWidth.txt",
+        "DerivedGeneralCategory.txt", "emoji-data.txt"};
     told("the version", is_text(lbk_version(), LBK_VERSION));
     for (uint32_t k = 0; k < 5; k++)
         told("the name of a file", is_text(lbk_file_name(k), names[k]));

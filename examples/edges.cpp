@@ -49,7 +49,8 @@ static_assert(std::is_constructible_v<lbk::positions_utf16, lbk::table &, std::u
 static_assert(!std::is_constructible_v<lbk::positions_utf32, lbk::table &, std::u32string>);
 static_assert(std::is_constructible_v<lbk::words, std::string &> && !std::is_constructible_v<lbk::words, std::string>);
 static_assert(std::is_constructible_v<lbk::stream, lbk::table &> && !std::is_constructible_v<lbk::stream, lbk::table>);
-static_assert(!std::is_constructible_v<lbk::stream_utf16, lbk::table> && std::is_trivially_copyable_v<lbk::stream_utf16>);
+static_assert(!std::is_constructible_v<lbk::stream_utf16,
+    lbk::table> && std::is_trivially_copyable_v<lbk::stream_utf16>);
 
 #if defined(__cpp_lib_ranges)
 static_assert(std::ranges::view<lbk::positions> && std::ranges::borrowed_range<lbk::positions>);
@@ -61,7 +62,8 @@ static_assert(std::ranges::forward_range<lbk::breaks> && std::ranges::common_ran
 static_assert(std::ranges::view<lbk::breaks> && std::ranges::borrowed_range<lbk::breaks>);
 #endif
 
-static std::vector<std::size_t> places(const lbk_table &table, std::string_view text, lbk::profile rules = lbk::profile::first)
+static std::vector<std::size_t> places(const lbk_table &table, std::string_view text,
+    lbk::profile rules = lbk::profile::first)
 {
     std::vector<std::size_t> found;
     for (lbk_break one : lbk::breaks(table, text, rules))
@@ -103,14 +105,20 @@ static void try_ranges(const lbk_table &table)
     lbk::breaks twice(table, many);
     told("a range is gone through again", std::distance(twice.begin(), twice.end()) == 1000
                                               && std::distance(twice.begin(), twice.end()) == 1000);
-    told("the breaks of UTF-16", unit_places(lbk::breaks_utf16(table, u"a \xD83D\xDE00\nb \xD83D ")) == these{2, 5, 7, 9});
+    told("the breaks of UTF-16", unit_places(lbk::breaks_utf16(table, u"a \xD83D\xDE00\nb \xD83D ")) == these{2, 5, 7,
+        9});
     told("the breaks of UTF-32", unit_places(lbk::breaks_utf32(table, U"a \x1F600\nb \x110000 ")) == these{2, 4, 6, 8});
-    told("profiles differ in UTF-16", unit_places(lbk::breaks_utf16(table, u"a \u00AB b", lbk::profile::first)) == these{2, 4, 5}
-                                          && unit_places(lbk::breaks_utf16(table, u"a \u00AB b", lbk::profile::second)) == these{2, 5});
-    told("the breaks of wide characters", unit_places(lbk::breaks_wide(table, L"a \x1F600\nb \x110000 ")) == these{2, 4, 6, 8});
-    told("no break of no units", unit_places(lbk::breaks_utf16(table, u"")).empty() && unit_places(lbk::breaks_utf32(table, U"")).empty());
+    told("profiles differ in UTF-16", unit_places(lbk::breaks_utf16(table, u"a \u00AB b", lbk::profile::first))
+        == these{2, 4, 5}
+                                          && unit_places(lbk::breaks_utf16(table, u"a \u00AB b", lbk::profile::second))
+                                          == these{2, 5});
+    told("the breaks of wide characters", unit_places(lbk::breaks_wide(table, L"a \x1F600\nb \x110000 ")) == these{2, 4,
+        6, 8});
+    told("no break of no units", unit_places(lbk::breaks_utf16(table, u"")).empty()
+        && unit_places(lbk::breaks_utf32(table, U"")).empty());
     told("labels", lbk::label(LBK_RULE_8A) == "8a" && lbk::label(255).empty());
-    told("what rules say", lbk::rule_text(LBK_RULE_18) == "A break is allowed after spaces." && lbk::rule_text(255).empty());
+    told("what rules say", lbk::rule_text(LBK_RULE_18) == "A break is allowed after spaces."
+        && lbk::rule_text(255).empty());
 }
 
 static void try_iterators(const lbk_table &table)
@@ -138,9 +146,12 @@ static void try_positions(const lbk_table &table)
     for (lbk_break one : lbk::positions(table, text))
         shown += std::to_string(one.at) + (one.kind == LBK_NO ? '-' : '+') + lbk::label(one.rule) + ' ';
     told("the positions of a text", shown == "0-2 1-28 2-7 3+18 5+3 ");
-    told("the positions of UTF-16", unit_places(lbk::positions_utf16(table, u"ab \xD83D\xDE00\xD83D")) == these{0, 1, 2, 3, 5, 6});
-    told("the positions of UTF-32", unit_places(lbk::positions_utf32(table, U"ab \x1F600\x110000")) == these{0, 1, 2, 3, 4, 5});
-    told("the positions of wide characters", unit_places(lbk::positions_wide(table, L"ab \x1F600\x110000")) == these{0, 1, 2, 3, 4, 5});
+    told("the positions of UTF-16", unit_places(lbk::positions_utf16(table, u"ab \xD83D\xDE00\xD83D")) == these{0, 1, 2,
+        3, 5, 6});
+    told("the positions of UTF-32", unit_places(lbk::positions_utf32(table, U"ab \x1F600\x110000")) == these{0, 1, 2, 3,
+        4, 5});
+    told("the positions of wide characters", unit_places(lbk::positions_wide(table, L"ab \x1F600\x110000")) == these{0,
+        1, 2, 3, 4, 5});
     for (int k = 0; k < 200; k++)
         text += "a b\n \xE4\xB8\x80";
     for (lbk::profile rules : {lbk::profile::first, lbk::profile::second}) {
@@ -151,7 +162,8 @@ static void try_positions(const lbk_table &table)
             if (one.kind != LBK_NO)
                 ends.push_back(one.at);
         }
-        told("positions where a line ends are the breaks", ends == places(table, text, rules) && scalars == 5 + 200 * 6);
+        told("positions where a line ends are the breaks", ends == places(table, text, rules) && scalars == 5
+            + 200 * 6);
     }
 }
 
@@ -182,11 +194,14 @@ static void try_cut_files(const lbk::table &table)
     const std::string head = "# LineBreak-15.0.0.txt\n", cut = head + LINE_BREAKS, whole = cut + "# EOF\r\n\n";
     auto is_same = [&](const std::optional<lbk::table> &made) { return made && made->bytes() == table.bytes(); };
     told("a whole file is taken", is_same(lbk::table::try_read(whole, "# emoji-data.txt\n#EOF", CATEGORIES, "", why)));
-    told("a file that was cut is refused", !lbk::table::try_read(cut, "", CATEGORIES, "", why) && why.fault.file == LBK_LINE_BREAK
+    told("a file that was cut is refused", !lbk::table::try_read(cut, "", CATEGORIES, "", why)
+        && why.fault.file == LBK_LINE_BREAK
                                                && why.fault.cause == LBK_CAUSE_CUT
                                                && why.message().find("LineBreak.txt: the file was truncated: ") == 0);
-    told("and the last of the four", !lbk::table::try_read(whole, "", CATEGORIES, "# emoji-data.txt", why) && why.fault.file == LBK_EMOJI);
-    told("it is taken where that is asked for", is_same(lbk::table::try_read(cut, "", CATEGORIES, "", why, false)) && !why);
+    told("and the last of the four", !lbk::table::try_read(whole, "", CATEGORIES, "# emoji-data.txt", why)
+        && why.fault.file == LBK_EMOJI);
+    told("it is taken where that is asked for", is_same(lbk::table::try_read(cut, "", CATEGORIES, "", why, false))
+        && !why);
 }
 
 static void try_segments(const lbk_table &table)
@@ -194,20 +209,24 @@ static void try_segments(const lbk_table &table)
     const std::string text = "ab cd\nef";
     std::string shown;
     for (lbk::segment it : lbk::segments(table, text))
-        shown += std::to_string(it.start) + ' ' + std::string(it.text) + ' ' + std::to_string(it.kind) + ' ' + lbk::label(it.rule) + '|';
+        shown += std::to_string(it.start) + ' ' + std::string(it.text) + ' ' + std::to_string(it.kind) + ' '
+            + lbk::label(it.rule) + '|';
     told("segments", shown == "0 ab  1 18|3 cd\n 2 5|6 ef 2 3|");
     const lbk::segments none(table, "");
     told("no segments of an empty text", none.begin() == none.end());
     lbk::segments all(table, text);
     lbk::segments::iterator first = all.begin(), same = first++;
-    told("an iterator of segments is a value", same == all.begin() && first != same && (*first).start == 3 && (*same).start == 0);
+    told("an iterator of segments is a value", same == all.begin() && first != same && (*first).start == 3
+        && (*same).start == 0);
 }
 
 static void try_safe_breaks(const lbk_table &table)
 {
     auto safe = [&](std::string_view text) { return lbk::safe_break(table, text); };
-    told("safe breaks", safe("ab c d") == 5 && safe("ab\ncd") == 3 && safe("ab\n") == 0 && safe("ab") == 0 && safe("") == 0);
-    told("classes", lbk::class_of(table, U'a') == "AL" && lbk::class_of(table, 0xd800).empty() && lbk::class_of(table, 0x110000).empty());
+    told("safe breaks", safe("ab c d") == 5 && safe("ab\ncd") == 3 && safe("ab\n") == 0 && safe("ab") == 0
+        && safe("") == 0);
+    told("classes", lbk::class_of(table, U'a') == "AL" && lbk::class_of(table, 0xd800).empty()
+        && lbk::class_of(table, 0x110000).empty());
 }
 
 static void try_words()
@@ -278,13 +297,16 @@ static void try_bytes(const lbk::table &table)
 {
     using reason = lbk::error::reason;
     lbk::error why;
-    told("a file with a fault", !lbk::table::try_read("0061;AL\nno row\n", "", "", "", why) && refused(why, reason::refused)
+    told("a file with a fault", !lbk::table::try_read("0061;AL\nno row\n", "", "", "", why)
+        && refused(why, reason::refused)
                                     && why.fault.file == LBK_LINE_BREAK && why.fault.line == 2
                                     && why.fault.cause == LBK_CAUSE_ROW_SYNTAX
-                                    && why.message() == std::string("LineBreak.txt:2: ") + lbk_cause_text(LBK_CAUSE_ROW_SYNTAX).text);
+                                    && why.message() == std::string("LineBreak.txt:2: ")
+                                    + lbk_cause_text(LBK_CAUSE_ROW_SYNTAX).text);
     std::optional<lbk::table> copy = lbk::table::try_copy(table.bytes(), why);
     told("a table from its bytes", copy && !why && places(*copy, "ab cd") == these{3, 5});
-    told("bytes that are too few", !lbk::table::try_copy(table.bytes().substr(1), why) && refused(why, reason::not_a_table));
+    told("bytes that are too few", !lbk::table::try_copy(table.bytes().substr(1), why)
+        && refused(why, reason::not_a_table));
 
     const std::string packed = table.pack();
     std::optional<lbk::table> unpacked = lbk::table::try_unpack(packed, why);
@@ -298,7 +320,8 @@ static void try_bytes(const lbk::table &table)
     std::memcpy(room.get() + 1, table.bytes().data(), sizeof(lbk_table));
     told("no table out of line", lbk::table_in({room.get() + 1, sizeof(lbk_table)}) == nullptr);
     room[100000] ^= 1;
-    told("bytes that changed", !lbk::table::try_copy({room.get() + 1, sizeof(lbk_table)}, why) && refused(why, reason::not_a_table));
+    told("bytes that changed", !lbk::table::try_copy({room.get() + 1, sizeof(lbk_table)}, why)
+        && refused(why, reason::not_a_table));
 }
 
 static void try_files(const lbk::table &table, const std::string &folder)
@@ -307,7 +330,8 @@ static void try_files(const lbk::table &table, const std::string &folder)
     lbk::error why;
     told("a folder without files", !lbk::table::try_load(folder, why) && refused(why, reason::unreadable)
                                        && why.fault.file == LBK_LINE_BREAK && why.system == ENOENT);
-    told("a folder of too long a name", !lbk::table::try_load(std::string(5000, 'a'), why) && why.system == ENAMETOOLONG);
+    told("a folder of too long a name", !lbk::table::try_load(std::string(5000, 'a'), why)
+        && why.system == ENAMETOOLONG);
     told("files are written", write(folder + "/LineBreak.txt", LINE_BREAKS) && write(folder + "/EastAsianWidth.txt", "")
                                   && write(folder + "/emoji-data.txt", "") && write(folder + "/table", table.bytes())
                                   && write(folder + "/short", table.bytes().substr(8)));
@@ -323,7 +347,8 @@ static void try_files(const lbk::table &table, const std::string &folder)
     mapped.reset();
     told("a mapped table that moved", places(moved, "ab cd") == these{3, 5});
     told("a file that is too short", !lbk::table::try_map(folder + "/short", why) && refused(why, reason::not_a_table));
-    told("no file", !lbk::table::try_map(folder + "/none", why) && refused(why, reason::unreadable) && why.system == ENOENT);
+    told("no file", !lbk::table::try_map(folder + "/none", why) && refused(why, reason::unreadable)
+        && why.system == ENOENT);
     told("a folder", !lbk::table::try_map(folder, why) && why);
     std::string changed(table.bytes());
     changed[100000] ^= 1;
@@ -373,7 +398,8 @@ static void try_exceptions(const lbk::table &table, const std::string &folder)
 {
     auto is_same = [&](const lbk::table &made) { return made.bytes() == table.bytes(); };
     told("a table by each way", is_same(lbk::table::read(LINE_BREAKS, "", CATEGORIES, ""))
-                                    && is_same(lbk::table::copy(table.bytes())) && is_same(lbk::table::map(folder + "/table"))
+                                    && is_same(lbk::table::copy(table.bytes()))
+                                    && is_same(lbk::table::map(folder + "/table"))
                                     && is_same(lbk::table::unpack(table.pack())));
     try {
         lbk::table::load(folder + "/none");

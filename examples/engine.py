@@ -57,7 +57,8 @@ def main():
         sys.exit("usage: engine.py LINE_BREAK EAST_ASIAN CATEGORY EMOJI")
     table = lbk.Table.from_files(*sys.argv[1:5])
     chance = random.Random(1)
-    pieces = ["ab", " ", "  ", ", ", "\n", "\r", "\r\n", "\u2028", "(", ")", "«", "»", "一", "。", "\u0301", "12", "%", "-", "\u200d"]
+    pieces = ["ab", " ", "  ", ", ", "\n", "\r", "\r\n", "\u2028", "(", ")", "«", "»", "一", "。", "\u0301", "12", "%",
+        "-", "\u200d"]
     failed = asked_in_all = breaks_in_all = 0
     for _ in range(2000):
         text = "".join(chance.choices(pieces, k=chance.randrange(60)))
@@ -67,7 +68,8 @@ def main():
         wrapped = list(lines(table, text, 10))
         failed += "".join(wrapped) != text
         ends = {found.at for found in table.breaks(text)}
-        failed += any(len(line.rstrip(" \n")) > 10 and has_break_inside(line, start, ends) for start, line in starts(wrapped))
+        failed += any(len(line.rstrip(" \n")) > 10 and has_break_inside(line, start, ends)
+            for start, line in starts(wrapped))
 
         places = sorted(chance.choices(range(len(data) + 1), k=4))
         parts = [data[a:b] for a, b in zip([0, *places], [*places, len(data)])]

@@ -51,8 +51,8 @@ static inline void read_table(lbk_table *table, char **names)
     bytes files[4];
     for (int k = 0; k < 4; k++)
         files[k] = load(names[k]);
-    lbk_fault fault = lbk_read(table, files[0].at, files[0].size, files[1].at, files[1].size, files[2].at, files[2].size,
-                               files[3].at, files[3].size);
+    lbk_fault fault = lbk_read(table, files[0].at, files[0].size, files[1].at, files[1].size, files[2].at,
+        files[2].size, files[3].at, files[3].size);
     if (fault.cause != LBK_CAUSE_NONE) {
         const char *name = fault.file == LBK_NO_FILE ? "the four files" : names[fault.file - 1];
         fprintf(stderr, "%s:%u: %s\n", name, (unsigned)fault.line, lbk_cause_text(fault.cause).text);

@@ -24,7 +24,8 @@ static uint64_t digest(const void *of, size_t size)
 static int are_in_order(const lbk_break *block, size_t count, size_t from, size_t to)
 {
     for (size_t k = 0; k < count; from = block[k++].at + 1)
-        if ((block[k].kind != LBK_MAY && block[k].kind != LBK_MUST) || lbk_label(block[k].rule).text[0] == 0 || block[k].at < from
+        if ((block[k].kind != LBK_MAY && block[k].kind != LBK_MUST) || lbk_label(block[k].rule).text[0] == 0
+            || block[k].at < from
             || block[k].at >= to)
             return 0;
     return 1;
@@ -34,7 +35,8 @@ static int are_in_order(const lbk_break *block, size_t count, size_t from, size_
 static int are_positions(const lbk_break *block, size_t count, size_t from, size_t to)
 {
     for (size_t k = 0; k < count; from = block[k++].at + 1)
-        if (block[k].kind > LBK_MUST || lbk_label(block[k].rule).text[0] == 0 || block[k].at < from || block[k].at >= to)
+        if (block[k].kind > LBK_MUST || lbk_label(block[k].rule).text[0] == 0 || block[k].at < from
+            || block[k].at >= to)
             return 0;
     return 1;
 }
@@ -52,7 +54,8 @@ static void go_over_positions(const lbk_table *table, const char *text, size_t s
         told("no more positions than there is room for", count <= room);
         told("positions: the profile stays, the place goes on within the text",
              state->profile == from.profile && state->at >= old.at && (state->at <= size || state->at == old.at));
-        told("positions in order, between the places", are_positions(block, count, old.at, state->ended ? size + 1 : state->at));
+        told("positions in order, between the places",
+            are_positions(block, count, old.at, state->ended ? size + 1 : state->at));
         if (count < room)
             break;
     }
@@ -72,8 +75,10 @@ static void go_over_segments(const lbk_table *table, const char *text, size_t si
         for (size_t k = 0; k < count; next = block[k++].end)
             told("segments one after another, each by a kind and a rule",
                  block[k].start == next && (!is_sound || (next <= block[k].end && block[k].end <= size))
-                     && (block[k].kind == LBK_MAY || block[k].kind == LBK_MUST) && lbk_label(block[k].rule).text[0] != 0);
-        told("segments: the profile stays, and the next starts where the last ends", state.breaks.profile == from.profile && state.start == next);
+                     && (block[k].kind == LBK_MAY || block[k].kind == LBK_MUST)
+                     && lbk_label(block[k].rule).text[0] != 0);
+        told("segments: the profile stays, and the next starts where the last ends",
+            state.breaks.profile == from.profile && state.start == next);
         if (count < room)
             break;
     }
@@ -117,14 +122,16 @@ static void go_over_cuts(const lbk_table *table, const char *text, size_t size)
     told("a cut at or after a place", next <= size && (at >= size ? next == size : next >= at));
     told("a cut at or before a place", last <= size && (at >= size ? last == size : last <= at));
     size_t safe = lbk_safe_break(table, (uint8_t)below(3), text, size);
-    told("a safe break before the end, and at the last cut or after it", size == 0 ? safe == 0 : safe < size && safe >= lbk_cut_before(table, text, size, size - 1));
+    told("a safe break before the end, and at the last cut or after it", size == 0 ? safe == 0 : safe < size
+        && safe >= lbk_cut_before(table, text, size, size - 1));
 }
 
 /* Asks for breaks until none comes, with rooms of all sizes. What holds of any table, state and text holds here. */
 static void go_over(const lbk_table *table, fenced texts, fenced states, fenced blocks, lbk_state from, int is_long)
 {
     static char made[MOST_LONG_TEXT];
-    size_t size = random_text_of(made, is_long ? MOST_LONG_TEXT : MOST_TEXT), most_room = is_long ? MOST_LONG_ROOM : MOST_ROOM;
+    size_t size = random_text_of(made, is_long ? MOST_LONG_TEXT : MOST_TEXT), most_room = is_long ? MOST_LONG_ROOM
+        : MOST_ROOM;
     char *text = place(texts, size);
     memcpy(text, made, size);
     lbk_state *state = place(states, sizeof *state);
@@ -139,7 +146,8 @@ static void go_over(const lbk_table *table, fenced texts, fenced states, fenced 
         told("the profile stays", state->profile == from.profile);
         told("the place is in the text", state->at <= size || state->at == old.at);
         told("the place does not go back", state->at >= old.at);
-        told("breaks in order, between the places", are_in_order(block, count, old.at, state->ended ? size + 1 : state->at));
+        told("breaks in order, between the places",
+            are_in_order(block, count, old.at, state->ended ? size + 1 : state->at));
         told("breaks take the state on", count == 0 || state->at > old.at || state->ended);
         told("at its end a state is at the text's", old.ended || !state->ended || state->at == size);
         sum += count;
@@ -185,7 +193,8 @@ static void compare_rooms(const lbk_table *table)
     state = start;
     do {
         room = 1 + below(4);
-        count = lbk_breaks(table, &state, text, size, part + got, got + room > MOST_TEXT + 1 ? MOST_TEXT + 1 - got : room);
+        count = lbk_breaks(table, &state, text, size, part + got, got + room > MOST_TEXT + 1 ? MOST_TEXT + 1 - got
+            : room);
         got += count;
     } while (count == room && got <= MOST_TEXT);
     int same = got == all && (size == 0 || (all > 0 && whole[all - 1].at == size));
@@ -217,7 +226,8 @@ static void go_over_words(fenced texts, fenced states, fenced blocks)
         told("no more words than there is room for", count <= room && got + count <= all);
         told("the place of words does not go back", state->at >= old.at && (state->at <= size || state->at == old.at));
         for (size_t k = 0; k < count && got < all; k++, got++) {
-            told("blocks of any rooms have the same words", block[k].start == whole[got].start && block[k].end == whole[got].end);
+            told("blocks of any rooms have the same words", block[k].start == whole[got].start
+                && block[k].end == whole[got].end);
             told("words rise", last <= block[k].start && block[k].start < block[k].end && block[k].end <= size);
             last = block[k].end;
         }

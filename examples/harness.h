@@ -61,9 +61,10 @@ static inline void *place(fenced pages, size_t size)
 /* Bytes that look like text more or less, `longest` at most: random ones, scalars of each size, and cut ones. */
 static inline size_t random_text_of(char *to, size_t longest)
 {
-    static const char *const parts[] = {"a", " ", "\n", "\r\n", "(", "\"", "\xC2\xAB", "\xC2\xBB", "\xCC\x81", "\xE2\x80\x8D",
-        "\xE4\xB8\x80", "\xEA\xB0\x80", "\xF0\x9F\x87\xA6", "\xF0\x9F\x98\x80", "\xF0\x9F\x8F\xBB", "\xE2\x80\x8B", "1", ",", "%",
-        "-", "\xD7\x90", "\xE0", "\xF0\x9F", "\xC3", "\xED\xA0\x80", "\xF4\x90", "\xEF\xBF\xBD", "\xC2\xA0"};
+    static const char *const parts[] = {"a", " ", "\n", "\r\n", "(", "\"", "\xC2\xAB", "\xC2\xBB", "\xCC\x81",
+        "\xE2\x80\x8D",
+        "\xE4\xB8\x80", "\xEA\xB0\x80", "\xF0\x9F\x87\xA6", "\xF0\x9F\x98\x80", "\xF0\x9F\x8F\xBB", "\xE2\x80\x8B", "1",
+        ",", "%", "-", "\xD7\x90", "\xE0", "\xF0\x9F", "\xC3", "\xED\xA0\x80", "\xF4\x90", "\xEF\xBF\xBD", "\xC2\xA0"};
     size_t size = 0, most = below(longest + 1);
     unsigned mix = (unsigned)below(3);
     while (size < most) {

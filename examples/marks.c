@@ -118,7 +118,8 @@ static void try_random_text(size_t longest)
     memcpy(text, made, size);
     start.profile = (uint8_t)below(4);
     start.at = below(2) == 0 ? 0 : below(size + 1);
-    told("random bytes have the bits of their breaks", has_its_breaks(text, size, start, below(3) == 0 ? 1 + below(MOST_WORDS) : 0));
+    told("random bytes have the bits of their breaks",
+        has_its_breaks(text, size, start, below(3) == 0 ? 1 + below(MOST_WORDS) : 0));
 }
 
 /* Any table and any state: the call returns, and no bit is set behind those that are told of. */
@@ -143,7 +144,8 @@ static void try_any_table(const lbk_table *any)
     told("any table: as many places as there are",
          told_of == (!goes ? 0 : 64 * count < size + 1 - old.at ? 64 * count : size + 1 - old.at));
     told("any table: no bit behind them", are_clear(words, count, told_of));
-    told("any table: the state goes on", state->profile == old.profile && state->at >= old.at && (state->at <= size || !goes));
+    told("any table: the state goes on", state->profile == old.profile && state->at >= old.at
+        && (state->at <= size || !goes));
     told("any table: a state from which nothing comes stays",
          told_of != 0 || (state->at == old.at && state->row == old.row && state->ended == old.ended));
 }

@@ -22,7 +22,8 @@ static std::string load(const char *name)
 }
 
 /// Writes the segments of the part from one byte to another.
-static void write_part(const lbk::table &table, std::string_view text, std::size_t from, std::size_t to, lbk::profile rules)
+static void write_part(const lbk::table &table, std::string_view text,
+    std::size_t from, std::size_t to, lbk::profile rules)
 {
     static const char *const kinds[] = {"No", "May", "Must"};
     const lbk::follows after = to < text.size() ? lbk::follows::more : lbk::follows::nothing;

@@ -46,7 +46,8 @@ static void try_passages(const lbk_table &table)
     told("words of passages", words == these{0, 3, 6, 10});
     told("no passage of no text", lbk::passages(table, "").begin() == lbk::passages(table, "").end());
     lbk::passages twice(table, text);
-    told("passages are gone through again", std::distance(twice.begin(), twice.end()) == std::distance(twice.begin(), twice.end()));
+    told("passages are gone through again", std::distance(twice.begin(), twice.end()) == std::distance(twice.begin(),
+        twice.end()));
 }
 
 static void try_chunks(const lbk_table &table)
@@ -100,7 +101,8 @@ static void try_limits(const lbk_table &table)
             told("wrong limits are thrown", thrown.what() == one.wrong());
         }
 #else
-        told("wrong limits give no chunk", lbk::chunks(table, "a b", one).begin() == lbk::chunks(table, "a b", one).end());
+        told("wrong limits give no chunk", lbk::chunks(table, "a b", one).begin() == lbk::chunks(table, "a b",
+            one).end());
 #endif
     }
 }
@@ -112,7 +114,8 @@ static void try_claims(const std::string &folder)
     const std::pair<const char *, const char *> claims[] = {
         {"# LineBreak-14.0.0.txt\n", "this is Unicode 14.0.0, and lbk needs 15.0.0"},
         {"# LineBreak-15.1.txt\n", "this is Unicode 15.1.0, and lbk needs 15.0.0"},
-        {"# LineBreak-15.0.0.txt\n", "the file was changed or truncated: it differs from Unicode 15.0.0's LineBreak.txt"},
+        {"# LineBreak-15.0.0.txt\n",
+            "the file was changed or truncated: it differs from Unicode 15.0.0's LineBreak.txt"},
         {"# LineBreak-", "this is not LineBreak.txt of the Unicode Character Database"},
         {"0061;AL\n# LineBreak-14.0.0", "this is not LineBreak.txt of the Unicode Character Database"},
     };
@@ -122,7 +125,8 @@ static void try_claims(const std::string &folder)
     for (const auto &[first, said] : claims) {
         lbk::error why;
         write(folder + "/claims/LineBreak.txt", first);
-        told(said, !lbk::table::try_load(folder + "/claims", why) && why.message() == std::string("LineBreak.txt: ") + said);
+        told(said, !lbk::table::try_load(folder + "/claims", why) && why.message() == std::string("LineBreak.txt: ")
+            + said);
     }
     const std::pair<const char *, const char *> emoji[] = {
         {"# emoji-data.txt\n# Used with Emoji Version 14.0 and", "this is Emoji 14.0, and lbk needs 15.0"},

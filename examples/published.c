@@ -21,8 +21,8 @@ static lbk_table table, wanted;
 
 static lbk_fault read_published(const bytes *files)
 {
-    return lbk_read_published(&table, files[0].at, files[0].size, files[1].at, files[1].size, files[2].at, files[2].size,
-                              files[3].at, files[3].size);
+    return lbk_read_published(&table, files[0].at, files[0].size, files[1].at, files[1].size, files[2].at,
+        files[2].size, files[3].at, files[3].size);
 }
 
 /* The files have to be taken. */

@@ -46,7 +46,8 @@ static int same_breaks(const found *a, const found *b)
 static int is_scalar(const unsigned char *byte, size_t size)
 {
     static const uint32_t least[] = {0, 0, 0x80, 0x800, 0x10000};
-    size_t wanted = byte[0] < 0x80 ? 1 : byte[0] < 0xC0 ? 0 : byte[0] < 0xE0 ? 2 : byte[0] < 0xF0 ? 3 : byte[0] < 0xF8 ? 4 : 0;
+    size_t wanted = byte[0] < 0x80 ? 1 : byte[0] < 0xC0 ? 0 : byte[0] < 0xE0 ? 2 : byte[0] < 0xF0 ? 3 : byte[0] < 0xF8
+        ? 4 : 0;
     if (wanted != size)
         return 0;
     uint32_t code = size == 1 ? byte[0] : byte[0] & (0x7FU >> size);
@@ -61,7 +62,8 @@ static int is_scalar(const unsigned char *byte, size_t size)
 /* Whether more bytes can make one scalar of these, or these are none. */
 static int is_open(const uint8_t *front, size_t size)
 {
-    static const char *const ends[] = {"\x80", "\xA0", "\x90", "\x80\x80", "\xA0\x80", "\x90\x80", "\x80\x80\x80", "\x90\x80\x80"};
+    static const char *const ends[] = {"\x80", "\xA0", "\x90", "\x80\x80", "\xA0\x80", "\x90\x80", "\x80\x80\x80",
+        "\x90\x80\x80"};
     unsigned char text[8];
     memcpy(text, front, size);
     for (size_t k = 0; size > 0 && k < sizeof ends / sizeof *ends; k++) {
@@ -122,7 +124,8 @@ static int is_over(lbk_stream *stream)
 }
 
 /* The part of a text that begins at a byte of it, in pieces that end at these places, of which the last is the text's size. */
-static int agrees(uint8_t profile, const char *text, size_t start, const size_t *ends, size_t count, size_t room, const found *all)
+static int agrees(uint8_t profile,
+    const char *text, size_t start, const size_t *ends, size_t count, size_t room, const found *all)
 {
     lbk_stream stream = {0};
     found got;
@@ -151,7 +154,8 @@ static void try_all_cuttings(const char *text, size_t size)
                 for (size_t k = j; k <= size; k++)
                     for (size_t room = 1; room <= 3; room++) {
                         size_t ends[] = {i, j, k, size, size};
-                        told("a text in four pieces", agrees((uint8_t)profile, text, 0, ends, 4 + (i + j + k) % 2, room, &all));
+                        told("a text in four pieces", agrees((uint8_t)profile, text, 0, ends, 4 + (i + j + k) % 2, room,
+                            &all));
                     }
     }
 }
@@ -159,10 +163,14 @@ static void try_all_cuttings(const char *text, size_t size)
 /* Texts for cuts: scalars of each size and parts of them, marks, and quotation marks. */
 static void try_short_texts(void)
 {
-    static const char *const texts[] = {"", "a", "a b\r\nc", "a\r\n\r\nb", "\xF0\x9F\x98\x80 \xF0\x9F\x98\x80", "\xE2\x82\xAC \xC3\xA9",
-        "\xE2\x82 \xF0\x9F\x98" "a\xF0\x9F", "\xC0\xAF\xE0\x80\xBF\xF0\x81\x82", "\xED\xA0\x80\xF4\x90\x80\xFF", "\x80\xBF\xE1\x80\xE2",
-        "a \xC2\xBB", "a \xC2\xBB" "b", "a \xC2\xBB\xCC\x81\xCC\x81" "b c", "a \xC2\xBB\xCC\x81 b", "\xC2\xAB a \xC2\xBB a \xC2\xBB" "b",
-        "a \xE2\x80\x99\xE2\x80\x99" "b", "a \xE2\x80\x99\xE2\x80\x8D\xE4\xB8\x80", "a \xC2\xBB\xE4\xB8\xFF", "\xF0\x9F\x87\xA6\xF0\x9F\x87\xA6\xF0\x9F\x87\xA6"};
+    static const char *const texts[] = {"", "a", "a b\r\nc", "a\r\n\r\nb", "\xF0\x9F\x98\x80 \xF0\x9F\x98\x80",
+        "\xE2\x82\xAC \xC3\xA9",
+        "\xE2\x82 \xF0\x9F\x98" "a\xF0\x9F", "\xC0\xAF\xE0\x80\xBF\xF0\x81\x82", "\xED\xA0\x80\xF4\x90\x80\xFF",
+        "\x80\xBF\xE1\x80\xE2",
+        "a \xC2\xBB", "a \xC2\xBB" "b", "a \xC2\xBB\xCC\x81\xCC\x81" "b c", "a \xC2\xBB\xCC\x81 b",
+        "\xC2\xAB a \xC2\xBB a \xC2\xBB" "b",
+        "a \xE2\x80\x99\xE2\x80\x99" "b", "a \xE2\x80\x99\xE2\x80\x8D\xE4\xB8\x80", "a \xC2\xBB\xE4\xB8\xFF",
+        "\xF0\x9F\x87\xA6\xF0\x9F\x87\xA6\xF0\x9F\x87\xA6"};
     for (size_t k = 0; k < sizeof texts / sizeof *texts; k++)
         try_all_cuttings(texts[k], strlen(texts[k]));
     try_all_cuttings("a\0b \0", 5);
@@ -264,7 +272,8 @@ static void try_any_bytes(const lbk_table *any)
             told("a break is a kind by a rule",
                  (block[k].kind == LBK_MAY || block[k].kind == LBK_MUST) && lbk_label(block[k].rule).text[0] != 0);
         sum += fed.count;
-        told("an ended stream stays", old.ended == 0 || room == 0 || (fed.count == 0 && memcmp(stream, &old, sizeof old) == 0));
+        told("an ended stream stays", old.ended == 0 || room == 0
+            || (fed.count == 0 && memcmp(stream, &old, sizeof old) == 0));
         from += fed.taken;
         if (fed.count < room || room == 0)
             break;

@@ -44,7 +44,8 @@ static int same_breaks(const found *a, const found *b)
 /* What a stream says of itself where the block was not full: all units are seen, and at most the first half of a pair waits. */
 static int is_settled(const lbk_stream *stream, uint64_t seen)
 {
-    return stream->at + stream->cut_size == seen && (stream->cut_size == 0 || (stream->cut_size == 1 && (stream->cut[1] & 0xFC) == 0xD8));
+    return stream->at + stream->cut_size == seen
+        && (stream->cut_size == 0 || (stream->cut_size == 1 && (stream->cut[1] & 0xFC) == 0xD8));
 }
 
 /* Hands a piece to the library until it is taken, in blocks of at most this room. Says whether all held that has to. */
@@ -138,7 +139,8 @@ static size_t random_units(uint16_t *to)
     char text[2 * MOST_TEXT];
     size_t size = random_text_of(text, MOST_TEXT);
     for (size_t k = 0; k < size; k++)
-        to[k] = (uint16_t)(below(3) != 0 ? (unsigned char)text[k] : below(4) == 0 ? below(0x10000) : 0xD800 + below(0x800));
+        to[k] = (uint16_t)(below(3) != 0 ? (unsigned char)text[k] : below(4) == 0 ? below(0x10000) : 0xD800
+            + below(0x800));
     return size;
 }
 
@@ -146,13 +148,15 @@ static size_t random_units(uint16_t *to)
 static void try_random_cutting(void)
 {
     uint16_t text[2 * MOST_TEXT];
-    size_t size = random_units(text), start = below(2) == 0 ? 0 : below(size + 1), ends[MOST_TEXT + 2], count = 0, from = start;
+    size_t size = random_units(text), start = below(2) == 0 ? 0 : below(size + 1), ends[MOST_TEXT + 2], count = 0,
+        from = start;
     while (from < size && count < MOST_TEXT) {
         from += below(9);
         ends[count++] = from = from < size ? from : size;
     }
     ends[count++] = size;
-    told("a text in random pieces", agrees((uint8_t)below(PROFILES), text, start, ends, count, 1 + below(MOST_FEED_ROOM)));
+    told("a text in random pieces", agrees((uint8_t)below(PROFILES), text, start, ends, count,
+        1 + below(MOST_FEED_ROOM)));
 }
 
 /* Any bytes as a stream and as a table: calls return, and say no more than they did. */

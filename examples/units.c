@@ -136,9 +136,10 @@ static int agrees(int all, int wide, uint8_t profile, const void *units, size_t 
 /* Scalars of all widths that rules ask for, and any others. */
 static uint32_t random_scalar(void)
 {
-    static const uint32_t codes[] = {'a', ' ', '\n', '\r', '(', '"', '1', ',', '%', '-', 0xA0, 0xAB, 0xBB, 0x301, 0x5D0, 0x200B,
-        0x200D, 0x2019, 0x201D, 0x4E00, 0xAC00, 0xD7FF, 0xE000, 0xFFFD, 0xFFFF, 0x10000, 0x1D165, 0x1F1E6, 0x1F3FB, 0x1F600,
-        0x20000, 0xE0100, 0x10FFFF};
+    static const uint32_t codes[] = {'a', ' ', '\n', '\r', '(', '"', '1', ',', '%', '-', 0xA0, 0xAB, 0xBB, 0x301, 0x5D0,
+        0x200B,
+        0x200D, 0x2019, 0x201D, 0x4E00, 0xAC00, 0xD7FF, 0xE000, 0xFFFD, 0xFFFF, 0x10000, 0x1D165, 0x1F1E6, 0x1F3FB,
+        0x1F600, 0x20000, 0xE0100, 0x10FFFF};
     if (below(8) != 0)
         return codes[below(sizeof codes / sizeof *codes)];
     uint32_t code = (uint32_t)below(0x110000 - 0x800);
@@ -165,8 +166,8 @@ static size_t random_utf16(uint16_t *to)
 
 static size_t random_utf32(uint32_t *to)
 {
-    static const uint32_t none[] = {0xD800, 0xDBFF, 0xDC00, 0xDFFF, 0x110000, 0x110041, 0x200041, 0x80000041, 0xFFFF0020,
-        0xFFFFFFFF};
+    static const uint32_t none[] = {0xD800, 0xDBFF, 0xDC00, 0xDFFF, 0x110000, 0x110041, 0x200041, 0x80000041,
+        0xFFFF0020, 0xFFFFFFFF};
     size_t size = 0, most = below(MOST_TEXT + 1);
     unsigned ill = (unsigned)below(3);
     while (size < most) {
@@ -318,7 +319,8 @@ static void try_any_table(const lbk_table *any, int all)
     int holds = count <= room && state.at >= old.at && state.profile == old.profile;
     for (size_t k = 0; k < count; k++)
         holds &= block[k].at >= old.at && block[k].at <= size && (k == 0 || block[k].at > block[k - 1].at)
-            && block[k].kind >= (all ? LBK_NO : LBK_MAY) && block[k].kind <= LBK_MUST && lbk_label(block[k].rule).text[0] != 0;
+            && block[k].kind >= (all ? LBK_NO : LBK_MAY) && block[k].kind <= LBK_MUST
+            && lbk_label(block[k].rule).text[0] != 0;
     holds &= count > 0 || room > 0 || memcmp(&state, &old, sizeof old) == 0;
     told(all ? "positions of any table and any state" : "breaks of any table and any state", holds);
 }

@@ -37,7 +37,8 @@ export class AnswerView {
     const [before, after] = [characterBefore(text, at), characterAt(text, at)];
     const [one, other] = [this.#side(before, "the start of the text"), this.#side(after, "the end of the text")];
     const sign = element("span", `sign ${kind}`, signOf(kind));
-    const what = element("p", "what", sign, element("strong", "", ` ${SAYS[kind]}`), " between ", ...one, " and ", ...other, ".");
+    const what = element("p", "what", sign, element("strong", "", ` ${SAYS[kind]}`), " between ", ...one, " and ",
+      ...other, ".");
     const why = element("p", "why", element("span", "rule", `Rule LB${rule}`), ` ${this.#table.ruleText(rule)}`);
     const where = element("span", "where", `At offset ${at} (UTF-16 units).`);
     return element("div", "answer", what, why, element("p", "classes", ...this.#classes(at), where));
@@ -81,7 +82,8 @@ export class AnswerView {
 
   #classAfter(place) {
     const found = this.#class(characterAt(this.#decided.text, place));
-    return this.#joins(place) ? `${this.#inWords(found)}, which joins what is before it` : this.#inWords(this.#standing(found));
+    return this.#joins(place) ? `${this.#inWords(found)}, which joins what is before it`
+      : this.#inWords(this.#standing(found));
   }
 
   /** A mark that joins nothing is read as a letter (rule LB10). */

@@ -72,7 +72,8 @@ export class ColumnsView {
     this.#theirs = theirs;
     this.#told = told;
     this.#ourBlocks = new Blocks(ours, (paragraph) => this.#ourBlock(paragraph));
-    this.#theirBlocks = new Blocks(theirs, (text) => ({ element: element("div", "", text), length: text.length, starts: undefined }));
+    this.#theirBlocks = new Blocks(theirs, (text) =>
+      ({ element: element("div", "", text), length: text.length, starts: undefined }));
     ours.parentElement.append(this.#probe);
     // A drag of one column takes the other along, in a frame of its own, as that changes sizes again.
     const observer = new ResizeObserver((entries) => requestAnimationFrame(() => this.#follow(entries)));

@@ -21,7 +21,8 @@ function commonStart(one, other) {
 
 /** How many they have in common at their end, but no more than so many. */
 function commonEnd(one, other, most) {
-  const isSame = (from, to) => one.slice(one.length - to, one.length - from) === other.slice(other.length - to, other.length - from);
+  const isSame = (from, to) => one.slice(one.length - to, one.length - from) === other.slice(other.length - to,
+    other.length - from);
   let size = 0;
   while (size + STRETCH <= most && isSame(size, size + STRETCH)) size += STRETCH;
   while (size < most && isSame(size, size + 1)) size++;
@@ -138,7 +139,8 @@ export class DecidedText {
   #columnsOf(index) {
     const paragraph = this.paragraphs[index];
     const start = this.#starts[index];
-    const decide = () => this.#table.positionColumns(withNext(this.text, start, start + paragraph.length), { profile: this.#profile });
+    const decide = () => this.#table.positionColumns(withNext(this.text, start, start + paragraph.length),
+      { profile: this.#profile });
     return (paragraph.columns ??= decide());
   }
 

@@ -1,6 +1,7 @@
 /** Texts of some scripts: what each shows, a rule that decides in it, and the text. */
 export const EXAMPLES = [
-  ["Latin: numbers, hyphens, URLs", "25", "A well-known price: $1,234.50 (50 % off) — see https://example.org/a-b?c=d."],
+  ["Latin: numbers, hyphens, URLs", "25",
+    "A well-known price: $1,234.50 (50 % off) — see https://example.org/a-b?c=d."],
   ["French: spaces before punctuation", "12a", "« Où étais-tu\u00a0? » dit-il\u202f; puis rien."],
   ["German: quotation marks", "19", "Er sagte „Guten Tag“ und »bis bald«."],
   ["Greek: punctuation", "13", "Τι ώρα είναι; Είναι 5:30, σχεδόν."],

@@ -58,7 +58,8 @@ function shapeOf(text, at, measure) {
   if (CONTROL.test(character)) return { character, written: " ", before: false, after: false };
   const [before, after] = [neighbour(text, at, true), neighbour(text, at + character.length, false)];
   if (!MARK.test(character)) {
-    return { character, written: character, before: measure.joins(before, character), after: measure.joins(character, after) };
+    return { character, written: character, before: measure.joins(before, character),
+      after: measure.joins(character, after) };
   }
   const isJoined = measure.joins(before, after);
   return { character, written: (isJoined ? STROKE : MARK_BASE) + character, before: isJoined, after: isJoined };

@@ -9,7 +9,8 @@ TOP = os.path.dirname(os.path.dirname(os.path.abspath(__file__)))
 TASKS = ("mark", "show", "segment", "chunk", "replay")
 FILES = {"line-break": "FILE", "east-asian": "FILE", "category": "FILE", "emoji": "FILE"}
 NUMBERS = {"limit": ("NUMBER", 1, 16_777_216), "from": ("BYTE", 0, 2**32 - 1), "to": ("BYTE", 0, 2**32 - 1)}
-SIZES = {name: ("NUMBER", least, 16_777_216) for name, least in (("most", 1), ("words", 1), ("least", 0), ("overlap", 0))}
+SIZES = {name: ("NUMBER", least, 16_777_216) for name, least in (("most", 1), ("words", 1), ("least", 0),
+    ("overlap", 0))}
 OF_FOLDER = {
     "line-break": "LineBreak.txt",
     "east-asian": "EastAsianWidth.txt",
@@ -140,7 +141,8 @@ def refuse_first_option(word, rest):
     alike = most_alike(name, ["help", "version"]) if is_long else None
     said = f"unexpected argument '{one_line(word)}' found"
     if alike:
-        raise Told(2, f"lbk: {said}\n\n  tip: a similar argument exists: '--{alike}'\n\nUsage: lbk --{alike} <COMMAND>\n{MORE}")
+        raise Told(2,
+            f"lbk: {said}\n\n  tip: a similar argument exists: '--{alike}'\n\nUsage: lbk --{alike} <COMMAND>\n{MORE}")
     refuse(said, hint=DIGITS if any(map(is_negative, (word, *rest))) else "")
 
 
@@ -198,7 +200,8 @@ def take_no_value(task, shown, rest, hint):
     """An option stands last, or before a word that looks like another option."""
     word = rest[0] if rest else "--"
     name, is_joined, _ = word[2:].partition("=")
-    is_known = word.startswith("--") and (name in options_of(task) or not is_joined and name in ["", "help", *flags_of(task)])
+    is_known = word.startswith("--") and (name in options_of(task) or not is_joined
+        and name in ["", "help", *flags_of(task)])
     if not is_known and word != "-h":
         refuse_option(task, word, name, is_joined, hint)
     raise Told(2, f"lbk: a value is required for '{shown}' but none was supplied\n{MORE}{hint}")
@@ -207,7 +210,8 @@ def take_no_value(task, shown, rest, hint):
 def refuse_option(task, word, name, is_joined, hint):
     is_long = word.startswith("--")
     if is_long and is_joined and name in ("help", *flags_of(task)):
-        refuse(f"unexpected value '{one_line(word.partition('=')[2])}' for '--{name}' found; no more were expected", task)
+        refuse(f"unexpected value '{one_line(word.partition('=')[2])}' for '--{name}' found; no more were expected",
+            task)
     if is_joined and not (is_long and name) or not is_long and len(word) > 2:
         raise Unsure
     shown = one_line(f"--{name}" if is_long else word)

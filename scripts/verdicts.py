@@ -72,7 +72,8 @@ class Verdict:
         self.kit, self.proof, self.made, self.sources = kit, proof, made, sources
 
     def write(self, crate):
-        lines = [f"kit {self.kit}", *([f"proof {self.proof}"] if self.proof else []), f"made {self.made} {crate.made()}"]
+        lines = [f"kit {self.kit}", *([f"proof {self.proof}"] if self.proof else []),
+            f"made {self.made} {crate.made()}"]
         lines += [f"sources {digest} {name}" for name, digest in self.sources.items()]
         crate.verdict().write_text("".join(f"{it}\n" for it in lines), encoding="utf-8")
 
@@ -99,7 +100,8 @@ def kit():
 
 def read_crates(top=TOP, of=Crate):
     """The crates of a repository by their names."""
-    lines = [" ".join(it.partition("#")[0].split()) for it in (top / "crates.txt").read_text(encoding="utf-8").splitlines()]
+    lines = [" ".join(it.partition("#")[0].split())
+        for it in (top / "crates.txt").read_text(encoding="utf-8").splitlines()]
     by_name = {re.split("[ :]", it)[0]: it for it in lines if it}
     found = {}
 

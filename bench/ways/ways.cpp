@@ -23,7 +23,8 @@ extern "C" std::size_t cpp_words(const lbk_table *, const char *text, std::size_
     return found;
 }
 
-extern "C" std::size_t cpp_passages(const lbk_table *table, const char *text, std::size_t size, std::size_t, std::size_t *total)
+extern "C" std::size_t cpp_passages(const lbk_table *table, const char *text, std::size_t size, std::size_t,
+    std::size_t *total)
 {
     std::size_t found = 0;
     for (const lbk::passage &one : lbk::passages(*table, std::string_view(text, size)))

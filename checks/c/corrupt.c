@@ -120,7 +120,8 @@ int main(int count, char **word)
         return fprintf(stderr, "usage: corrupt SIZE LINE_BREAK EAST_ASIAN CATEGORY EMOJI\n"), 2;
     for (int k = 0; k < 4; k++)
         file[k] = whole(word[2 + k], sizes + k);
-    if (lbk_read(&real, file[0], sizes[0], file[1], sizes[1], file[2], sizes[2], file[3], sizes[3]).cause != LBK_CAUSE_NONE)
+    if (lbk_read(&real, file[0], sizes[0], file[1], sizes[1], file[2], sizes[2], file[3], sizes[3]).cause
+        != LBK_CAUSE_NONE)
         return 1;
     table = real;
     marks_behind();

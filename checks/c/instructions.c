@@ -29,7 +29,8 @@ static int cut(const char *call, size_t size)
     put_lines(text);
     put_lines(text + size - LINES);
     size_t near_the_end = size - NEAR;
-    size_t at = strcmp(call, "lbk_cut") == 0 ? lbk_cut(&table, text, size, NEAR) : lbk_cut_before(&table, text, size, near_the_end);
+    size_t at = strcmp(call, "lbk_cut") == 0 ? lbk_cut(&table, text, size, NEAR) : lbk_cut_before(&table, text, size,
+        near_the_end);
     free(text);
     return 2 * NEAR < at && at < near_the_end - NEAR;
 }
@@ -40,7 +41,8 @@ static int read_once(const char *call, char **names)
     for (int k = 0; k < 4; k++)
         files[k] = load(names[k]);
     lbk_fault fault = (strcmp(call, "lbk_read") == 0 ? lbk_read : lbk_read_published)(
-        &table, files[0].at, files[0].size, files[1].at, files[1].size, files[2].at, files[2].size, files[3].at, files[3].size);
+        &table, files[0].at, files[0].size, files[1].at, files[1].size, files[2].at, files[2].size, files[3].at,
+        files[3].size);
     for (int k = 0; k < 4; k++)
         free(files[k].at);
     return fault.cause != LBK_CAUSE_NONE;

@@ -96,8 +96,8 @@ static int try_allocation(const bytes *files, unsigned long number)
 {
     memset(&table, 0xA5, sizeof table);
     allocations = refusals = 0, held = 0, refused_number = number, is_counting = 1;
-    lbk_fault fault = lbk_read(&table, files[0].at, files[0].size, files[1].at, files[1].size, files[2].at, files[2].size,
-                               files[3].at, files[3].size);
+    lbk_fault fault = lbk_read(&table, files[0].at, files[0].size, files[1].at, files[1].size, files[2].at,
+        files[2].size, files[3].at, files[3].size);
     is_counting = 0;
     told("all memory is given back", number, held == 0);
     if (refusals == 0) {
@@ -156,10 +156,12 @@ static void try_others(void)
     is_counting = 0;
     told("the other calls take no memory", 0, allocations == 0);
     told("they give what they give", 0,
-         count == 4 && cut_into == 4 && claim.text[0] != 0 && remedy.text[0] != 0 && fed.count == 4 && positions == 4 && in_units == 2 && in_scalars == 2 && at_units == 4 && at_scalars == 4 && places == size + 1
+         count == 4 && cut_into == 4 && claim.text[0] != 0 && remedy.text[0] != 0 && fed.count == 4 && positions == 4
+             && in_units == 2 && in_scalars == 2 && at_units == 4 && at_scalars == 4 && places == size + 1
              && of_text == 4 && pieces == 1 && cut == 6 && cut_before == 6 && safe >= cut_before
              && packed_size > 0 && unpacked == LBK_CAUSE_NONE && says.text[0] != 0 && is_cut
-             && label.text[0] != 0 && class.text[0] != 0 && cause.text[0] != 0 && file.text[0] != 0 && version.text[0] != 0 && whole);
+             && label.text[0] != 0 && class.text[0] != 0 && cause.text[0] != 0 && file.text[0] != 0
+             && version.text[0] != 0 && whole);
 }
 
 int main(int count, char **words)

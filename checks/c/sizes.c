@@ -73,8 +73,8 @@ static lbk_table table;
 
 static lbk_fault read_files(const bytes *files)
 {
-    return lbk_read(&table, files[0].at, files[0].size, files[1].at, files[1].size, files[2].at, files[2].size, files[3].at,
-                    files[3].size);
+    return lbk_read(&table, files[0].at, files[0].size, files[1].at, files[1].size, files[2].at, files[2].size,
+        files[3].at, files[3].size);
 }
 
 static void free_files(bytes *files)
@@ -120,8 +120,10 @@ int main(int count, char **word)
         else
             is_right = fault.cause == LBK_CAUSE_OVERLAP && fault.file == file && fault.line == lines_of(files[twice]);
         if (!is_right)
-            printf("files of %zu, %zu, %zu and %zu bytes, of which file %u has a row twice: file %u, line %u: %s\n", files[0].size,
-                   files[1].size, files[2].size, files[3].size, file, fault.file, fault.line, lbk_cause_text(fault.cause).text);
+            printf("files of %zu, %zu, %zu and %zu bytes, of which file %u has a row twice: file %u, line %u: %s\n",
+                files[0].size,
+                   files[1].size, files[2].size, files[3].size, file, fault.file, fault.line,
+                   lbk_cause_text(fault.cause).text);
         told("files of drawn sizes are taken, and a row that comes twice is refused at its line", is_right);
         free_files(files);
     }

@@ -335,8 +335,10 @@ int main(int count, char **word)
         uint64_t (*go)(const char *, size_t);
     } calls[] = {
         {"lbk_chunks", go_chunks},  {"lbk_chunks-100", go_overlaps},
-        {"lbk_breaks", go_first},   {"lbk_breaks-2", go_second}, {"lbk_breaks-8", go_short}, {"lbk_breaks-60", go_lines},
-        {"lbk_feed", go_feed},      {"lbk_feed-8", go_feed_short}, {"lbk_positions", go_positions}, {"lbk_marks", go_marks},
+        {"lbk_breaks", go_first},   {"lbk_breaks-2", go_second}, {"lbk_breaks-8", go_short},
+        {"lbk_breaks-60", go_lines},
+        {"lbk_feed", go_feed},      {"lbk_feed-8", go_feed_short}, {"lbk_positions", go_positions},
+        {"lbk_marks", go_marks},
         {"lbk_words", go_words},    {"lbk_cut", go_cuts},        {"lbk_cut_before", go_cuts_before},
         {"lbk_breaks_utf16", go_breaks_16}, {"lbk_breaks_utf32", go_breaks_32},
         {"lbk_positions_utf16", go_positions_16}, {"lbk_positions_utf32", go_positions_32},

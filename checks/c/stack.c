@@ -47,15 +47,15 @@ static void *do_nothing(void *none)
 
 static void *do_read(void *none)
 {
-    fault = lbk_read(&table, files[0].at, files[0].size, files[1].at, files[1].size, files[2].at, files[2].size, files[3].at,
-                     files[3].size);
+    fault = lbk_read(&table, files[0].at, files[0].size, files[1].at, files[1].size, files[2].at, files[2].size,
+        files[3].at, files[3].size);
     return none;
 }
 
 static void *do_read_published(void *none)
 {
-    fault = lbk_read_published(&table, files[0].at, files[0].size, files[1].at, files[1].size, files[2].at, files[2].size,
-                               files[3].at, files[3].size);
+    fault = lbk_read_published(&table, files[0].at, files[0].size, files[1].at, files[1].size, files[2].at,
+        files[2].size, files[3].at, files[3].size);
     return none;
 }
 
@@ -67,7 +67,8 @@ static void *do_names(void *none)
     for (uint32_t scalar = 0; scalar < LBK_CODES; scalar += 7)
         total += lbk_class(&table, scalar).text[0] != 0;
     for (uint32_t k = 0; k < 256; k++)
-        total += (lbk_cause_text(k).text[0] != 0) + (lbk_file_name(k).text[0] != 0) + (lbk_claim_text(k, files[0].at, files[0].size).text[0] != 0);
+        total += (lbk_cause_text(k).text[0] != 0) + (lbk_file_name(k).text[0] != 0)
+            + (lbk_claim_text(k, files[0].at, files[0].size).text[0] != 0);
     total += lbk_remedy_text().text[0] != 0;
     total += lbk_version().text[0] != 0;
     return none;
@@ -327,7 +328,8 @@ int main(int count, char **word)
     run_in_thread("lbk_read", do_read);
     told("lbk_read takes the files", fault.cause == LBK_CAUSE_NONE);
     run_in_thread("lbk_read_published", do_read_published);
-    told("lbk_read_published takes them too, or not", fault.cause == LBK_CAUSE_NONE || fault.cause == LBK_CAUSE_NOT_PUBLISHED);
+    told("lbk_read_published takes them too, or not", fault.cause == LBK_CAUSE_NONE
+        || fault.cause == LBK_CAUSE_NOT_PUBLISHED);
     stack_size = small;
     run_in_thread("lbk_check", do_check);
     told("lbk_check holds of the table", total == 1);

@@ -14,7 +14,8 @@
 enum { MOST = 4000, WIDEST = 800, HEIGHT = 100 };
 
 /* No character is as narrow as the frames' widths differ. */
-static const char head[] = "[Script Info]\nScriptType: v4.00+\nWrapStyle: 1\nPlayResX: %d\nPlayResY: 100\n\n[V4+ Styles]\n"
+static const char head[] =
+    "[Script Info]\nScriptType: v4.00+\nWrapStyle: 1\nPlayResX: %d\nPlayResY: 100\n\n[V4+ Styles]\n"
                            "Format: Name, Fontname, Fontsize, MarginL, MarginR, MarginV, Alignment, Encoding\n"
                            "Style: Default,DejaVu Sans,10,0,0,0,7,1\n\n[Events]\n"
                            "Format: Layer, Start, End, Style, Text\nDialogue: 0,0:00:00.00,0:00:10.00,Default,%s\n";

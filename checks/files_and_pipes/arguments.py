@@ -33,7 +33,8 @@ MISTAKES = [
     ("show", "--limit=0", INVALID.format("0", LIMIT_OPTION, "0 is not in 1..=16777216"), False),
     ("show", "--limit=", INVALID.format("", LIMIT_OPTION, "cannot parse integer from empty string"), False),
     ("show", "--limit １", INVALID.format("１", LIMIT_OPTION, "invalid digit found in string"), False),
-    ("mark", "--from 4294967296", INVALID.format("4294967296", FROM_OPTION, "4294967296 is not in 0..=4294967295"), False),
+    ("mark", "--from 4294967296", INVALID.format("4294967296", FROM_OPTION, "4294967296 is not in 0..=4294967295"),
+        False),
     ("segment", "--limit", VALUE.format(LIMIT_OPTION), False),
     ("replay", "--ucd", VALUE.format("--ucd <FOLDER>"), False),
     ("mark", "--names --names", TWICE.format("--names"), True),
@@ -45,7 +46,8 @@ MISTAKES = [
     ("show", "--limit=1e6", INVALID.format("1e6", LIMIT_OPTION, "invalid digit found in string"), False),
     ("mark", "--limit -1", UNEXPECTED.format("-1"), True),
     ("mark", "--no\x1b[1m", UNEXPECTED.format("--no\\u{1b}[1m"), True),
-    ("mark", "--from=\u2066\u061c1", INVALID.format("\\u{2066}\\u{61c}1", FROM_OPTION, "invalid digit found in string"), False),
+    ("mark", "--from=\u2066\u061c1", INVALID.format("\\u{2066}\\u{61c}1", FROM_OPTION, "invalid digit found in string"),
+        False),
     ("mark", "--version", UNEXPECTED.format("--version"), True),
     ("segment", "-é", UNEXPECTED.format("-é"), True),
     ("show", "--from 5 --to 4", "--from <BYTE> is greater than --to <BYTE>", True),
@@ -133,7 +135,8 @@ def all_at_once(place):
     shows = "× 0061 × 2019 × 0301 × 002C !\t# 2 15b 9 13 3\n".encode()
     for task, out in (("show", shows), ("mark", quoted + b"\n")):
         place.row(f"{task}: all arguments", words_of(task, names, more), quoted, 1, b"", long.encode())
-        place.row(f"{task}: all in another order", [task, *more, *words_of("", names)[1:]], quoted, 1, b"", long.encode())
+        place.row(f"{task}: all in another order", [task, *more, *words_of("", names)[1:]], quoted, 1, b"",
+            long.encode())
         for limit in ("7", "65536"):
             given = words_of(task, names, ["--limit", limit, "--profile", "2"])
             place.row(f"{task}: all arguments, limit {limit}", given, quoted, 0, out)

@@ -35,7 +35,8 @@ def run(place):
         for what, text in TEXTS.items():
             place.write("text", text)
             try_each(place, env, f"{task}: {what}", words_of(task, more=own), text)
-            try_each(place, env, f"{task}: {what}, as a file between others", words_of(task, more=[*own, "none", "text", "-"]), text)
+            try_each(place, env, f"{task}: {what}, as a file between others",
+                words_of(task, more=[*own, "none", "text", "-"]), text)
             if task != "replay":
                 words = words_of(task, more=[*own, "--from", "1", "--to", "9000"])
                 try_each(place, env, f"{task}: a range of {what}", words, text)
@@ -46,4 +47,5 @@ def try_each(place, env, what, words, text):
     wanted = run_program([place.program, *words], text, cwd=place.folder)
     ended = run_program([place.program, *words], text, cwd=place.folder, env=env)
     same = wanted.status in (0, 1, 3) and ended == wanted
-    place.tally.tell(f"{what}: no call of no bytes", None if same else f"status {ended.status}, and {wanted.status} without the library")
+    place.tally.tell(f"{what}: no call of no bytes",
+        None if same else f"status {ended.status}, and {wanted.status} without the library")

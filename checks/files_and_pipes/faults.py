@@ -4,7 +4,8 @@ from checks.files_and_pipes.place import LIMIT, words_of
 
 
 def segments(rows):
-    return b"".join(b"P %d %d\nS %d %d Must 5\nW %d %d\n" % (k, k + 2, k, k + 2, k, k + 1) for k in range(0, 2 * rows, 2))
+    return b"".join(b"P %d %d\nS %d %d Must 5\nW %d %d\n" % (k, k + 2, k, k + 2, k, k + 1)
+        for k in range(0, 2 * rows, 2))
 
 
 def run(place):

@@ -52,7 +52,8 @@ def of_segments(place, greatest):
     text = b"".join(b"a " * pairs + b"\n" for pairs in drawn)
     lines = (segment_lines(start, pairs, k + 1 == len(drawn)) for k, (start, pairs) in enumerate(zip(starts, drawn)))
     out = "".join(line for part in lines for line in part).encode()
-    place.row(f"segment: paragraphs of {len(drawn)} numbers of segments", words_of("segment", more=greatest), text, 0, out)
+    place.row(f"segment: paragraphs of {len(drawn)} numbers of segments", words_of("segment", more=greatest), text, 0,
+        out)
 
 
 def of_bytes(place, greatest):

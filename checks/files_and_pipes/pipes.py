@@ -104,7 +104,8 @@ def opened_once(place):
     (place.folder / "folder").mkdir()
     for task in ("mark", "show", "segment", "chunk", "replay"):
         for what, names, wanted in OPENED_OF:
-            place.tally.equal(f"{task}, {what}: what is opened", opened(place, words_of(task, names, [*REQUIRED.get(task, []), "text"]), ["."]), wanted)
+            place.tally.equal(f"{task}, {what}: what is opened",
+                opened(place, words_of(task, names, [*REQUIRED.get(task, []), "text"]), ["."]), wanted)
     folder = place.folder / "made-up"
     for name in OF_FOLDER:
         (folder / name).parent.mkdir(parents=True, exist_ok=True)

@@ -32,7 +32,8 @@ def run(place):
         modes[3] &= ~termios.ECHO
         termios.tcsetattr(slave, termios.TCSANOW, modes)
         os.write(master, typed)
-        ran = subprocess.run([place.program, *words], stdin=slave, capture_output=True, cwd=place.folder, check=False, timeout=60)
+        ran = subprocess.run([place.program, *words], stdin=slave, capture_output=True, cwd=place.folder, check=False,
+            timeout=60)
         os.close(slave)
         os.close(master)
         place.tally.equal(f"on a terminal: {what}", (ran.returncode, ran.stdout, ran.stderr), (status, out, err))

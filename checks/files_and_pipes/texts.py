@@ -41,13 +41,15 @@ def run(place):
         ("a missing one", ["one", "none", "two"], b"a b\ncd\n", MISSING.format("none")),
         ("none but missing ones", ["none", ""], b"", MISSING.format("none") + MISSING.format("")),
         ("a folder", ["folder", "one"], b"a b\n", "lbk: folder: cannot be read: is a directory\n"),
-        ("a missing one and a folder", ["none", "folder"], b"", MISSING.format("none") + "lbk: folder: cannot be read: is a directory\n"),
+        ("a missing one and a folder", ["none", "folder"], b"",
+            MISSING.format("none") + "lbk: folder: cannot be read: is a directory\n"),
         ("ill-formed text", ["bad", "two"], b"cd\n", "lbk: bad: byte 3: invalid UTF-8\n"),
         ("a thousand", ["two"] * 1000, b"cd\n" * 1000, ""),
         ("a thousand missing ones", ["none"] * 1000, b"", MISSING.format("none") * 1000),
     ):
         row = f"texts: {what}"
-        place.row(row, words_of("mark", more=names), b"in", 1 if err else 0, out.replace(b"a b", "a ÷b".encode()), err.encode())
+        place.row(row, words_of("mark", more=names), b"in", 1 if err else 0, out.replace(b"a b", "a ÷b".encode()),
+            err.encode())
     # (a read takes at most 4,096 bytes)
     words = words_of("mark", more=["--to", "1", "-", "-"])
     place.row("texts: a range of standard input twice", words, b"a\n" * 2048 + b"b\nc\n", 0, b"a\nb\n")
@@ -55,7 +57,8 @@ def run(place):
     err = b"lbk: hidden: cannot be read: permission denied\n"
     place.row("texts: one without leave", words_of("mark", more=["hidden", "two"]), b"", 1, b"cd\n", err, user)
     pipes = {place.folder / "pipe": (b"ab\ncd", 1)}
-    over_pipes(place, "texts: one from a pipe", words_of("mark", more=["pipe", "one"]), pipes, b"", "ab\ncd\na ÷b\n".encode())
+    over_pipes(place, "texts: one from a pipe", words_of("mark", more=["pipe", "one"]), pipes, b"",
+        "ab\ncd\na ÷b\n".encode())
     shrunk(place)
     closed(place)
     begun(place)
@@ -125,19 +128,22 @@ def hints(place):
         UTF_16.format(name, 0) if name in ("little", "big") else NOT_UTF_8.format(name, 3) + "\n"
         for name in ("bad", "little", "bad", "big", "bad")
     )
-    place.row("texts: UTF-16 between others", words_of("mark", more=["bad", "little", "bad", "big", "bad"]), b"", 1, b"", err.encode())
+    place.row("texts: UTF-16 between others", words_of("mark", more=["bad", "little", "bad", "big", "bad"]), b"", 1,
+        b"", err.encode())
     place.write("tests", "× 0061 × 0062 !\n".encode())
     told = b"R 1 16\nT 1 0 0 1\n"
     place.row("texts: test lines with !", words_of("replay", more=["tests"]), b"", 3, told, KINDS.encode())
     # (a read takes at most 4,096 bytes)
     place.write("tests", b"#\n" * 3_000 + "× 0061 × 0062 !\n".encode() + b"#\n" * 3_000)
     told = b"R 3001 16\nT 1 0 0 1\n"
-    place.row("texts: test lines with ! in one read of some", words_of("replay", more=["tests"]), b"", 3, told, KINDS.encode())
+    place.row("texts: test lines with ! in one read of some", words_of("replay", more=["tests"]), b"", 3, told,
+        KINDS.encode())
     place.write("plain", b"x\n")
     place.row("texts: refused test lines without !", words_of("replay", more=["plain"]), b"", 3, b"R 1 0\nT 1 0 0 1\n")
     place.write("refused", "× D800 !\n".encode())
     told = b"R 1 7\nT 1 0 0 1\n"
-    place.row("texts: refused test lines with !, by --kinds", words_of("replay", more=["--kinds", "refused"]), b"", 3, told)
+    place.row("texts: refused test lines with !, by --kinds", words_of("replay", more=["--kinds", "refused"]), b"", 3,
+        told)
     place.write("differs", "× 0061 ÷ 0062 ÷ # !\n".encode())
     told = "D 1 1 ÷ × 28\nT 1 0 1 0\n".encode()
     place.row("texts: test lines with ! that are not refused", words_of("replay", more=["differs"]), b"", 3, told)
@@ -148,13 +154,15 @@ def titled(place):
     place.write("a\u202eb", b"ef\n")
     of_input = b"==> standard input <==\nin\n"
     for what, names, out, err in (
-        ("standard input between files", ["two", "-", "two"], b"==> two <==\ncd\n" + of_input + b"==> two <==\ncd\n", ""),
+        ("standard input between files", ["two", "-", "two"], b"==> two <==\ncd\n" + of_input + b"==> two <==\ncd\n",
+            ""),
         ("no file", [], of_input, ""),
         ("a missing one", ["none", "two"], b"==> two <==\ncd\n", MISSING.format("none")),
         ("ill-formed text", ["bad", "two"], b"==> bad <==\n==> two <==\ncd\n", "lbk: bad: byte 3: invalid UTF-8\n"),
         ("a name that turns a line", ["a\u202eb"], b"==> a\\u{202e}b <==\nef\n", ""),
     ):
-        place.row(f"--names: {what}", words_of("mark", more=["--names", *names]), b"in", 1 if err else 0, out, err.encode())
+        place.row(f"--names: {what}", words_of("mark", more=["--names", *names]), b"in", 1 if err else 0, out,
+            err.encode())
 
 
 def appended(place):
@@ -178,7 +186,8 @@ def appended(place):
         command = f"ulimit -f 1000; exec ./lbk {' '.join(words_of('mark'))} {names} {redirected}"
         ran = run_program(["bash", "-c", command], cwd=place.folder)
         wrote = (place.folder / redirected.split()[-1]).read_bytes()
-        place.tally.equal(f"the output is a text, too: {what}", (ran.status, wrote, ran.err), (1 if err else 0, out, err.encode()))
+        place.tally.equal(f"the output is a text, too: {what}", (ran.status, wrote, ran.err),
+            (1 if err else 0, out, err.encode()))
 
 
 def closed(place):
@@ -202,7 +211,8 @@ def shrunk(place):
     whole = b"ab\n" * 1_000_000
     place.write("long", whole)
     words = [place.program, *words_of("mark", more=["long", "two"])]
-    with subprocess.Popen(words, stdout=subprocess.PIPE, stderr=subprocess.PIPE, bufsize=0, cwd=place.folder) as program:
+    with subprocess.Popen(words, stdout=subprocess.PIPE, stderr=subprocess.PIPE, bufsize=0,
+        cwd=place.folder) as program:
         front = program.stdout.read(1)
         os.truncate(place.folder / "long", 0)
         out, err = program.communicate()

@@ -12,7 +12,8 @@ MOST_SECONDS = 1.0  # for four times as many
 def compared(hostile, what, words, word, few, status):
     """Runs over so many of a word and over four times as many, and returns the second."""
     small, great, is_slow = side_by_side(lambda count: Long([*words, *[word] * count], []), few)
-    fault = None if (small.status, great.status) == (status, status) else f"status {small.status} and {great.status}, not {status}"
+    fault = None if (small.status, great.status) == (status,
+        status) else f"status {small.status} and {great.status}, not {status}"
     if fault is None and is_slow:
         fault = TOO_SLOW
     hostile.tally.tell(f"{what} {word}: {small.seconds:.2f} s of {few}, {great.seconds:.2f} s of {4 * few}", fault)

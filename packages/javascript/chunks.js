@@ -20,14 +20,16 @@ function limitsOf({ most = 500, words = Infinity, least = Math.floor(most / 2), 
   check(isWithin(most, 1, Infinity), "most", "a whole number of 1 or more", most);
   check(words === Infinity || isWithin(words, 1, Infinity), "words", "a whole number of 1 or more, or Infinity", words);
   check(isWithin(least, 0, most), "least", `a whole number from 0 to most (${most})`, least);
-  check(isWithin(overlap, 0, Math.floor(most / 2)), "overlap", `a whole number from 0 to half of most (${most})`, overlap);
+  check(isWithin(overlap, 0, Math.floor(most / 2)), "overlap", `a whole number from 0 to half of most (${most})`,
+    overlap);
   return { most, words, least, overlap };
 }
 
 /** The breaks outside words, in order, and how many words come before each. */
 function cutsOf({ at, kind, rule }, { start, end }) {
   const column = (Kind) => new Kind(at.length);
-  const cuts = { at: column(Uint32Array), words: column(Uint32Array), kind: column(Uint8Array), rule: column(Uint8Array) };
+  const cuts = { at: column(Uint32Array), words: column(Uint32Array), kind: column(Uint8Array),
+    rule: column(Uint8Array) };
   let [count, words] = [0, 0];
   for (let k = 0; k < at.length; k++) {
     while (words < end.length && end[words] <= at[k]) words++;
@@ -76,7 +78,8 @@ class Cutting {
     if (this.#limits.overlap === 0 || end + 1 === count) return end;
     for (let k = first; k < end; k++) {
       const twice = at[end] - at[k];
-      if (twice <= this.#limits.overlap && 2 * twice <= at[end] - start && this.#fits(at[k], words[k], end + 1)) return k;
+      if (twice <= this.#limits.overlap && 2 * twice <= at[end] - start
+        && this.#fits(at[k], words[k], end + 1)) return k;
     }
     return end;
   }
@@ -88,7 +91,8 @@ class Cutting {
     for (let [first, within] = [0, 0]; first < count; ) {
       const end = this.#endOf(here, first);
       const alone = !this.#fits(here.start, here.words, end);
-      yield { start: here.start, end: at[end], words: words[end] - here.words, kind: kind[end], rule: rule[end], alone };
+      yield { start: here.start, end: at[end], words: words[end] - here.words, kind: kind[end], rule: rule[end],
+        alone };
       const next = this.#startBehind(here.start, within, end);
       here = { start: at[next], words: words[next], told: at[end] };
       [first, within] = [end + 1, next + 1];
@@ -122,7 +126,8 @@ export class Chunker {
 
   *#rows(text, cutting) {
     for (const { start, end, words, kind, rule, alone } of cutting.chunks()) {
-      yield { start, end, text: piece(text, start, end), words, kind: KINDS[kind], rule: this.#table.ruleLabel(rule), alone };
+      yield { start, end, text: piece(text, start, end), words, kind: KINDS[kind], rule: this.#table.ruleLabel(rule),
+        alone };
     }
   }
 }

@@ -63,7 +63,8 @@ class Archive {
     const entry = this.#entries.get(name);
     if (!entry) throw new Error(`${join(this.path, name)}: no such file`);
     return this.#guarded(() => {
-      const from = [26, 28].reduce((sum, field) => sum + this.#bytes.readUInt16LE(entry.start + field), entry.start + LOCAL_SIZE);
+      const from = [26, 28].reduce((sum, field) => sum + this.#bytes.readUInt16LE(entry.start + field),
+        entry.start + LOCAL_SIZE);
       const packed = this.#bytes.subarray(from, from + entry.size);
       return entry.method === DEFLATED ? inflateRawSync(packed) : packed;
     });

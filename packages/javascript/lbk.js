@@ -108,7 +108,8 @@ export class Table {
   }
 
   classOf(scalar) {
-    if (!Number.isInteger(scalar) || scalar < 0 || scalar > 0x10ffff) throw new RangeError("a code point must be from 0 to 0x10FFFF");
+    if (!Number.isInteger(scalar) || scalar < 0
+      || scalar > 0x10ffff) throw new RangeError("a code point must be from 0 to 0x10FFFF");
     return this.#guarded(() => this.#machine.classLabel(scalar));
   }
 

@@ -176,7 +176,8 @@ export class Machine {
         continue;
       }
       const isAll = from + loaded === text.length;
-      const window = { call: inUnits ? "lbk_breaks_utf16" : "lbk_breaks", from, size: loaded, isLast: isAll && !goesOn };
+      const window = { call: inUnits ? "lbk_breaks_utf16" : "lbk_breaks", from, size: loaded,
+        isLast: isAll && !goesOn };
       const count = this.#windowBreaks(window, room, columns);
       if (this.hasEnded) return { columns: columns.finish(), taken: text.length, state: this.savedState };
       const taken = this.dropTaken();

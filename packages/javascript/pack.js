@@ -23,12 +23,14 @@ function kindsOfValues(packed, files) {
   const kinds = kindsOf(packed);
   const byValues = new Map([...runsOfValues(files)].map(({ values, first }) => [values, kinds[first]]));
   const known = Buffer.concat([packed.subarray(0, HEAD_SIZE), Buffer.from(JSON.stringify([...byValues]))]);
-  if (Buffer.compare(packed, packedFrom(files, known)) !== 0) throw new RangeError("the table was not made from these files");
+  if (Buffer.compare(packed, packedFrom(files,
+    known)) !== 0) throw new RangeError("the table was not made from these files");
   return known;
 }
 
 const [from, to, ...names] = process.argv.slice(2);
-if (to === undefined || ![0, 4].includes(names.length)) fail("usage: node pack.js TABLE PACKED [FILE FILE FILE FILE]", 2);
+if (to === undefined || ![0, 4].includes(names.length)) fail("usage: node pack.js TABLE PACKED [FILE FILE FILE FILE]",
+  2);
 try {
   const table = statSync(from).isDirectory() ? await Table.fromFiles(from) : await Table.fromBytes(from);
   const packed = table.pack();

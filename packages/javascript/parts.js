@@ -75,7 +75,8 @@ export class Stream {
     this.#before += taken;
     this.#state = state;
     const { kind, rule } = columns;
-    return Array.from(columns.at, (at, k) => ({ at: before + at, kind: KINDS[kind[k]], rule: this.#table.ruleLabel(rule[k]) }));
+    return Array.from(columns.at, (at, k) =>
+      ({ at: before + at, kind: KINDS[kind[k]], rule: this.#table.ruleLabel(rule[k]) }));
   }
 }
 

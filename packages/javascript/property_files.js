@@ -7,7 +7,8 @@
 import { CODES, HEAD_SIZE, packedOf } from "./packed_table.js";
 
 /** The paths of the files in a folder, in the order of the arguments. */
-export const FILES = ["LineBreak.txt", "EastAsianWidth.txt", "extracted/DerivedGeneralCategory.txt", "emoji/emoji-data.txt"];
+export const FILES = ["LineBreak.txt", "EastAsianWidth.txt", "extracted/DerivedGeneralCategory.txt",
+  "emoji/emoji-data.txt"];
 
 /** What a file of any version begins with, by its name. */
 const NAMES = ["# LineBreak-", "# EastAsianWidth-", "# DerivedGeneralCategory-", "# emoji-data"];

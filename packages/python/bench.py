@@ -32,7 +32,8 @@ ROUNDS = 9
 
 
 class State(ctypes.Structure):
-    _fields_ = [("at", ctypes.c_size_t), ("row", ctypes.c_uint16), ("profile", ctypes.c_uint8), ("ended", ctypes.c_uint8)]
+    _fields_ = [("at", ctypes.c_size_t), ("row", ctypes.c_uint16), ("profile", ctypes.c_uint8),
+        ("ended", ctypes.c_uint8)]
 
 
 class CCall:
@@ -151,7 +152,8 @@ def main():
     texts = {name: (data * (SIZE // len(data) + 1))[:SIZE] for name, data in texts.items()}
     print(f"lbk {lbk.__version__}, Python {sys.version.split()[0]}, {os.cpu_count()} processors")
     measure_short(table)
-    head("10 MB", "C call, MB/s", "columns of bytes (share of C)", "columns of a str", "PyICU", "`Break`, million/s", "segments of a str, million/s", "`Stream`, pieces of 4 KB, million/s")
+    head("10 MB", "C call, MB/s", "columns of bytes (share of C)", "columns of a str", "PyICU", "`Break`, million/s",
+        "segments of a str, million/s", "`Stream`, pieces of 4 KB, million/s")
     for name, data in texts.items():
         measure_long(table, c_call, name, data)
     measure_threads(table, *next(iter(texts.items())))

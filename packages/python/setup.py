@@ -31,9 +31,11 @@ CALLS = Path("src", "calls")
 # The classes of the package that are enumerations of lbk.h: a class, its base, the field that the
 # enumeration's comment names, what its constants begin with, and its docstring.
 CLASSES = (
-    ("Rule", "Labelled", "rule", "LBK_RULE_", "A rule of UAX #14, section 6. As a str it is its label in the standard, as 8a."),
+    ("Rule", "Labelled", "rule", "LBK_RULE_",
+        "A rule of UAX #14, section 6. As a str it is its label in the standard, as 8a."),
     ("File", "enum.IntEnum", "file", "LBK_", "Which of the four property files a `Fault` is in."),
-    ("Cause", "enum.IntEnum", "cause", "LBK_CAUSE_", "Why a property file is refused. The text of a `Fault` says it in words."),
+    ("Cause", "enum.IntEnum", "cause", "LBK_CAUSE_",
+        "Why a property file is refused. The text of a `Fault` says it in words."),
 )
 
 
@@ -69,7 +71,8 @@ class BuildPy(build_py):
         folder.mkdir(parents=True, exist_ok=True)
         (folder / "_numbers.py").write_text(numbers_module(), encoding="utf-8")
         stub = (CALLS / "calls.pyi").read_text(encoding="utf-8") + "\n"
-        (folder / "_calls.pyi").write_text(stub + "".join(f"{name}: int\n" for name in constants(HEADER)), encoding="utf-8")
+        (folder / "_calls.pyi").write_text(stub + "".join(f"{name}: int\n" for name in constants(HEADER)),
+            encoding="utf-8")
 
 
 class BuildExt(build_ext):
@@ -117,7 +120,8 @@ setup(
             depends=[str(file) for file in sorted(CALLS.glob("*.h"))] + [str(PREFIX / "lib" / "liblbk.a")],
             define_macros=[("Py_LIMITED_API", "0x030b0000")],
             py_limited_api=True,
-            extra_compile_args=["-std=c11", "-O3", "-Wall", "-Wextra", "-Werror=implicit-function-declaration", "-fvisibility=hidden"],
+            extra_compile_args=["-std=c11", "-O3", "-Wall", "-Wextra", "-Werror=implicit-function-declaration",
+                "-fvisibility=hidden"],
             extra_objects=[str(PREFIX / "lib" / "liblbk.a")],
             extra_link_args=["-Wl,--exclude-libs,ALL"],
         )

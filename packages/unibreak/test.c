@@ -80,7 +80,8 @@ static void try_scalars(const utf32_t *code, size_t count, const char *wanted)
 
 static void try_marks(void)
 {
-    static const utf32_t text[] = {'a', 'b', ' ', 'c', '\r', '\n', 0x4E00, 0x1F600, 'd'}, codes[] = {'a', ' ', '\n', '\r', 0x4E00,
+    static const utf32_t text[] = {'a', 'b', ' ', 'c', '\r', '\n', 0x4E00, 0x1F600, 'd'},
+    codes[] = {'a', ' ', '\n', '\r', 0x4E00,
         0x1F600, 0xAB, 0xBB, '(', ')', 0x301, 0x200D, '1', ',', 0x1F1E6, 0x5D0, '-'};
     try_scalars(text, 9, "\2\2\1\2\2\0\1\1\0");
     try_scalars(text, 0, NULL);

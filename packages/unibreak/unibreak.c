@@ -73,8 +73,8 @@ static bytes find_file(const char *name, char path[PATH_SIZE])
 /* The table of the four files of a folder, or NULL after an error message. */
 static const lbk_table *read_files(bytes *files)
 {
-    static const char *const names[FILES] = {"LineBreak.txt", "EastAsianWidth.txt", "extracted/DerivedGeneralCategory.txt",
-        "emoji/emoji-data.txt"};
+    static const char *const names[FILES] = {"LineBreak.txt", "EastAsianWidth.txt",
+        "extracted/DerivedGeneralCategory.txt", "emoji/emoji-data.txt"};
     static const char remedy[] = "install the files of Unicode 15.0 (Debian: unicode-data)";
     static lbk_table read;
     char path[PATH_SIZE];

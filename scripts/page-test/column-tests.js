@@ -55,7 +55,8 @@ function asLine(text) {
 
 /** The same places in a layout of breaks. Where a line is as wide as the room but for rounding, it is as it is `shown`. */
 function laidOut(text, breaks, widthOf, room, shown) {
-  const firstSeen = (from, to = text.length) => [...Array(to - from).keys()].map((k) => from + k).find((it) => isSeen(text[it]));
+  const firstSeen = (from, to = text.length) => [...Array(to - from).keys()].map((k) => from + k).find((it) =>
+    isSeen(text[it]));
   const isTooWide = (start, end, before) => {
     const excess = widthOf(asLine(text.slice(start, end))) - room;
     return Math.abs(excess) < ROUNDING ? shown.includes(firstSeen(before)) : excess > 0;
@@ -109,12 +110,14 @@ export async function tryColumns(table) {
 async function tryDifferences(page) {
   await follow(page, "one two three four five six seven eight nine ten");
   change(page, "width", "120", "input");
-  equal("both columns have the same lines of plain English", page.find("differences").textContent, "Both columns have the same lines.");
+  equal("both columns have the same lines of plain English", page.find("differences").textContent,
+    "Both columns have the same lines.");
   await follow(page, TEXTS["soft hyphens"]);
   equal("and of words with soft hyphens", page.find("differences").textContent, "Both columns have the same lines.");
   say("the columns have several lines", page.find("ours").getClientRects()[0].height > 60 ? "" : "one line");
   // A browser takes a next line (NEL) for no end of a line.
   await follow(page, "ab\u0085cd ef");
   const told = page.find("differences").textContent;
-  equal("where lines differ is said in words", told, "Only with these breaks, lines start with “cd ef” (offset 3). Offsets count UTF-16 units.");
+  equal("where lines differ is said in words", told,
+    "Only with these breaks, lines start with “cd ef” (offset 3). Offsets count UTF-16 units.");
 }

@@ -13,7 +13,8 @@ const { signPlaces } = await load("LBK_PAGE", "places.js");
 
 const table = await Table.fromBytes(process.env.LBK_TABLE);
 const PIECES = [
-  "a", "b ", " ", "\n", "\r", "\r\n", "\u2028", "\u0085", "\v", "«", "\u0301", "日", "1", ",", "(", "😀", "\u200d", "🇫🇷", "\ud800", "\udc00",
+  "a", "b ", " ", "\n", "\r", "\r\n", "\u2028", "\u0085", "\v", "«", "\u0301", "日", "1", ",", "(", "😀", "\u200d", "🇫🇷",
+    "\ud800", "\udc00",
 ];
 
 /** Numbers from 0 to below a most one, the same in each run. */
@@ -99,7 +100,8 @@ test("a passage has the breaks of its part of the text", () => {
 });
 
 test("white space at the end of a line counts for no width", () => {
-  assert.deepEqual(["ab  ", "ab\t", "ab\u3000", " a", "a\u00a0", "a\u00a0 ", "  ", "ab \r\n", "\n"].map(headLength), [2, 2, 2, 2, 2, 2, 0, 2, 0]);
+  assert.deepEqual(["ab  ", "ab\t", "ab\u3000", " a", "a\u00a0", "a\u00a0 ", "  ", "ab \r\n", "\n"].map(headLength),
+    [2, 2, 2, 2, 2, 2, 0, 2, 0]);
   const fits = (room) => (piece) => piece.length <= room;
   assert.deepEqual(lineStarts("aa bb cc", [3, 6, 8], fits(5)), [0, 2]);
   assert.deepEqual(lineStarts("aa bb cc", [3, 6, 8], fits(4)), [0, 1, 2]);
@@ -108,7 +110,8 @@ test("white space at the end of a line counts for no width", () => {
 
 /** Boxes of ten pixels from left to right in the order of some letters, given for each letter of a text. */
 function boxesOf(text, visual) {
-  return [...text].map((it) => ({ left: visual.indexOf(it) * 10, right: visual.indexOf(it) * 10 + 10, top: 0, bottom: 20, height: 20 }));
+  return [...text].map((it) => ({ left: visual.indexOf(it) * 10, right: visual.indexOf(it) * 10 + 10, top: 0,
+    bottom: 20, height: 20 }));
 }
 
 test("signs stand before their letters in either direction, no two in one place", () => {
@@ -118,7 +121,8 @@ test("signs stand before their letters in either direction, no two in one place"
   // (numbers go to the right between letters that go to the left)
   assert.deepEqual(xs("AB123CD", "DC123BA", "rtl"), [70, 60, 20, 30, 40, 50, 10, 0]);
   assert.deepEqual(xs("aABCb", "aCBAb", "ltr"), [0, 40, 30, 20, 10, 50]);
-  for (const [text, visual] of [["w AB-123_x", "w 123-BA_x"], ["ABC x", "CBA x"], ["a ABC", "a CBA"], ["1A2B3", "1A2B3"]]) {
+  for (const [text, visual] of [["w AB-123_x", "w 123-BA_x"], ["ABC x", "CBA x"], ["a ABC", "a CBA"],
+    ["1A2B3", "1A2B3"]]) {
     const found = xs(text, visual, "ltr");
     assert.equal(new Set(found).size, found.length, `${text}: ${found}`);
   }

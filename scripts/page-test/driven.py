@@ -93,14 +93,16 @@ class Driver:
     def __init__(self, port):
         self.root = f"http://127.0.0.1:{port}"
         args = ["--headless=new", "--no-sandbox", "--disable-gpu", "--disable-dev-shm-usage", "--window-size=900,900"]
-        wanted = {"browserName": "chrome", "goog:chromeOptions": {"args": args}, "goog:loggingPrefs": {"browser": "ALL", "performance": "ALL"}}
+        wanted = {"browserName": "chrome", "goog:chromeOptions": {"args": args},
+            "goog:loggingPrefs": {"browser": "ALL", "performance": "ALL"}}
         self.session = ""
         made = self.ask("POST", "", {"capabilities": {"alwaysMatch": wanted}})
         self.session = f"/{made['sessionId']}"
 
     def ask(self, method, path, given=None):
         data = None if given is None else json.dumps(given).encode()
-        asked = urllib.request.Request(f"{self.root}/session{self.session}{path}", data, {"Content-Type": "application/json"}, method=method)
+        asked = urllib.request.Request(f"{self.root}/session{self.session}{path}", data,
+            {"Content-Type": "application/json"}, method=method)
         with urllib.request.urlopen(asked, timeout=60) as found:
             return json.load(found)["value"]
 
@@ -129,7 +131,8 @@ class Driver:
                 actions.append({"type": {"down": "pointerDown", "up": "pointerUp"}[step], "button": 0})
             else:
                 actions.append({"type": "pointerMove", "duration": 50, "origin": step[0], "x": step[1], "y": step[2]})
-        self.ask("POST", "/actions", {"actions": [{"type": "pointer", "id": kind, "parameters": {"pointerType": kind}, "actions": actions}]})
+        self.ask("POST", "/actions", {"actions": [{"type": "pointer", "id": kind, "parameters": {"pointerType": kind},
+            "actions": actions}]})
         self.ask("DELETE", "/actions")
 
     def press(self, *keys):
@@ -151,7 +154,8 @@ def driver():
     """chromedriver, at a port that it chooses and writes, and a session of it."""
     child = subprocess.Popen(["chromedriver", "--port=0"], stdout=subprocess.PIPE, stderr=subprocess.DEVNULL, text=True)
     try:
-        port = next(line.rsplit(" ", 1)[1].strip(" .\n") for line in child.stdout if "started successfully on port" in line)
+        port = next(line.rsplit(" ", 1)[1].strip(" .\n") for line in child.stdout
+            if "started successfully on port" in line)
         made = Driver(port)
         try:
             yield made
@@ -169,10 +173,12 @@ def position(page, at):
 def try_pointers(count, page):
     page.point("mouse", (position(page, 3), 0, 0))
     said = page.text("#detail").partition(".")[0]
-    count.equal("chromedriver: hovering shows a position", said, "÷ A line may break between a space (U+0020) and “c” (U+0063)")
+    count.equal("chromedriver: hovering shows a position", said,
+        "÷ A line may break between a space (U+0020) and “c” (U+0063)")
     page.point("mouse", (page.find('.letter[data-at="3"]'), 0, 0))
     rules = page.run("return [...document.querySelectorAll('#detail .rule')].map((it) => it.textContent)")
-    count.equal("chromedriver: hovering over a letter shows the positions on both sides", rules, ["Rule LB18", "Rule LB28"])
+    count.equal("chromedriver: hovering over a letter shows the positions on both sides", rules,
+        ["Rule LB18", "Rule LB28"])
     page.point("touch", (position(page, 1), 0, 0), "down", "up")
     count.equal("chromedriver: a finger shows a position", page.text("#detail .rule"), "Rule LB28")
     page.run("document.getElementById('ours').scrollIntoView()")
@@ -201,7 +207,8 @@ def try_keys(count, page):
     wanted = ["example", "profile", "text", "positions", "copy", "link"]
     count.equal("chromedriver: keys reach each control in order", [it for it in reached if it in wanted], wanted)
     said = page.text("#done")
-    count.say("chromedriver: the page says whether it copied", "" if said.startswith(("The line copied", "This browser")) else said)
+    count.say("chromedriver: the page says whether it copied",
+        "" if said.startswith(("The line copied", "This browser")) else said)
 
 
 def try_names(count, page):
@@ -212,9 +219,11 @@ def try_names(count, page):
     unnamed = [role for role, name in rows if role in ASKS_A_NAME and not name.strip()]
     count.equal("chromedriver: what a screen reader reads has names", unnamed, [])
     seen = {it: roles.count(it) for it in ("main", "textbox", "listbox", "slider", "button")}
-    count.equal("chromedriver: a screen reader finds each control", seen, {"main": 1, "textbox": 1, "listbox": 1, "slider": 1, "button": 2})
+    count.equal("chromedriver: a screen reader finds each control", seen,
+        {"main": 1, "textbox": 1, "listbox": 1, "slider": 1, "button": 2})
     options = [name for role, name in rows if role == "option" and "rule" in name]
-    count.equal("chromedriver: each position is an option with its rule", options[:2], ["No break, rule 2", "No break, rule 28"])
+    count.equal("chromedriver: each position is an option with its rule", options[:2],
+        ["No break, rule 2", "No break, rule 28"])
 
 
 def try_schemes(count, page):
@@ -227,12 +236,14 @@ def try_schemes(count, page):
         least = page.run(CONTRASTS)
         what = f"chromedriver: signs of breaks have a ground in {scheme}, and others none"
         count.equal(what, page.run(GROUNDS), {"no": False, "may": True, "must": True})
-        count.equal(f"chromedriver: text can be read in {scheme}", {name: round(it, 2) for name, it in least.items() if it < LEAST_CONTRAST}, {})
+        count.equal(f"chromedriver: text can be read in {scheme}",
+            {name: round(it, 2) for name, it in least.items() if it < LEAST_CONTRAST}, {})
     count.equal("chromedriver: light and dark differ", len(papers), 2)
 
 
 def show_screen(page, width, height, scheme="light"):
-    page.tools("Emulation.setDeviceMetricsOverride", width=width, height=height, deviceScaleFactor=1, mobile=width < 600)
+    page.tools("Emulation.setDeviceMetricsOverride", width=width, height=height, deviceScaleFactor=1,
+        mobile=width < 600)
     page.tools("Emulation.setEmulatedMedia", features=[{"name": "prefers-color-scheme", "value": scheme}])
 
 
@@ -241,7 +252,8 @@ def try_opening(count, page, address):
     for width, height in SCREENS:
         show_screen(page, width, height)
         page.open(address)
-        count.equal(f"chromedriver: at {width} x {height} the first screen has the answer", page.run(OPENING), [True] * 4)
+        count.equal(f"chromedriver: at {width} x {height} the first screen has the answer", page.run(OPENING),
+            [True] * 4)
         for fragment in ("", "#text=%D8%A7%D9%84%D8%B3%D8%B9%D8%B1%20123%20abc%0Ax" + "%20iil" * 30):
             page.open(address + fragment)
             found = page.run(TARGETS.replace("LEAST", str(LEAST_TARGET - ROUNDING)))
@@ -274,7 +286,8 @@ def drive(count, address):
         try_names(count, page)
         try_schemes(count, page)
         show_screen(page, 320, 640)
-        count.equal("chromedriver: nothing is wider than 320 pixels", page.run("return document.documentElement.scrollWidth"), 320)
+        count.equal("chromedriver: nothing is wider than 320 pixels",
+            page.run("return document.documentElement.scrollWidth"), 320)
         try_opening(count, page, address)
         try_long_text(count, page, address)
         count.equal("chromedriver: nothing stands on the console", page.ask("POST", "/se/log", {"type": "browser"}), [])

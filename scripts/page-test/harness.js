@@ -33,7 +33,8 @@ export async function openPage(fragment = "", width = 900) {
   await new Promise((done) => frame.addEventListener("load", done, { once: true }));
   frame.contentWindow.addEventListener("error", (event) => faults.push(event.message));
   await untilTrue(() => frame.contentDocument.documentElement.dataset.ready === "yes", "the page");
-  return { window: frame.contentWindow, document: frame.contentDocument, faults, find: (id) => frame.contentDocument.getElementById(id) };
+  return { window: frame.contentWindow, document: frame.contentDocument, faults,
+    find: (id) => frame.contentDocument.getElementById(id) };
 }
 
 /** Gives a page a text by a link, which keeps CR. */
@@ -54,7 +55,8 @@ export function change(page, id, value, event = "change") {
 }
 
 export function press(page, key) {
-  page.find("positions").dispatchEvent(new page.window.KeyboardEvent("keydown", { key, bubbles: true, cancelable: true }));
+  page.find("positions").dispatchEvent(new page.window.KeyboardEvent("keydown",
+    { key, bubbles: true, cancelable: true }));
 }
 
 export function signs(page) {

@@ -3,11 +3,13 @@ import { EXAMPLES } from "/modules/examples.js";
 import { change, equal, follow, matches, openPage, press, say, write } from "./harness.js";
 
 const MIXED = [
-  "word בית 123 x", "אבג abc 45 דה", "abc (אבג) def", "1 א 2 ב 3", "مرحبا 12-34 world 5", "a\u2067אב 12\u2069b", "بَب دار ١٬٢٣٤ %",
+  "word בית 123 x", "אבג abc 45 דה", "abc (אבג) def", "1 א 2 ב 3", "مرحبا 12-34 world 5", "a\u2067אב 12\u2069b",
+    "بَب دار ١٬٢٣٤ %",
 ];
 
 function boxes(page, selector) {
-  return [...page.document.querySelectorAll(selector)].map((it) => ({ it, at: Number(it.dataset.at), box: it.getBoundingClientRect() }));
+  return [...page.document.querySelectorAll(selector)].map((it) =>
+    ({ it, at: Number(it.dataset.at), box: it.getBoundingClientRect() }));
 }
 
 /** The places of those that stand so near to another that pointing at one could meet the other. */
@@ -18,7 +20,8 @@ function crowded(found) {
 
 /** Whether each is left or right of the one before, where both are in one row. */
 function ways(found) {
-  const rows = found.slice(1).map(({ box }, k) => [found[k].box, box]).filter(([one, other]) => Math.abs(one.top - other.top) < 10);
+  const rows = found.slice(1).map(({ box }, k) => [found[k].box, box]).filter(([one, other]) =>
+    Math.abs(one.top - other.top) < 10);
   return [...new Set(rows.map(([one, other]) => (one.left < other.left ? "right" : "left")))];
 }
 
@@ -59,7 +62,8 @@ async function tryJoined(page) {
   if (width("بب") === width("ب\u200cب")) return say("no font of this machine joins Arabic letters, so that is not tried");
   await follow(page, "سعر دار بَب");
   const shown = boxes(page, ".letter").map(({ it }) => it.textContent.replaceAll(/\u0640+/g, "-"));
-  equal("Arabic letters join those that they join in words", shown, ["س-", "-ع-", "-ر", " ", "د", "ا", "ر", " ", "ب-", "-\u064e-", "-ب"]);
+  equal("Arabic letters join those that they join in words", shown, ["س-", "-ع-", "-ر", " ", "د", "ا", "ر", " ", "ب-",
+    "-\u064e-", "-ب"]);
   const found = boxes(page, ".letter").slice(0, 3).map(({ box }) => box);
   const apart = found.slice(1).map((box, k) => Math.round(found[k].left - box.right));
   equal("with nothing between their boxes", apart, [0, 0]);
@@ -74,14 +78,17 @@ function tryLong(page) {
   matches("the last can be reached", page.find("detail").textContent, /the end of the text.*1000000/);
   const chosen = page.document.querySelector("[aria-selected=true]")?.getBoundingClientRect();
   const view = page.find("positions").getBoundingClientRect();
-  say("and is in view", chosen && chosen.top >= view.top && chosen.bottom <= view.bottom ? "" : `it is at ${JSON.stringify(chosen)}`);
-  say("the columns show a part", page.find("ours").textContent.length < 5000 ? "" : `${page.find("ours").textContent.length} units`);
+  say("and is in view", chosen && chosen.top >= view.top && chosen.bottom <= view.bottom ? ""
+    : `it is at ${JSON.stringify(chosen)}`);
+  say("the columns show a part", page.find("ours").textContent.length < 5000 ? ""
+    : `${page.find("ours").textContent.length} units`);
 }
 
 /** After an edit the page shows what it shows of a new text, in the paragraphs that stayed, too. */
 async function tryEdits(page) {
   const drawn = (page) => boxes(page, ".position").map(({ it, at }) => `${at}${it.textContent}`).join(" ");
-  const edits = [["ab cd\nef gh\nij", "ab cd\nef Xgh\nij"], ["a\r\nb", "a\nb"], ["ab\ncd\n", "abcd\n"], ["", "a b"], ["a b\nc", ""]];
+  const edits = [["ab cd\nef gh\nij", "ab cd\nef Xgh\nij"], ["a\r\nb", "a\nb"], ["ab\ncd\n", "abcd\n"], ["", "a b"],
+    ["a b\nc", ""]];
   for (const [before, after] of edits) {
     await follow(page, before);
     write(page, after);
@@ -106,7 +113,8 @@ async function tryEdges() {
   for (const count of [1, 3, 20]) {
     const text = `${MIXED.slice(-2).join(" ")} سعر\n`.repeat(count);
     const page = await openPage(`#${new URLSearchParams({ text })}`);
-    const frames = () => new Promise((done) => page.window.requestAnimationFrame(() => page.window.requestAnimationFrame(done)));
+    const frames = () => new Promise((done) =>
+      page.window.requestAnimationFrame(() => page.window.requestAnimationFrame(done)));
     await frames();
     equal(`signs stand at the edges of letters in ${count} lines`, astray(page), []);
     page.window.frameElement.style.width = "600px";

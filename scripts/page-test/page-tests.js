@@ -8,7 +8,8 @@ function shows(page, what, wanted) {
 }
 
 function namesOf(page) {
-  return [...page.document.querySelectorAll(".hidden-character")].map((it) => it.textContent).filter((it) => it !== "·");
+  return [...page.document.querySelectorAll(".hidden-character")].map((it) => it.textContent).filter((it) =>
+    it !== "·");
 }
 
 /** Each example has a position that its rule decides, and CR stays what it is. */
@@ -22,7 +23,8 @@ function tryExamples(page, table) {
 async function tryDrop(page) {
   const files = new page.window.DataTransfer();
   files.items.add(new page.window.File(["dropped text"], "text.txt"));
-  page.find("text").dispatchEvent(new page.window.DragEvent("drop", { dataTransfer: files, cancelable: true, bubbles: true }));
+  page.find("text").dispatchEvent(new page.window.DragEvent("drop",
+    { dataTransfer: files, cancelable: true, bubbles: true }));
   await untilTrue(() => page.find("text").value === "dropped text", "the text of a dropped file");
   say("a file can be dropped");
 }
@@ -83,7 +85,8 @@ export async function tryPage(table) {
 
 export async function tryLinks() {
   const page = await openPage("#text=a%20b&profile=2");
-  equal("a link holds the text", [page.find("text").value, page.find("profile").value, signs(page)], ["a b", "2", "××÷!"]);
+  equal("a link holds the text", [page.find("text").value, page.find("profile").value, signs(page)],
+    ["a b", "2", "××÷!"]);
   shows(page, "where it chooses none the first break is chosen", /Rule LB18/);
   const chosen = await openPage("#text=a%20b&profile=1&at=2");
   shows(chosen, "a link chooses a position", /Rule LB18.*At offset 2 \(UTF-16 units\)/);

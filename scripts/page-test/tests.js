@@ -52,13 +52,15 @@ async function tryPieces(table) {
   const once = table.breakColumns(text);
   const { at, kind } = table.breakColumns(text.repeat(50));
   const count = once.at.length;
-  const isWrong = (place, k) => place !== Math.floor(k / count) * text.length + once.at[k % count] || kind[k] !== once.kind[k % count];
+  const isWrong = (place, k) => place !== Math.floor(k / count) * text.length + once.at[k % count]
+    || kind[k] !== once.kind[k % count];
   equal("50 MB in pieces have the breaks that their parts have", [at.length, at.findIndex(isWrong)], [50 * count, -1]);
 }
 
 async function tryFiles(table) {
   const read = await Packaged.fromFiles("/unicode");
-  equal("a table of four property files gives the same breaks", [...read.breaks("a « b »")], [...table.breaks("a « b »")]);
+  equal("a table of four property files gives the same breaks", [...read.breaks("a « b »")],
+    [...table.breaks("a « b »")]);
 }
 
 /** The shortest time of each action. They take turns for three seconds, as browsers compile better what runs long. */
@@ -94,7 +96,8 @@ async function trySpeed(table) {
     const ofBytes = `columns ${ours} MB/s, ${share[0]} lbk_breaks and ${share[1]} lbk_feed in C (${whole}, ${pieces})`;
     const beside = icu ? `, ICU ${icu}` : "";
     const isSlow = icu && 4 * ours < whole;
-    say(`speed over ${name}: ${ofBytes}; of a string ${ofString}${beside}`, ofString <= icu ? "slower than ICU" : isSlow ? "less than a quarter" : "");
+    say(`speed over ${name}: ${ofBytes}; of a string ${ofString}${beside}`, ofString <= icu ? "slower than ICU" : isSlow
+      ? "less than a quarter" : "");
   }
 }
 
@@ -107,7 +110,8 @@ async function tryStart() {
     times.push(Math.round(page.document.documentElement.dataset.readyAfter));
   }
   const best = Math.min(...times);
-  say(`the page is ready ${times[0]} ms after it was asked for, ${best} at best of ${times.length}`, isHeld && best > 100 ? "over 100 ms" : "");
+  say(`the page is ready ${times[0]} ms after it was asked for, ${best} at best of ${times.length}`,
+    isHeld && best > 100 ? "over 100 ms" : "");
 }
 
 /** The pages that docs/javascript.md shows write what stands below them. */
@@ -118,7 +122,8 @@ async function tryShown() {
     frame.src = `/shown/shown-${number}.html`;
     document.body.append(frame);
     const shows = () => frame.contentDocument?.body?.innerText.trim();
-    await untilTrue(() => shows() === text.trim(), `what the docs show, but ${JSON.stringify(shows())}`).catch(() => {});
+    await untilTrue(() => shows() === text.trim(), `what the docs show, but ${JSON.stringify(shows())}`).catch(() =>
+      {});
     equal(`page ${number + 1} of the docs`, shows(), text.trim());
     frame.remove();
   }

@@ -12,7 +12,8 @@ SIZE = 1_000_000
 ROOM = 64
 # The letters of made-up texts of a million bytes, the most of them in a word, and what stands between words.
 SCRIPTS = {
-    "latin": ("abcdefghijklmnopqrstuvwxyzéöß", 9, [" ", " ", ", ", ". ", "-", " (", ") ", " « ", " » ", "\n", " 3,50 € "]),
+    "latin": ("abcdefghijklmnopqrstuvwxyzéöß", 9, [" ", " ", ", ", ". ", "-", " (", ") ", " « ", " » ", "\n",
+        " 3,50 € "]),
     "cyrillic": ("абвгдежзиклмнопрстухцчшщыэюя", 11, [" ", " ", ", ", ". ", " — ", " „", "“ ", "\n", " №5 "]),
     "japanese": ("あいうえおかきくけこっゃアイウ日本語東京改行", 7, ["、", "。", "「", "」", "ー", "\n", " ", "100%"]),
     "korean": ("가각간대한민국은공화주의이다", 6, [" ", " ", ", ", ". ", "(", ") ", "\n", "2024년 "]),
@@ -21,7 +22,8 @@ SCRIPTS = {
 
 
 class State(ctypes.Structure):
-    _fields_ = [("at", ctypes.c_size_t), ("row", ctypes.c_uint16), ("profile", ctypes.c_uint8), ("ended", ctypes.c_uint8)]
+    _fields_ = [("at", ctypes.c_size_t), ("row", ctypes.c_uint16), ("profile", ctypes.c_uint8),
+        ("ended", ctypes.c_uint8)]
 
 
 class Break(ctypes.Structure):
@@ -51,7 +53,8 @@ def made_text(draw, letters, most, between, size):
 
 def random_bytes(draw, size):
     """Bytes of which some are text, some ill-formed."""
-    pieces = [b"word ", " « été » ".encode(), "日本語。".encode(), b"\xff\xfe", b"\xe2\x80", b"\xf0\x9f\x98", b"\r\n", "👩‍👧".encode()]
+    pieces = [b"word ", " « été » ".encode(), "日本語。".encode(), b"\xff\xfe", b"\xe2\x80", b"\xf0\x9f\x98", b"\r\n",
+        "👩‍👧".encode()]
     return b"".join(draw.choice(pieces) if draw.random() < 0.9 else draw.randbytes(3) for _ in range(size // 5))
 
 
@@ -104,19 +107,22 @@ def positions_of(library, table, profile, text):
     state, block, count, rows = State(profile=profile - 1), (Break * ROOM)(), ROOM, []
     while count == ROOM:
         count = library.lbk_positions(table, ctypes.byref(state), read, len(read), block, ROOM)
-        rows += [f"{places[it.at]} {('no', 'may', 'must')[it.kind]} {library.lbk_label(it.rule).text.decode()}" for it in block[:count]]
+        rows += [f"{places[it.at]} {('no', 'may', 'must')[it.kind]} {library.lbk_label(it.rule).text.decode()}"
+            for it in block[:count]]
     return ", ".join(rows)
 
 
 def decide_strings(library, table, folder, to):
     """Writes strings with their positions, as JSON: the lines of the published test each alone, and short strings."""
     called = ctypes.CDLL(str(library))
-    called.lbk_positions.argtypes = [ctypes.c_void_p] * 2 + [ctypes.c_char_p, ctypes.c_size_t, ctypes.c_void_p, ctypes.c_size_t]
+    called.lbk_positions.argtypes = [ctypes.c_void_p] * 2 + [ctypes.c_char_p, ctypes.c_size_t, ctypes.c_void_p,
+        ctypes.c_size_t]
     called.lbk_positions.restype, called.lbk_label.restype = ctypes.c_size_t, Label
     read = ctypes.create_string_buffer(table.read_bytes())
     rows = []
     for text in [*test_lines(folder), *short_strings(random.Random(SEED), 5000)]:
         # Two surrogates that stand side by side are a pair in a string of UTF-16.
-        whole = text.encode("utf-16-le", "surrogatepass").decode("utf-16-le", "replace") if re.search("[\ud800-\udfff]", text) else text
+        whole = text.encode("utf-16-le", "surrogatepass").decode("utf-16-le", "replace") if re.search("[\ud800-\udfff]",
+            text) else text
         rows += [[text, profile, positions_of(called, read, profile, whole)] for profile in (1, 2)]
     to.write_text(json.dumps(rows), encoding="utf-8")

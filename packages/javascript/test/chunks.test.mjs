@@ -23,7 +23,8 @@ function below(bound) {
 /** The breaks that stand within no word, with how many words are before each. */
 function cutsOf(text, profile) {
   const { start, end } = words.wordColumns(text);
-  const breaks = [...table.breaks(text, { profile })].filter(({ at }) => !start.some((from, k) => from < at && at < end[k]));
+  const breaks = [...table.breaks(text, { profile })].filter(({ at }) => !start.some((from, k) => from < at
+    && at < end[k]));
   return breaks.map((it) => ({ ...it, words: end.filter((place) => place <= it.at).length }));
 }
 
@@ -37,11 +38,13 @@ function defined(cuts, { most, words: limit = Infinity, least, overlap }) {
     if (ahead.length === 0) return found;
     const fitting = ahead.filter((it) => fits(start, it));
     const early = fitting.filter((it) => it.kind === "must" && it.at - told >= least);
-    const end = fitting.length === 0 ? ahead[0] : fitting.length === ahead.length ? ahead.at(-1) : (early.at(-1) ?? fitting.at(-1));
+    const end = fitting.length === 0 ? ahead[0] : fitting.length === ahead.length ? ahead.at(-1)
+      : (early.at(-1) ?? fitting.at(-1));
     const { kind, rule } = end;
     found.push({ start: start.at, end: end.at, words: end.words - start.words, kind, rule, alone: !fits(start, end) });
     const next = cuts.find((it) => it.at > end.at);
-    const mayBegin = ({ at }) => at > start.at && at < end.at && end.at - at <= overlap && 2 * (end.at - at) <= end.at - start.at;
+    const mayBegin = ({ at }) => at > start.at && at < end.at && end.at - at <= overlap && 2 * (end.at - at) <= end.at
+      - start.at;
     [start, told] = [(next && cuts.find((it) => mayBegin(it) && fits(it, next))) ?? end, end.at];
   }
 }
@@ -51,7 +54,8 @@ test("chunks are those of the definition", () => {
     const string = Array.from({ length: [0, 1, 3, 10, 40][below(5)] }, () => PIECES[below(PIECES.length)]).join("");
     const text = below(2) ? string : new TextEncoder().encode(string).subarray(below(3));
     const most = [1, 2, 3, 8, 20, 50, 200][below(7)];
-    const limits = { most, words: [undefined, 1, 3, 9][below(4)], least: below(most + 1), overlap: below(Math.floor(most / 2) + 1) };
+    const limits = { most, words: [undefined, 1, 3, 9][below(4)], least: below(most + 1),
+      overlap: below(Math.floor(most / 2) + 1) };
     const profile = 1 + below(2);
     const found = [...chunker.chunks(text, { ...limits, profile })];
     const wanted = defined(cutsOf(text, profile), limits);

@@ -118,8 +118,10 @@ test("other property files are refused", async () => {
   for (const given of wrong) await assert.rejects(Table.fromFiles(given), RangeError);
   const refused = (given) => Table.fromFiles(given).catch((error) => error.message);
   const of14 = edited(0, "# LineBreak-15.0.0.txt", "# LineBreak-14.0.0.txt").with(1, new Uint8Array(0));
-  assert.match(await refused(of14), /^LineBreak.txt: this is Unicode 14.0.0, and lbk needs 15.0.0; Debian 12's .*UCD.zip$/);
-  assert.match(await refused(files.with(3, files[3].subarray(0, 99))), /^emoji\/emoji-data.txt: this is not emoji-data.txt as Unicode 15.0/);
+  assert.match(await refused(of14),
+    /^LineBreak.txt: this is Unicode 14.0.0, and lbk needs 15.0.0; Debian 12's .*UCD.zip$/);
+  assert.match(await refused(files.with(3, files[3].subarray(0, 99))),
+    /^emoji\/emoji-data.txt: this is not emoji-data.txt as Unicode 15.0/);
   assert.match(await refused(edited(0, "0028;OP", "0028;CL")), /one was changed or truncated/);
   assert.match(await refused(files.slice(1)), /^4 property files are required, not 3$/);
   await assert.rejects(Table.fromFiles("/absent"), { code: "ENOENT" });
@@ -139,7 +141,8 @@ test("the same places in bytes", () => {
 });
 
 test("positions are there also where no line breaks, and in an empty text", () => {
-  assert.deepEqual([...table.positions("a b")].map((it) => `${it.at} ${it.kind} ${it.rule}`), ["0 no 2", "1 no 7", "2 may 18", "3 must 3"]);
+  assert.deepEqual([...table.positions("a b")].map((it) => `${it.at} ${it.kind} ${it.rule}`),
+    ["0 no 2", "1 no 7", "2 may 18", "3 must 3"]);
   assert.deepEqual([...table.positions("")], [{ at: 0, kind: "no", rule: "2" }]);
   assert.deepEqual([...table.breaks("")], []);
 });
@@ -157,7 +160,8 @@ test("a lone surrogate is U+FFFD at its place", () => {
 });
 
 test("the class of a code point, as rule LB1 resolves it", () => {
-  const classes = { a: "AL", " ": "SP", "\n": "LF", "(": "OP", "«": "QU", "漢": "ID", "\u0301": "CM", "\u200d": "ZWJ", ก: "AL", ぁ: "NS", 가: "H2" };
+  const classes = { a: "AL", " ": "SP", "\n": "LF", "(": "OP", "«": "QU", "漢": "ID", "\u0301": "CM", "\u200d": "ZWJ",
+    ก: "AL", ぁ: "NS", 가: "H2" };
   for (const [character, name] of Object.entries(classes)) assert.equal(table.classOf(character.codePointAt(0)), name);
   assert.equal(table.classOf(0xd800), "");
   assert.equal(table.classOf(0x10ffff), "AL");
@@ -197,7 +201,8 @@ function pack(table) {
     const to = join(folder, "packed");
     const from = typeof table === "string" ? table : join(folder, "table");
     if (from !== table) writeFileSync(from, table);
-    const { status, stderr } = spawnSync(process.execPath, [fileURLToPath(new URL("../pack.js", import.meta.url)), from, to], { encoding: "utf8" });
+    const { status, stderr } = spawnSync(process.execPath, [fileURLToPath(new URL("../pack.js", import.meta.url)), from,
+      to], { encoding: "utf8" });
     return { status, stderr, packed: status === 0 ? readFileSync(to) : null };
   } finally {
     rmSync(folder, { recursive: true });

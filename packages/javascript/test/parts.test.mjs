@@ -7,7 +7,8 @@ import { Stream, cut, cutBefore } from "../parts.js";
 
 const table = await Table.fromBytes(readFileSync(process.env.LBK_TABLE));
 const LINE_ENDS = ["\n", "\r", "\r\n", "\u2028", "\u0085"];
-const PIECES = [...LINE_ENDS, "a", "b ", "«", "»", "\u0301", "日", "、", "😀", "\u{1F1EB}", "\ud800", "\udc00", "1,2 ", " "];
+const PIECES = [...LINE_ENDS, "a", "b ", "«", "»", "\u0301", "日", "、", "😀", "\u{1F1EB}", "\ud800", "\udc00", "1,2 ",
+  " "];
 
 /** Numbers that seem random (a linear congruential generator). */
 let seed = 5n;
@@ -25,7 +26,8 @@ function randomText(most) {
   const string = randomString(most);
   if (below(2)) return string;
   const bytes = new TextEncoder().encode(string);
-  for (let k = below(4); k > 0 && bytes.length > 0; k--) bytes[below(bytes.length)] = [0x80, 0xe4, 0xf0, 0xff, 0xe2][below(5)];
+  for (let k = below(4); k > 0 && bytes.length > 0; k--) bytes[below(bytes.length)] = [0x80, 0xe4, 0xf0, 0xff,
+    0xe2][below(5)];
   return bytes;
 }
 
@@ -70,7 +72,8 @@ test("pieces larger than the module's window", () => {
   const text = `${"ab é ".repeat(150_000)}${"x".repeat(600_000)} y`;
   const stream = new Stream(table);
   let found = [];
-  for (let from = 0; from < text.length; from += 500_001) found = found.concat(stream.feed(text.slice(from, from + 500_001)));
+  for (let from = 0; from < text.length; from += 500_001) found =
+    found.concat(stream.feed(text.slice(from, from + 500_001)));
   assert.deepEqual(found.concat(stream.finish()), [...table.breaks(text)]);
 });
 

@@ -37,7 +37,8 @@ def random_text(chance, most):
 
 def random_bytes(chance, most):
     """Bytes, many of them ill-formed."""
-    pieces = [b"a", b" ", b"\n", b"\r", "é".encode(), "一".encode(), "😀".encode(), b"\xe4\xb8", b"\xf0\x9f\x98", b"\x80", b"\xff", b"\xed\xa0\x80"]
+    pieces = [b"a", b" ", b"\n", b"\r", "é".encode(), "一".encode(), "😀".encode(), b"\xe4\xb8", b"\xf0\x9f\x98", b"\x80",
+        b"\xff", b"\xed\xa0\x80"]
     return b"".join(chance.choices(pieces, k=chance.randrange(most)))
 
 

@@ -12,7 +12,8 @@ CODES = (range(0x80), range(0x80, 0xD800), range(0xE000, 0x110000))
 
 
 class State(ctypes.Structure):
-    _fields_ = [("at", ctypes.c_size_t), ("row", ctypes.c_uint16), ("profile", ctypes.c_uint8), ("ended", ctypes.c_uint8)]
+    _fields_ = [("at", ctypes.c_size_t), ("row", ctypes.c_uint16), ("profile", ctypes.c_uint8),
+        ("ended", ctypes.c_uint8)]
 
 
 class Found(ctypes.Structure):
@@ -36,7 +37,8 @@ class AgainstC(unittest.TestCase):
         cls.call = ctypes.CDLL(os.environ["LBK_LIBRARY"]).lbk_breaks
         cls.call.restype = ctypes.c_size_t
         cls.call.argtypes = [
-            ctypes.c_void_p, ctypes.POINTER(State), ctypes.c_char_p, ctypes.c_size_t, ctypes.POINTER(Found), ctypes.c_size_t,
+            ctypes.c_void_p, ctypes.POINTER(State), ctypes.c_char_p, ctypes.c_size_t, ctypes.POINTER(Found),
+            ctypes.c_size_t,
         ]
 
     def breaks(self, data, profile):
@@ -70,7 +72,8 @@ class AgainstC(unittest.TestCase):
                 self.assertEqual(samples.found(self.table, text, profile), wanted)
                 self.assertEqual(list(zip(*self.table.break_columns(text, profile))), wanted)
                 ends = [at for at, _, _ in wanted]
-                self.assertEqual(list(self.table.segments(text, profile)), [text[a:b] for a, b in zip([0, *ends], ends)])
+                self.assertEqual(list(self.table.segments(text, profile)),
+                    [text[a:b] for a, b in zip([0, *ends], ends)])
 
     def test_many(self):
         chance = samples.chance(4)

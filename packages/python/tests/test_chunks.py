@@ -76,7 +76,8 @@ class Chunks(unittest.TestCase):
     def random_text(self, chance):
         """A str, or bytes, some of them ill-formed."""
         text = "".join(chance.choices(PIECES, k=chance.choice((0, 1, 3, 10, 40))))
-        return text if chance.random() < 0.5 else text.encode("utf-8", chance.choice(("replace", "surrogatepass")))[chance.randrange(3):]
+        return text if chance.random() < 0.5 else text.encode("utf-8",
+            chance.choice(("replace", "surrogatepass")))[chance.randrange(3):]
 
     def test_columns_are_those_of_the_definition(self):
         chance = samples.chance(31)

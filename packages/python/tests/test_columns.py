@@ -40,7 +40,8 @@ class Columns(unittest.TestCase):
     def test_columns_of_many_texts_stand_one_after_the_other(self):
         chance = samples.chance()
         texts = ["a b", "", "é è", "é è".encode(), b"", bytearray(b"a b"), memoryview(b"a b")]
-        texts += [samples.random_text(chance, 50) for _ in range(1000)] + [samples.random_bytes(chance, 50) for _ in range(1000)]
+        texts += [samples.random_text(chance, 50) for _ in range(1000)] + [samples.random_bytes(chance, 50)
+            for _ in range(1000)]
         for profile in (1, 2):
             found = self.table.break_list_columns(texts, profile)
             self.assertEqual(found.offsets.format, "q")

@@ -32,7 +32,8 @@ class Cuts(unittest.TestCase):
 
     def test_breaks_after_a_safe_break(self):
         table = samples.table()
-        self.assertEqual([table.safe_break(text) for text in ("ab c d", "ab\ncd", "ab\n", "ab", "", "é c d", "é c d".encode())], [5, 3, 0, 0, 0, 4, 5])
+        self.assertEqual([table.safe_break(text) for text in ("ab c d", "ab\ncd", "ab\n", "ab", "", "é c d",
+            "é c d".encode())], [5, 3, 0, 0, 0, 4, 5])
         chance = samples.chance(12)
         for make in (samples.random_text, samples.random_bytes):
             for _ in range(200):
@@ -49,7 +50,8 @@ class Cuts(unittest.TestCase):
         head, end = b"# LineBreak-15.0.0.txt\n", b"\n# EOF\n"
         whole = Table.read(head + samples.LINE_BREAK + end, *samples.FILES[1:])
         self.assertEqual(whole, samples.table())
-        names = (head, b"# EastAsianWidth-15.1.0.txt\n", b"# DerivedGeneralCategory-15.0.0.txt\r\n", b"# emoji-data.txt\n")
+        names = (head, b"# EastAsianWidth-15.1.0.txt\n", b"# DerivedGeneralCategory-15.0.0.txt\r\n",
+            b"# emoji-data.txt\n")
         for number, name in enumerate(names, 1):
             files = list(samples.FILES)
             files[number - 1] = name + files[number - 1]
@@ -63,7 +65,8 @@ class Cuts(unittest.TestCase):
 
     def test_classes(self):
         table = samples.table()
-        self.assertEqual([table.class_of(one) for one in ("a", " ", 0x4E00, "\n", 0xD800)], ["AL", "SP", "ID", "LF", ""])
+        self.assertEqual([table.class_of(one) for one in ("a", " ", 0x4E00, "\n", 0xD800)],
+            ["AL", "SP", "ID", "LF", ""])
         for wrong in (-1, 0x110000):
             with self.assertRaises(ValueError):
                 table.class_of(wrong)
@@ -105,7 +108,8 @@ class Cuts(unittest.TestCase):
         for start in (0, 1, 1 << 32, (1 << 62) - 1):
             for text in (samples.random_text(chance, 9000), samples.random_bytes(chance, 90)):
                 places, kinds, rules = table.break_columns(text, start=start)
-                self.assertEqual([(at - start, *others) for at, *others in zip(places, kinds, rules)], samples.found(table, text))
+                self.assertEqual([(at - start, *others) for at, *others in zip(places, kinds, rules)],
+                    samples.found(table, text))
         for error, start in ((ValueError, -1), (ValueError, 1 << 62), (OverflowError, 1 << 70), (TypeError, "1")):
             with self.assertRaises(error):
                 table.break_columns("a", start=start)
@@ -131,7 +135,8 @@ class Positions(unittest.TestCase):
     def test_positions_of_a_text(self):
         found = list(samples.table().positions("é c"))
         self.assertEqual(found[0], Break(0, Kind.NO, Rule.LB2))
-        self.assertEqual([(one.at, one.kind, one.rule.label) for one in found[1:]], [(1, 0, "7"), (2, 1, "18"), (3, 2, "3")])
+        self.assertEqual([(one.at, one.kind, one.rule.label) for one in found[1:]],
+            [(1, 0, "7"), (2, 1, "18"), (3, 2, "3")])
         self.assertEqual(list(samples.table().positions(b"")), [Break(0, Kind.NO, Rule.LB2)])
 
     def test_those_where_a_line_ends_are_the_breaks(self):
@@ -142,7 +147,8 @@ class Positions(unittest.TestCase):
                 for _ in range(50):
                     text, profile = make(chance, most), chance.choice((1, 2))
                     all_places = [tuple(one) for one in table.positions(text, profile)]
-                    self.assertEqual([one for one in all_places if one[1] != Kind.NO], samples.found(table, text, profile))
+                    self.assertEqual([one for one in all_places if one[1] != Kind.NO],
+                        samples.found(table, text, profile))
                     if isinstance(text, str):
                         self.assertEqual([at for at, _, _ in all_places], list(range(len(text) + 1)))
 

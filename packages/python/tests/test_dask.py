@@ -79,7 +79,8 @@ class Files(WithFiles):
                     parts = self.columns(path, chance.randrange(1, 40), table=name, profile=profile)
                     self.is_whole(parts, path, len(data))
                     self.assertEqual(joined(parts), samples.found(table, data, profile))
-                self.assertEqual("".join(self.paragraphs(path, chance.randrange(1, 40), table=name)), data.decode("utf-8", "replace"))
+                self.assertEqual("".join(self.paragraphs(path, chance.randrange(1, 40), table=name)),
+                    data.decode("utf-8", "replace"))
 
     def test_the_last_break_of_a_part_has_its_rule(self):
         path = self.write("text", b"ab\r\n\r\ncd\n\xef\xbf\xbdx")
@@ -156,7 +157,8 @@ class Files(WithFiles):
         self.assertEqual(self.paragraphs(empty, None), [])
 
     def test_many_files_are_texts_of_their_own(self):
-        texts = {self.write(f"{name}.txt", text): text for name, text in (("a", b"ab\ncd"), ("b", b"ef"), ("c", b"\n\n\n"))}
+        texts = {self.write(f"{name}.txt", text): text for name, text in (("a", b"ab\ncd"), ("b", b"ef"),
+            ("c", b"\n\n\n"))}
         found = self.columns(str(self.folder / "*.txt"), 2)
         for path, text in texts.items():
             parts = [part for part in found if part.path == path]
@@ -180,7 +182,8 @@ class Files(WithFiles):
             self.assertEqual([(fault.path, fault.at) for fault in faults], [(bad, 6), (gone, 0)])
             self.assertIn("FileNotFoundError", str(faults[1]))
             self.assertEqual([item if isinstance(item, str) else (item.start, item.end) for item in others][:4], wanted)
-            self.assertEqual(str(pickle.loads(pickle.dumps(faults[0]))), f"{bad}: byte 6: ill-formed UTF-8: invalid continuation byte")
+            self.assertEqual(str(pickle.loads(pickle.dumps(faults[0]))),
+                f"{bad}: byte 6: ill-formed UTF-8: invalid continuation byte")
         broken = self.write("broken.gz", gzip.compress(b"ab" * 1000)[:-9])
         (fault,) = self.columns(broken, None, on_fault="keep")
         self.assertEqual((fault.path, fault.at), (broken, 0))
@@ -207,7 +210,8 @@ class Files(WithFiles):
         texts = ["naïve text", None, "", "a\nb"]
         bag = dask.bag.from_sequence(texts, npartitions=2)
         found = lbk.dask.breaks(bag, self.name, 2).compute()
-        frame = dask.dataframe.from_pandas(pandas.DataFrame({"t": texts}, index=[3, 1, 4, 2]), npartitions=2, sort=False)
+        frame = dask.dataframe.from_pandas(pandas.DataFrame({"t": texts}, index=[3, 1, 4, 2]), npartitions=2,
+            sort=False)
         broken = lbk.dask.breaks(frame.t, self.name, 2).compute()
         cut = lbk.dask.segments(frame["t"], self.name).compute()
         word = lbk.dask.words(frame["t"]).compute()
@@ -231,14 +235,17 @@ class Files(WithFiles):
         texts = ["naïve text é", None, "", "a\nb c"]
         limits = {"most": 4, "least": 2, "overlap": 1}
         wanted = [[one._asdict() for one in self.table.chunks(text or "", **limits)] for text in texts]
-        wanted = [[{name: one[name] for name in ("start", "end", "words", "text")} for one in found] for found in wanted]
+        wanted = [[{name: one[name] for name in ("start", "end", "words", "text")} for one in found]
+            for found in wanted]
         self.assertGreater(len(wanted[0]), 2)
         bag = dask.bag.from_sequence(texts, npartitions=2)
-        self.assertEqual(lbk.dask.chunks(bag, self.name, **limits).compute(), [one for found in wanted for one in found])
+        self.assertEqual(lbk.dask.chunks(bag, self.name, **limits).compute(),
+            [one for found in wanted for one in found])
         named = dask.bag.from_sequence([{"id": k, "text": text} for k, text in enumerate(texts)], npartitions=3)
         rows = lbk.dask.chunks(named, self.name, **limits).compute()
         self.assertEqual(rows, [{"id": k, **one} for k, found in enumerate(wanted) for one in found])
-        frame = dask.dataframe.from_pandas(pandas.DataFrame({"t": texts}, index=[3, 1, 4, 2]), npartitions=2, sort=False)
+        frame = dask.dataframe.from_pandas(pandas.DataFrame({"t": texts}, index=[3, 1, 4, 2]), npartitions=2,
+            sort=False)
         cut = lbk.dask.chunks(frame.t, self.name, **limits).compute()
         self.assertEqual(list(cut.index), [index for index, found in zip([3, 1, 4, 2], wanted) for _ in found])
         self.assertEqual(cut.to_dict("records"), [one for found in wanted for one in found])
@@ -264,7 +271,8 @@ class Saving(WithFiles):
             self.assertEqual(data["offsets"].tolist(), [0, len(data["places"])])
             found += zip(data["places"].tolist(), data["kinds"].tolist(), data["rules"].tolist())
         self.assertEqual(found, samples.found(self.table, text))
-        rows = [json.loads(line) for one in self.saved(bag, "jsonl") for line in Path(one.name).read_text().splitlines()]
+        rows = [json.loads(line) for one in self.saved(bag, "jsonl")
+            for line in Path(one.name).read_text().splitlines()]
         self.assertEqual([at for row in rows for at in row["places"]], samples.places(self.table, text))
         self.assertEqual([row["start"] for row in rows[1:]], [row["end"] for row in rows[:-1]])
 
@@ -272,9 +280,11 @@ class Saving(WithFiles):
         good, bad = self.write("good", b"ab c\nd\n"), self.write("bad", b"\xff")
         bag = lbk.dask.segments(lbk.dask.read_text([good, bad], self.name, errors="strict", on_fault="keep"), self.name)
         first, second = self.saved(bag, "jsonl")
-        self.assertEqual([json.loads(line) for line in Path(first.name).read_text().splitlines()], [["ab ", "c\n"], ["d\n"]])
+        self.assertEqual([json.loads(line) for line in Path(first.name).read_text().splitlines()],
+            [["ab ", "c\n"], ["d\n"]])
         self.assertEqual((first.items, first.faults, second.items, second.faults), (2, 0, 0, 1))
-        (fault,) = (json.loads(line) for line in Path(second.name.replace(".jsonl", ".faults.jsonl")).read_text().splitlines())
+        (fault,) = (json.loads(line) for line in Path(second.name.replace(".jsonl",
+            ".faults.jsonl")).read_text().splitlines())
         self.assertEqual((fault["path"], fault["at"]), (bad, 0))
         self.assertRaises(TypeError, self.saved, lbk.dask.read_text(good, self.name), "npz")
         self.assertRaises(ValueError, self.saved, bag, "csv")
@@ -324,8 +334,10 @@ class Broadcast(WithFiles):
         from distributed import Client, LocalCluster
 
         path = self.write("text", b"ab cd\n" * 50)
-        options = {"n_workers": 1, "threads_per_worker": 1, "processes": False, "dashboard_address": None, "silence_logs": 50}
-        with contextlib.closing(LocalCluster(local_directory=str(self.folder), **options)) as cluster, Client(cluster) as client:
+        options = {"n_workers": 1, "threads_per_worker": 1, "processes": False, "dashboard_address": None,
+            "silence_logs": 50}
+        with contextlib.closing(LocalCluster(local_directory=str(self.folder),
+            **options)) as cluster, Client(cluster) as client:
             name = lbk.dask.broadcast(client, self.table)
             lbk.dask._tables.clear()
             lbk.dask._tables.update({name: self.table})

@@ -70,7 +70,8 @@ class Folders(unittest.TestCase):
         for place in samples.PLACES[1:]:
             (self.systems[0] / place).parent.mkdir(exist_ok=True)
             (self.systems[0] / place).write_bytes(b"")
-        self.assertIn(f"{self.systems[0]}/LineBreak.txt: this is not LineBreak.txt of the Unicode Character Database", self.refused())
+        self.assertIn(f"{self.systems[0]}/LineBreak.txt: this is not LineBreak.txt of the Unicode Character Database",
+            self.refused())
 
     @unittest.skipUnless(samples.HAS_PUBLISHED, "the published files are not there")
     def test_each_folder_is_found(self):
@@ -94,7 +95,8 @@ class Folders(unittest.TestCase):
             self.assertEqual(Table.load(), Table.load(samples.PUBLISHED))
 
     def test_the_user_has_one_folder_or_two(self):
-        for named, wanted in (("", self.users[1:]), ("data", self.users[1:]), (str(self.home / ".local/share"), self.users[1:])):
+        for named, wanted in (("", self.users[1:]), ("data", self.users[1:]),
+            (str(self.home / ".local/share"), self.users[1:])):
             with mock.patch.dict(os.environ, {"XDG_DATA_HOME": named}):
                 self.assertEqual(_database.folders(), [*map(str, self.systems), *map(str, wanted)])
 

@@ -36,7 +36,8 @@ class Memory(unittest.TestCase):
         self.table.chunk_columns(text, 7, words=2, unit="bytes")
 
     def test_no_reference_is_left(self):
-        texts = ("a b " * 5000, "é b " * 5000, "\ud800 " * 5000, b"a b " * 5000, bytearray(b"a b " * 5000), memoryview(b"a b " * 5000))
+        texts = ("a b " * 5000, "é b " * 5000, "\ud800 " * 5000, b"a b " * 5000, bytearray(b"a b " * 5000),
+            memoryview(b"a b " * 5000))
         for text in texts:
             with self.subTest(type(text)):
                 before = sys.getrefcount(text), sys.getrefcount(self.table._memory), sys.getrefcount(type(text))
@@ -58,7 +59,8 @@ class Memory(unittest.TestCase):
         self.assertEqual((sys.getrefcount(text), sys.getrefcount(self.table._memory)), before)
 
     def test_no_memory_is_left(self):
-        texts = ("a b " * 200, "é b " * 200, "\ud800 " * 20, b"a b " * 200, bytearray(b"a b " * 20), memoryview(b"a b " * 20))
+        texts = ("a b " * 200, "é b " * 200, "\ud800 " * 20, b"a b " * 200, bytearray(b"a b " * 20),
+            memoryview(b"a b " * 20))
 
         def blocks(rounds):
             for _ in range(rounds):

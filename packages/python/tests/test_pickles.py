@@ -34,7 +34,8 @@ class Values(unittest.TestCase):
 
     def test_columns(self):
         for text in TEXTS:
-            for found, kind in ((self.table.break_columns(text), Columns), (self.table.break_list_columns(TEXTS), ListColumns)):
+            for found, kind in ((self.table.break_columns(text), Columns),
+                (self.table.break_list_columns(TEXTS), ListColumns)):
                 for protocol in protocols():
                     same = pickle.loads(pickle.dumps(found, protocol))
                     self.assertEqual((type(same), same), (kind, found))
@@ -86,7 +87,8 @@ class Values(unittest.TestCase):
                         thread.start()
                     for thread in threads:
                         thread.join()
-                self.assertEqual(said, {"another thread uses this iterator at this time: give each thread one of its own"})
+                self.assertEqual(said,
+                    {"another thread uses this iterator at this time: give each thread one of its own"})
 
 
 @unittest.skipUnless(samples.HAS_PUBLISHED, "the published files are not there")

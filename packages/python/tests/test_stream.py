@@ -48,7 +48,8 @@ class Streams(unittest.TestCase):
 
     def test_all_cuttings_of_short_texts(self):
         texts = ["a\r\n«é»", "» \u0301«", "\ud800é\r\r", "a «\u0301b» \n", "😀\r\n一"]
-        for text, profile in itertools.product(texts + [text.encode("utf-8", "surrogatepass") for text in texts], (1, 2)):
+        for text, profile in itertools.product(texts + [text.encode("utf-8", "surrogatepass") for text in texts],
+            (1, 2)):
             wanted = list(self.table.breaks(text, profile))
             for cuts in range(4):
                 for places in itertools.combinations_with_replacement(range(len(text) + 1), cuts):
@@ -57,7 +58,8 @@ class Streams(unittest.TestCase):
 
     def test_a_place_can_wait_over_many_pieces(self):
         for word in ("é", "é".encode()):
-            space, opening, mark = (" ", "»", "\u0301") if isinstance(word, str) else (b" ", "»".encode(), "\u0301".encode())
+            space, opening, mark = (" ", "»", "\u0301") if isinstance(word, str) else (b" ", "»".encode(),
+                "\u0301".encode())
             for last in (word, space):
                 text = [word, space, word, opening, *(1000 * [mark]), last, word]
                 joined = type(word)().join(text)

@@ -72,10 +72,12 @@ class Folders(unittest.TestCase):
         claims = (
             (File.LINE_BREAK, b"# LineBreak-14.0.0.txt\n", "this is Unicode 14.0.0, and lbk needs 15.0.0"),
             (File.EAST_ASIAN, b"# EastAsianWidth-15.1.txt\n", "this is Unicode 15.1.0, and lbk needs 15.0.0"),
-            (File.EMOJI, b"# emoji-data.txt\n# Used with Emoji Version 14.0 and", "this is Emoji 14.0, and lbk needs 15.0"),
+            (File.EMOJI, b"# emoji-data.txt\n# Used with Emoji Version 14.0 and",
+                "this is Emoji 14.0, and lbk needs 15.0"),
             (File.EMOJI, b"# emoji-data\n# Used with Emoji Version 5.0.1", "this is Emoji 5.0.1, and lbk needs 15.0.0"),
             (File.EMOJI, b"# emoji-data-15.0\n", "this is not emoji-data.txt of the Unicode Character Database"),
-            (File.LINE_BREAK, b"0061;AL\n# LineBreak-14.0.0\n", "this is not LineBreak.txt of the Unicode Character Database"),
+            (File.LINE_BREAK, b"0061;AL\n# LineBreak-14.0.0\n",
+                "this is not LineBreak.txt of the Unicode Character Database"),
             (
                 File.CATEGORY, b"# DerivedGeneralCategory-15.0.0.txt\n",
                 "the file was changed or truncated: it differs from Unicode 15.0.0's DerivedGeneralCategory.txt",
@@ -87,7 +89,8 @@ class Folders(unittest.TestCase):
         with self.assertRaises(Fault) as caught:
             Table.load(self.folder)
         place = str(self.folder / "LineBreak.txt")
-        self.assertEqual((caught.exception.place, str(caught.exception)), (place, f"{place}: {claims[0][2]}; {_calls.remedy_text()}"))
+        self.assertEqual((caught.exception.place, str(caught.exception)),
+            (place, f"{place}: {claims[0][2]}; {_calls.remedy_text()}"))
         self.assertEqual(str(pickle.loads(pickle.dumps(caught.exception))), str(caught.exception))
 
     def test_a_fault_of_files_by_name_has_the_name(self):
@@ -161,7 +164,8 @@ class Faults(unittest.TestCase):
         fault = Fault(File.LINE_BREAK, 2, Cause.ROW_SYNTAX)
         for protocol in range(pickle.HIGHEST_PROTOCOL + 1):
             same = pickle.loads(pickle.dumps(fault, protocol))
-            self.assertEqual((type(same), same.file, same.line, same.cause), (Fault, File.LINE_BREAK, 2, Cause.ROW_SYNTAX))
+            self.assertEqual((type(same), same.file, same.line, same.cause),
+                (Fault, File.LINE_BREAK, 2, Cause.ROW_SYNTAX))
             self.assertEqual(str(same), str(fault))
         self.assertEqual(str(copy.copy(fault)), str(fault))
 

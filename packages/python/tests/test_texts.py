@@ -44,14 +44,16 @@ class Texts(unittest.TestCase):
             file.flush()
             with mmap.mmap(file.fileno(), 0, access=mmap.ACCESS_READ) as read, mmap.mmap(file.fileno(), 0) as written:
                 backwards = memoryview(data[::-1])[::-1]
-                for text in (bytearray(data), memoryview(data), array.array("B", data), array.array("b", data), backwards, read, written):
+                for text in (bytearray(data), memoryview(data), array.array("B", data), array.array("b", data),
+                    backwards, read, written):
                     with self.subTest(type(text)):
                         self.assertEqual(list(self.table.breaks(text)), list(self.table.breaks(data)))
                         self.assertEqual(list(self.table.segments(text)), list(self.table.segments(data)))
                         self.assertEqual(self.table.break_columns(text), self.table.break_columns(data))
 
     def test_nothing_else_is_a_text(self):
-        for text in (3, 2.5, None, ["a"], ("a",), {"a"}, object(), iter("a"), array.array("I", [97]), memoryview(b"abcd").cast("B", (2, 2))):
+        for text in (3, 2.5, None, ["a"], ("a",), {"a"}, object(), iter("a"), array.array("I", [97]),
+            memoryview(b"abcd").cast("B", (2, 2))):
             with self.subTest(type(text)):
                 for call in (self.table.breaks, self.table.segments, self.table.break_columns):
                     self.assertRaises(TypeError, call, text)
@@ -148,7 +150,8 @@ class Breaks(unittest.TestCase):
             self.assertNotEqual(self.one, other)
 
     def test_order(self):
-        fields = [(at, kind, rule) for at in (3, 1 << 40) for kind in (Kind.MAY, Kind.MUST) for rule in (Rule.LB3, Rule.LB18)]
+        fields = [(at, kind, rule) for at in (3, 1 << 40) for kind in (Kind.MAY, Kind.MUST)
+            for rule in (Rule.LB3, Rule.LB18)]
         ordered = [Break(*one) for one in fields]
         self.assertEqual(sorted(reversed(ordered)), ordered)
         for (k, one), (j, two) in itertools.product(enumerate(ordered), repeat=2):
@@ -189,4 +192,5 @@ class Rules(unittest.TestCase):
         self.assertEqual([_calls.rule_text(number) for number in (0, 255, 256)], ["", "", ""])
 
     def test_each_class_says_what_it_is(self):
-        self.assertEqual([one.__name__ for one in (Rule, Cause, File, Kind, Fault, Table, Break) if not one.__doc__], [])
+        self.assertEqual([one.__name__ for one in (Rule, Cause, File, Kind, Fault, Table, Break) if not one.__doc__],
+            [])

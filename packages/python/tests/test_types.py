@@ -24,9 +24,11 @@ class Types(unittest.TestCase):
 
     def check(self, *words):
         """What mypy says, over the package as it is here."""
-        command = [sys.executable, "-m", "mypy", "--strict", "--no-error-summary", "--cache-dir", self.folder / "cache", *words]
+        command = [sys.executable, "-m", "mypy", "--strict", "--no-error-summary", "--cache-dir", self.folder / "cache",
+            *words]
         environment = {**os.environ, "LD_PRELOAD": ""}
-        done = subprocess.run(command, cwd=PACKAGE.parent, env=environment, capture_output=True, text=True, timeout=600, check=False)
+        done = subprocess.run(command, cwd=PACKAGE.parent, env=environment, capture_output=True, text=True, timeout=600,
+            check=False)
         return done.stdout + done.stderr
 
     def said_of(self, program):
@@ -61,7 +63,8 @@ class Types(unittest.TestCase):
 
     def test_what_is_no_text_is_refused(self):
         calls = ("table.breaks", "lbk.segments", "lbk.chunks", "table.break_columns", "lbk.Stream(table).feed")
-        lines = ["import lbk", "table = lbk.Table.load()", *(f"{call}({text})" for call in calls for text in ("3", "['a']", "None"))]
+        lines = ["import lbk", "table = lbk.Table.load()",
+            *(f"{call}({text})" for call in calls for text in ("3", "['a']", "None"))]
         said = self.said_of("\n".join(lines))
         for number in range(3, len(lines) + 1):
             self.assertRegex(said, rf"(?m)^<string>:{number}: error: ")

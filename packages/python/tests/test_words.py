@@ -110,7 +110,8 @@ class Passages(unittest.TestCase):
                 found = list(self.table.passages(text, profile))
                 nothing = type(text)()
                 self.assertEqual(nothing.join(one.text for one in found), text)
-                self.assertEqual([segment for one in found for segment in one.segments], list(self.table.segments(text, profile)))
+                self.assertEqual([segment for one in found for segment in one.segments],
+                    list(self.table.segments(text, profile)))
                 self.assertEqual([word for one in found for word in one.words], list(Table.words(text)))
                 for one in found:
                     self.assertEqual(text[one.start :][: len(one.text)], one.text)

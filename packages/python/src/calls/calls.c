@@ -29,8 +29,8 @@ static PyObject *read_files(PyObject *Py_UNUSED(module), PyObject *const *given,
     if (held == FILES) {
         bool are_published = given[1 + FILES] == Py_True;
         PyThreadState *unlocked = PyEval_SaveThread();
-        fault = (are_published ? lbk_read_published : lbk_read)(table, files[0].bytes, files[0].size, files[1].bytes, files[1].size, files[2].bytes,
-                         files[2].size, files[3].bytes, files[3].size);
+        fault = (are_published ? lbk_read_published : lbk_read)(table, files[0].bytes, files[0].size, files[1].bytes,
+            files[1].size, files[2].bytes, files[2].size, files[3].bytes, files[3].size);
         PyEval_RestoreThread(unlocked);
     }
     for (int k = 0; k < held; k++)
@@ -197,7 +197,8 @@ static PyObject *place_by(place_asked asked, PyObject *const *given)
     if (table != NULL) {
         if (hold_bytes(owner, &text, &text_view)) {
             PyThreadState *unlocked = unlock(text.size);
-            place = asked.call != NULL ? find_cut(asked.call, table, &text, asked.at) : find_safe_break(table, &text, asked.profile);
+            place = asked.call != NULL ? find_cut(asked.call, table, &text, asked.at) : find_safe_break(table, &text,
+                asked.profile);
             lock_again(unlocked);
             PyBuffer_Release(&text_view);
             is_found = true;

@@ -77,10 +77,12 @@ enum { TOGETHER = 8 };
 static void split_some(const lbk_break *block, int64_t before, int64_t *places, uint8_t *kinds, uint8_t *rules)
 {
 #if defined(__SSE2__)
-    _Static_assert(offsetof(lbk_break, kind) == 8 && offsetof(lbk_break, rule) == 9, "kind and rule stand after the place");
+    _Static_assert(offsetof(lbk_break, kind) == 8 && offsetof(lbk_break, rule) == 9,
+        "kind and rule stand after the place");
     __m128i codes[TOGETHER / 2], moved = _mm_set1_epi64x(before);
     for (size_t k = 0; k < TOGETHER / 2; k++) {
-        __m128i one = _mm_loadu_si128((const __m128i *)&block[2 * k]), two = _mm_loadu_si128((const __m128i *)&block[2 * k + 1]);
+        __m128i one = _mm_loadu_si128((const __m128i *)&block[2 * k]),
+        two = _mm_loadu_si128((const __m128i *)&block[2 * k + 1]);
         _mm_storeu_si128((__m128i *)&places[2 * k], _mm_add_epi64(_mm_unpacklo_epi64(one, two), moved));
         codes[k] = _mm_unpackhi_epi16(one, two);
     }
@@ -122,7 +124,8 @@ static bool fill(request *request, int64_t *places, uint8_t *kinds, uint8_t *rul
             return false;
         const utf8_text *text = &request->texts[request->current];
         size_t count = next_breaks(lbk_breaks, request->table, &request->from, text, request->block, room);
-        split(request->block, count, request->before, places + found->count, kinds + found->count, rules + found->count);
+        split(request->block, count, request->before, places + found->count, kinds + found->count,
+            rules + found->count);
         found->count += count;
         if (count < room) {
             request->from = request->start;

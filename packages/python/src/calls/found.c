@@ -101,7 +101,8 @@ static bool ask(found *at, const utf8_text *text)
     at->is_busy = true;
     PyThreadState *unlocked = unlock(left);
     if (table != NULL)
-        at->count = next_breaks(at->what == POSITIONS ? lbk_positions : lbk_breaks, table, &at->from, text, &at->block->a_break, at->room);
+        at->count = next_breaks(at->what == POSITIONS ? lbk_positions : lbk_breaks, table, &at->from, text,
+            &at->block->a_break, at->room);
     else
         at->count = next_words(&at->from, text, &at->block->word, at->room);
     lock_again(unlocked);

@@ -64,7 +64,8 @@ static bool fill(numbers *columns, const lbk_table *table, lbk_state state, cons
             if (block[k].kind != LBK_MUST)
                 continue;
             utf8_text passage = {text->bytes + start, at - start, text->in_code_points};
-            if (!push_words(columns, &passage, start_given) || !push(&columns[SEGMENT_OFFSETS], columns[PLACES].count - 1))
+            if (!push_words(columns, &passage, start_given) || !push(&columns[SEGMENT_OFFSETS],
+                columns[PLACES].count - 1))
                 return false;
             start = at;
             start_given = given;
@@ -78,7 +79,8 @@ static PyObject *tuple_of(const numbers *columns)
 {
     PyObject *made = PyTuple_New(COLUMNS);
     for (Py_ssize_t k = 0; made != NULL && k < COLUMNS; k++) {
-        PyObject *one = PyByteArray_FromStringAndSize((const char *)columns[k].items, (Py_ssize_t)(columns[k].count * sizeof(int64_t)));
+        PyObject *one = PyByteArray_FromStringAndSize((const char *)columns[k].items,
+            (Py_ssize_t)(columns[k].count * sizeof(int64_t)));
         if (one == NULL)
             Py_CLEAR(made);
         else

@@ -43,7 +43,8 @@ size_t to_unit(cursor *from, const utf8_text *text, size_t at)
     return from->given;
 }
 
-size_t next_breaks(break_call *call, const lbk_table *table, cursor *from, const utf8_text *text, lbk_break *block, size_t room)
+size_t next_breaks(break_call *call,
+    const lbk_table *table, cursor *from, const utf8_text *text, lbk_break *block, size_t room)
 {
     size_t count = call(table, &from->state, text->bytes, text->size, block, room);
     for (size_t k = 0; text->in_code_points && k < count; k++)

@@ -26,7 +26,8 @@ size_t to_unit(cursor *from, const utf8_text *text, size_t at);
 typedef size_t break_call(const lbk_table *table, lbk_state *state, const char *text, size_t size, lbk_break *block, size_t room);
 
 /* As the call, with each `at` in the text's unit. */
-size_t next_breaks(break_call *call, const lbk_table *table, cursor *from, const utf8_text *text, lbk_break *block, size_t room);
+size_t next_breaks(break_call *call,
+    const lbk_table *table, cursor *from, const utf8_text *text, lbk_break *block, size_t room);
 
 /* As lbk_words, with offsets in the text's unit. */
 size_t next_words(cursor *from, const utf8_text *text, lbk_word *block, size_t room);

@@ -51,7 +51,8 @@ static bool take(const lbk_table *table, lbk_stream *stream, const utf8_text *pi
             found->room = room;
         }
         size_t room = found->room - found->count;
-        lbk_fed fed = lbk_feed(table, stream, piece->bytes + taken, piece->size - taken, is_last, found->block + found->count, room);
+        lbk_fed fed = lbk_feed(table, stream, piece->bytes + taken, piece->size - taken, is_last,
+            found->block + found->count, room);
         taken += fed.taken;
         found->count += fed.count;
         if (fed.count < room)
@@ -69,12 +70,14 @@ static void count_points(stream_state *state, const utf8_text *piece, found_brea
             found->block[k].at = state->held_points;
             continue;
         }
-        points += code_points(piece->bytes + (bytes - state->given_bytes), at - bytes, piece->size - (bytes - state->given_bytes));
+        points += code_points(piece->bytes + (bytes - state->given_bytes), at - bytes,
+            piece->size - (bytes - state->given_bytes));
         bytes = at;
         found->block[k].at = points;
     }
     if (state->stream.held_code != 0 && state->stream.held_at >= state->given_bytes)
-        state->held_points = state->given_points + code_points(piece->bytes, state->stream.held_at - state->given_bytes, piece->size);
+        state->held_points = state->given_points + code_points(piece->bytes, state->stream.held_at - state->given_bytes,
+            piece->size);
     state->given_points += code_points(piece->bytes, piece->size, piece->size);
     state->given_bytes += piece->size;
 }
@@ -93,7 +96,8 @@ static PyObject *to_list(PyTypeObject *type, const found_breaks *found)
 }
 
 /* Feeds the piece to a copy of the state, so that nothing is lost if an allocation fails. */
-static PyObject *feed_copy(PyTypeObject *type, const lbk_table *table, stream_state *state, const utf8_text *piece, bool is_last)
+static PyObject *feed_copy(PyTypeObject *type,
+    const lbk_table *table, stream_state *state, const utf8_text *piece, bool is_last)
 {
     PyObject *list = NULL;
     stream_state after = *state;

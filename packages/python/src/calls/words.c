@@ -46,11 +46,13 @@ static bool find(word_list *found, const utf8_text *text)
     cursor from;
     memset(&from, 0, sizeof from);
     for (bool is_all = false; !is_all;) {
-        size_t taken = from.words.at, like_this = taken == 0 ? 0 : (size_t)((double)found->count / (double)taken * (double)text->size);
+        size_t taken = from.words.at, like_this = taken == 0 ? 0
+            : (size_t)((double)found->count / (double)taken * (double)text->size);
         size_t least = found->room + found->room / 2 + FIRST_ROOM, room = like_this > least ? like_this : least;
         if (!resize(found, room))
             return false;
-        int64_t *starts = (int64_t *)PyByteArray_AsString(found->starts), *ends = (int64_t *)PyByteArray_AsString(found->ends);
+        int64_t *starts = (int64_t *)PyByteArray_AsString(found->starts),
+            *ends = (int64_t *)PyByteArray_AsString(found->ends);
         PyThreadState *unlocked = unlock(text->size);
         is_all = fill(found, &from, text, starts, ends);
         lock_again(unlocked);

@@ -21,8 +21,8 @@ from ._table import Table
 
 __all__ = [
     "UNICODE_VERSION", "WORDS_UNICODE_VERSION", "Break", "Cause", "Chunk", "ChunkColumns", "Columns", "Fault", "File",
-    "Kind", "ListColumns", "Passage", "PassageColumns", "Rule", "Stream", "Table", "WordColumns", "__version__", "breaks",
-    "chunks", "segments", "words",
+    "Kind", "ListColumns", "Passage", "PassageColumns", "Rule", "Stream", "Table", "WordColumns", "__version__",
+    "breaks", "chunks", "segments", "words",
 ]
 
 # Users, and what they pickle, know these by their public names.

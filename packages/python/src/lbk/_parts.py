@@ -80,7 +80,8 @@ class PartColumns(NamedTuple):
 
 
 def plan(
-    paths: Any, table: Table, blocksize: "int | None", compression: "str | None", storage_options: "dict[str, Any] | None"
+    paths: Any, table: Table, blocksize: "int | None", compression: "str | None",
+    storage_options: "dict[str, Any] | None"
 ) -> list[Part]:
     """The parts of all files, in the order of the files. A file that cannot be cut is one part, so
     that the task that reads it reports why."""
@@ -95,7 +96,8 @@ def plan(
                 places = _cuts(file, table, blocksize)
             except Exception:
                 pass
-        parts += [Part(file, start, end, k == len(places) - 2) for k, (start, end) in enumerate(zip(places, places[1:]))]
+        parts += [Part(file, start, end, k == len(places) - 2)
+            for k, (start, end) in enumerate(zip(places, places[1:]))]
     return parts
 
 

@@ -81,7 +81,8 @@ def _lines(items: list[Any], are_columns: bool) -> bytes:
 
 
 def _row(item: Any) -> dict[str, Any]:
-    return {field: value.tolist() if isinstance(value, np.ndarray) else value for field, value in item._asdict().items()}
+    return {field: value.tolist() if isinstance(value, np.ndarray) else value
+        for field, value in item._asdict().items()}
 
 
 def _arrays(items: list[Any]) -> tuple[dict[str, Any], dict[str, Any]]:
@@ -89,7 +90,8 @@ def _arrays(items: list[Any]) -> tuple[dict[str, Any], dict[str, Any]]:
     offsets = np.zeros(len(items) + 1, np.int64)
     np.cumsum([len(item.places) for item in items], out=offsets[1:])
     kinds = {"places": np.int64, "kinds": np.uint8, "rules": np.uint8}
-    many = {field: np.concatenate([np.empty(0, kind), *(getattr(item, field) for item in items)]) for field, kind in kinds.items()}
+    many = {field: np.concatenate([np.empty(0, kind), *(getattr(item, field) for item in items)])
+        for field, kind in kinds.items()}
     one = {}
     if any(isinstance(item, PartColumns) for item in items):
         one = {field: np.array([getattr(item, field) for item in items]) for field in ("path", "start", "end")}

@@ -87,11 +87,13 @@ class Table:
         folder has the files, and Fault if a file is not the one that Unicode published for the
         version UNICODE_VERSION.
         """
-        memory, place = _find() if folder is None else (_read_folder(folder, f"; {_calls.remedy_text()}"), os.path.abspath(folder))
+        memory, place = _find() if folder is None else (_read_folder(folder, f"; {_calls.remedy_text()}"),
+            os.path.abspath(folder))
         return cls._of(memory, _load_again, place, _digest_of(memory))
 
     @classmethod
-    def from_files(cls, line_break: Name, east_asian: Name, category: Name, emoji: Name, *, strict: bool = True) -> Self:
+    def from_files(cls, line_break: Name, east_asian: Name, category: Name, emoji: Name, *,
+        strict: bool = True) -> Self:
         """Loads the table of any four files, given by their names. Raises OSError if one cannot be
         read, and Fault as `read` does."""
         names = [os.fsdecode(name) for name in (line_break, east_asian, category, emoji)]
@@ -341,7 +343,8 @@ def _read_folder(folder: "_database.Folder", remedy: str = "") -> bytearray:
     try:
         return _read(files, True)
     except Fault as fault:
-        claim = _calls.claim_text(fault.file, files[fault.file - 1]) + remedy if fault.cause == Cause.NOT_PUBLISHED else ""
+        claim = _calls.claim_text(fault.file, files[fault.file
+            - 1]) + remedy if fault.cause == Cause.NOT_PUBLISHED else ""
         place = _database.place_of(folder, fault.file) if fault.file else os.fspath(folder)
         raise Fault(fault.file, fault.line, fault.cause, place, claim) from None
 

@@ -146,7 +146,8 @@ def breaks(texts: Any, table: Name, profile: int = 1) -> Any:
     name = _name_of(table)
     if isinstance(texts, Bag):
         return texts.map_partitions(_map_texts, _all_breaks, name, profile)
-    return _series(texts).map_partitions(_breaks_frame, name, profile, meta={column: object for column in Columns._fields})
+    return _series(texts).map_partitions(_breaks_frame, name, profile,
+        meta={column: object for column in Columns._fields})
 
 
 def segments(texts: Any, table: Name, profile: int = 1) -> Any:
@@ -162,8 +163,8 @@ def words(texts: Any) -> Any:
 
 
 def chunks(
-    texts: Any, table: Name, most: int = 500, words: "int | None" = None, least: "int | None" = None, overlap: int = 0, *,
-    unit: Unit = None, profile: int = 1,
+    texts: Any, table: Name, most: int = 500, words: "int | None" = None, least: "int | None" = None, overlap: int = 0,
+    *, unit: Unit = None, profile: int = 1,
 ) -> Any:
     """The chunks of each text, with the limits of `Table.chunks`.
 
@@ -263,7 +264,8 @@ def _all_breaks(texts: list[Any], table: Table, profile: int) -> Iterable[Column
     import numpy as np
 
     offsets, places, kinds, rules = table.break_list_columns(texts, profile)
-    columns: list[Any] = [np.frombuffer(places, np.int64), np.frombuffer(kinds, np.uint8), np.frombuffer(rules, np.uint8)]
+    columns: list[Any] = [np.frombuffer(places, np.int64), np.frombuffer(kinds, np.uint8),
+        np.frombuffer(rules, np.uint8)]
     for start, end in zip(offsets, offsets[1:]):
         yield Columns(*(column[start:end] for column in columns))
 
