@@ -85,9 +85,12 @@ for line in open(sys.argv[1], encoding="utf-8"):
 PYTHON
     texts+=("$here/test-lines")
     oracle=(random published scalars)
-    "$top/checks/word_oracle.py" "$ucd" random 40000 1 "$here/random" > "$here/random-words" || told 'word_oracle, random bytes' "status $?"
-    "$top/checks/word_oracle.py" "$ucd" published "$here/published" > "$here/published-words" || told 'word_oracle, the published test' "status $?"
-    "$top/checks/word_oracle.py" "$ucd" scalars "$here/scalars" > "$here/scalars-words" || told 'word_oracle, each scalar' "status $?"
+    "$top/checks/word_oracle.py" "$ucd" random 40000 1 "$here/random" > "$here/random-words" \
+        || told 'word_oracle, random bytes' "status $?"
+    "$top/checks/word_oracle.py" "$ucd" published "$here/published" > "$here/published-words" \
+        || told 'word_oracle, the published test' "status $?"
+    "$top/checks/word_oracle.py" "$ucd" scalars "$here/scalars" > "$here/scalars-words" \
+        || told 'word_oracle, each scalar' "status $?"
 else
     left_out "the published files of Unicode 15.0, which are in the package unicode-data; the stored runs' files are taken"
     files=("${names[@]##*/}")
@@ -98,23 +101,28 @@ printf 'ab, (cd) \xe2\x80\x98ef\xe2\x80\x99\r\n\xe4\xb8\x80\xe4\xb8\x80 1,5 %%\n
 texts+=("$here/few" "$here/nothing" "$@")
 for profile in 1 2; do
     for number in "${!texts[@]}"; do
-        "$top/crates/lbk/out/lbk" segment --line-break "${files[0]}" --east-asian "${files[1]}" --category "${files[2]}" --emoji "${files[3]}" \
-            --limit 16777216 --profile $profile < "${texts[number]}" > "$here/all" || told "lbk segment of ${texts[number]}" "status $?"
+        "$top/crates/lbk/out/lbk" segment --line-break "${files[0]}" --east-asian "${files[1]}" \
+            --category "${files[2]}" --emoji "${files[3]}" \
+            --limit 16777216 --profile $profile < "${texts[number]}" > "$here/all" \
+                || told "lbk segment of ${texts[number]}" "status $?"
         sed -n '/^S /p' "$here/all" > "$here/wanted-$profile-$number"
         sed -n '/^W /p' "$here/all" > "$here/words-$number"
     done
 done
 
 # The code of each function is what the kit's compiler made of what was proved.
-code_in() { (mkdir "$2" && cd "$2" && ar x "$1" && for it in *.o; do objdump -s "$it" | awk '/^Contents of section/ { on = $4 ~ /^\.text\./ } on'; done); }
+code_in() { (mkdir "$2" && cd "$2" && ar x "$1" && for it in *.o; do objdump -s "$it" \
+    | awk '/^Contents of section/ { on = $4 ~ /^\.text\./ } on'; done); }
 code_in "$top/crates/lbk_c/out/liblbk_c.a" "$here/made" > "$here/code-made"
 code_in "$folder/liblbk.a" "$here/linked" > "$here/code-linked"
-told 'the code in liblbk.a is that of the proved archive' "$([ -s "$here/code-made" ] && cmp "$here/code-made" "$here/code-linked" && echo yes)"
+told 'the code in liblbk.a is that of the proved archive' \
+    "$([ -s "$here/code-made" ] && cmp "$here/code-made" "$here/code-linked" && echo yes)"
 
 # The names that the libraries show: those of the header, and in the shared one with the version.
 calls=$(sed -n 's/^[a-z].* \**\(lbk_[a-z0-9_]*\)(.*/\1/p' "$prefix/include/lbk.h" | sort)
 shown=$(nm -g --defined-only "$folder/liblbk.a" | sed -n 's/.* //p' | grep -v '^lbk\.o:$' | sort)
-told 'liblbk.a shows the calls of the header alone' "$([ -n "$calls" ] && [ "$shown" = "$calls" ] && echo yes || echo "it shows $shown")"
+told 'liblbk.a shows the calls of the header alone' \
+    "$([ -n "$calls" ] && [ "$shown" = "$calls" ] && echo yes || echo "it shows $shown")"
 shown=$(nm -D --defined-only --with-symbol-versions "$folder/liblbk.so" | sed -n 's/.* T //p' | sort)
 version=$(pkg-config --modversion lbk)
 told 'liblbk.so shows them with its version' "$([ "$shown" = "$(sed "s/\$/@@LBK_${version%.*}/" <<< "$calls")" ] && echo yes || echo "it shows $shown")"
@@ -145,7 +153,8 @@ try_words() {
     fi
     for number in "${!texts[@]}"; do
         for room in 1 3 256; do
-            "$program" $room < "${texts[number]}" > "$here/out" 2> "$here/log" && cmp -s "$here/out" "$here/words-$number" \
+            "$program" $room < "${texts[number]}" > "$here/out" 2> "$here/log" \
+                && cmp -s "$here/out" "$here/words-$number" \
                 || wrong="room $room, ${texts[number]}: $(diff "$here/words-$number" "$here/out" | sed -n 2p)"
         done
     done
@@ -153,7 +162,8 @@ try_words() {
     for number in "${oracle[@]}"; do
         "$program" 7 < "$here/$number" > "$here/out" 2> "$here/log" && cmp -s "$here/out" "$here/$number-words"
         status=$?
-        told "$what: the words of $number" "$([ $status = 0 ] && echo yes || diff "$here/$number-words" "$here/out" | sed -n 2p)"
+        told "$what: the words of $number" \
+            "$([ $status = 0 ] && echo yes || diff "$here/$number-words" "$here/out" | sed -n 2p)"
     done
 }
 
@@ -184,17 +194,21 @@ try_c() {
     local name version checks
     find_checks "$1"
     for version in c99 c11 c17; do
-        tried "$1: lbk.h in $version" "$1" -std=$version "${warnings[@]}" "${flags[@]}" -fsyntax-only -xc "$prefix/include/lbk.h"
+        tried "$1: lbk.h in $version" "$1" -std=$version "${warnings[@]}" "${flags[@]}" -fsyntax-only \
+            -xc "$prefix/include/lbk.h"
     done
     for name in breaks save_table utf16 words; do
-        tried "$1: $name.c" "$1" -std=c99 "${warnings[@]}" "${flags[@]}" "$top/examples/$name.c" "${links[@]}" -o "$here/built/$name-$1"
+        tried "$1: $name.c" "$1" -std=c99 "${warnings[@]}" "${flags[@]}" "$top/examples/$name.c" "${links[@]}" \
+            -o "$here/built/$name-$1"
     done
     for name in blocks chunks edges fuzz marks published streams streams_utf16 cuts units; do
-        tried "$1: $name.c" "$1" -std=c99 "${warnings[@]}" "${checks[@]}" "${flags[@]}" "$top/examples/$name.c" "${links[@]}" \
+        tried "$1: $name.c" "$1" -std=c99 "${warnings[@]}" "${checks[@]}" "${flags[@]}" "$top/examples/$name.c" \
+            "${links[@]}" \
             -o "$here/built/$name-$1"
     done
     for name in refused threads; do
-        tried "$1: $name.c" "$1" -std=c99 "${warnings[@]}" "${flags[@]}" "$top/checks/c/$name.c" "${links[@]}" -pthread \
+        tried "$1: $name.c" "$1" -std=c99 "${warnings[@]}" "${flags[@]}" "$top/checks/c/$name.c" "${links[@]}" \
+            -pthread \
             -o "$here/built/$name-$1"
     done
     compare "$1: breaks.c" "$here/built/breaks-$1"
@@ -251,16 +265,20 @@ try_cpp() {
             rm -rf "$here/edges"
             mkdir "$here/edges"
             # shellcheck disable=SC2086
-            tried "$1: edges.cpp in $version $without" "$1" -std=$version $without "${warnings[@]}" "${checks[@]}" "${flags[@]}" \
+            tried "$1: edges.cpp in $version $without" "$1" -std=$version $without "${warnings[@]}" "${checks[@]}" \
+                "${flags[@]}" \
                 "$top/examples/edges.cpp" "${links[@]}" -o "$here/built/edges-cpp-$1" \
-                && count "$1: edges.cpp in $version $without, run" "$here/built/edges-cpp-$1" "$here/edges" ${LBK_DATABASE:+"$LBK_DATABASE"}
+                && count "$1: edges.cpp in $version $without, run" "$here/built/edges-cpp-$1" "$here/edges" \
+                    ${LBK_DATABASE:+"$LBK_DATABASE"}
             # shellcheck disable=SC2086
-            tried "$1: passages.cpp in $version $without" "$1" -std=$version $without "${warnings[@]}" "${checks[@]}" "${flags[@]}" \
+            tried "$1: passages.cpp in $version $without" "$1" -std=$version $without "${warnings[@]}" "${checks[@]}" \
+                "${flags[@]}" \
                 "$top/examples/passages.cpp" "${links[@]}" -o "$here/built/passages-cpp-$1" \
                 && count "$1: passages.cpp in $version $without, run" "$here/built/passages-cpp-$1" "$here/edges"
         done
         for name in breaks parts; do
-            tried "$1: $name.cpp in $version" "$1" -std=$version "${warnings[@]}" "${flags[@]}" "$top/examples/$name.cpp" "${links[@]}" \
+            tried "$1: $name.cpp in $version" "$1" -std=$version "${warnings[@]}" "${flags[@]}" \
+                "$top/examples/$name.cpp" "${links[@]}" \
                 -o "$here/built/$name-cpp-$1"
             compare "$1: $name.cpp in $version" "$here/built/$name-cpp-$1"
         done
@@ -284,7 +302,8 @@ done
 for compiler in g++ clang++; do
     if has $compiler; then try_cpp $compiler; else left_out "$compiler is not there"; fi
 done
-tried 'cc: breaks.c with liblbk.a' cc -std=c99 "${warnings[@]}" "${flags[@]}" "$top/examples/breaks.c" "$prefix/lib/liblbk.a" \
+tried 'cc: breaks.c with liblbk.a' cc -std=c99 "${warnings[@]}" "${flags[@]}" "$top/examples/breaks.c" \
+    "$prefix/lib/liblbk.a" \
     -o "$here/built/breaks-static"
 compare 'cc: breaks.c with liblbk.a' env -u LD_LIBRARY_PATH "$here/built/breaks-static"
 count 'cc: streams.c, a million random cuttings' "$here/built/streams-cc" 1000000 2 "${files[@]}"
@@ -313,16 +332,19 @@ try_no_table() {
     tried "packages/unibreak: build for $1" "$top/packages/unibreak/build" "$2" "$here/without"
     [ -z "$made" ] || rm "$2"
     count "packages/unibreak: $1" env LD_LIBRARY_PATH="$here/without/lib" "$here/built/unibreak" no-table
-    told "packages/unibreak: $1 is named once" "$([ "$(grep '^linebreak: ' "$here/log")" = "linebreak: $3" ] && echo yes || cat "$here/log")"
+    told "packages/unibreak: $1 is named once" \
+        "$([ "$(grep '^linebreak: ' "$here/log")" = "linebreak: $3" ] && echo yes || cat "$here/log")"
 }
 unibreak=()
 if [ -n "$published" ] && tried 'packages/unibreak: build' "$top/packages/unibreak/build" "$table" "$here/unibreak" \
-    && tried 'packages/unibreak: test.c' cc -std=c99 "${warnings[@]}" -I"$here/unibreak/include" "$top/packages/unibreak/test.c" \
+    && tried 'packages/unibreak: test.c' cc -std=c99 "${warnings[@]}" \
+        -I"$here/unibreak/include" "$top/packages/unibreak/test.c" \
         -L"$here/unibreak/lib" -llbk-unibreak -o "$here/built/unibreak"; then
     unibreak=(env LD_LIBRARY_PATH="$here/unibreak/lib" "$here/built/unibreak")
     count 'packages/unibreak: test.c, run' "${unibreak[@]}"
     tried 'packages/unibreak: build for a folder' "$top/packages/unibreak/build" "$ucd" "$here/unibreak-folder"
-    count 'packages/unibreak: test.c with a folder' env LD_LIBRARY_PATH="$here/unibreak-folder/lib" "$here/built/unibreak"
+    count 'packages/unibreak: test.c with a folder' env LD_LIBRARY_PATH="$here/unibreak-folder/lib" \
+        "$here/built/unibreak"
 fi
 printf 'x' | dd of="$table" bs=1 seek=100000 conv=notrunc status=none
 "$here/built/save_table-cc" "$table" < "$here/few" > "$here/log" 2>&1
@@ -330,15 +352,19 @@ status=$?
 told 'save_table.c: a table that is not whole is refused' "$([ $status = 1 ] && echo yes || echo "status $status")"
 if [ ${#unibreak[@]} != 0 ]; then
     remedy='install the files of Unicode 15.0 (Debian: unicode-data)'
-    try_no_table 'a table that is not whole' "$table" "$table: it is not an intact table: write it with examples/save_table.c of lbk $(pkg-config --modversion lbk)"
-    try_no_table 'no table' "$here/none" "$here/none: No such file or directory: put the table there that this library was built for"
+    try_no_table 'a table that is not whole' "$table" \
+        "$table: it is not an intact table: write it with examples/save_table.c of lbk $(pkg-config --modversion lbk)"
+    try_no_table 'no table' "$here/none" \
+        "$here/none: No such file or directory: put the table there that this library was built for"
     mkdir "$here/files"
     cp -s "${names[@]/#/$ucd/}" "$here/files"
     tried 'packages/unibreak: build for four files' "$top/packages/unibreak/build" "$here/files" "$here/unibreak-files"
-    count 'packages/unibreak: test.c with four files' env LD_LIBRARY_PATH="$here/unibreak-files/lib" "$here/built/unibreak"
+    count 'packages/unibreak: test.c with four files' env LD_LIBRARY_PATH="$here/unibreak-files/lib" \
+        "$here/built/unibreak"
     mkdir "$here/files/extracted"
     rm "$here/files/DerivedGeneralCategory.txt"
-    try_no_table 'a folder that lacks a file' "$here/files" "$here/files/extracted/DerivedGeneralCategory.txt: No such file or directory: $remedy"
+    try_no_table 'a folder that lacks a file' "$here/files" \
+        "$here/files/extracted/DerivedGeneralCategory.txt: No such file or directory: $remedy"
     head -n 100 "$ucd/extracted/DerivedGeneralCategory.txt" > "$here/files/extracted/DerivedGeneralCategory.txt"
     try_no_table 'a folder with a part of a file' "$here/files" \
         "$here/files/extracted/DerivedGeneralCategory.txt: the file is not the one that Unicode 15.0.0 published: $remedy"
@@ -347,12 +373,15 @@ fi
 # CMake
 if has cmake; then
     mkdir "$here/cmake"
-    printf 'cmake_minimum_required(VERSION 3.10)\nproject(tried C)\nfind_package(lbk 0.1 REQUIRED)\n' > "$here/cmake/CMakeLists.txt"
+    printf 'cmake_minimum_required(VERSION 3.10)\nproject(tried C)\nfind_package(lbk 0.1 REQUIRED)\n' > \
+        "$here/cmake/CMakeLists.txt"
     for way in lbk static; do
-        printf 'add_executable(breaks-%s "%s")\ntarget_link_libraries(breaks-%s lbk::%s)\n' $way "$top/examples/breaks.c" $way $way \
+        printf 'add_executable(breaks-%s "%s")\ntarget_link_libraries(breaks-%s lbk::%s)\n' $way \
+            "$top/examples/breaks.c" $way $way \
             >> "$here/cmake/CMakeLists.txt"
     done
-    tried 'CMake: find_package' env -u LD_LIBRARY_PATH cmake -S "$here/cmake" -B "$here/cmake/built" -DCMAKE_PREFIX_PATH="$prefix" \
+    tried 'CMake: find_package' env -u LD_LIBRARY_PATH cmake -S "$here/cmake" -B "$here/cmake/built" \
+        -DCMAKE_PREFIX_PATH="$prefix" \
         && tried 'CMake: build' cmake --build "$here/cmake/built"
     for way in lbk static; do
         compare "CMake: breaks.c with lbk::$way" env -u LD_LIBRARY_PATH "$here/cmake/built/breaks-$way"
@@ -369,8 +398,10 @@ try_cargo() {
     for way in static shared; do
         linked=(env -u LD_LIBRARY_PATH)
         [ $way = static ] || linked=(env LBK_SHARED=1)
-        tried "$1: test, $way" "${crate[@]}" "${linked[@]}" "$1" test --offline --locked -- --include-ignored "${skipped[@]}"
-        tried "$1: the examples, $way" "${crate[@]}" "${linked[@]}" "$1" build --offline --locked --release --lib --examples
+        tried "$1: test, $way" "${crate[@]}" "${linked[@]}" "$1" test --offline --locked -- \
+            --include-ignored "${skipped[@]}"
+        tried "$1: the examples, $way" "${crate[@]}" "${linked[@]}" "$1" build --offline --locked --release --lib \
+            --examples
         for name in breaks parts; do
             compare "$1: $name.rs, $way" "${linked[@]}" "$CARGO_TARGET_DIR/release/examples/$name"
         done
@@ -381,12 +412,14 @@ try_cargo() {
         printf 'ab cd\nef' | env -u LD_LIBRARY_PATH "$CARGO_TARGET_DIR/debug/embedded" > "$here/out" 2> "$here/log"
         printf '"ab " May 18\n"cd\\n" Must 5\n"ef" Must 3\n' > "$here/wanted"
         tried "$1: embedded, run" diff "$here/wanted" "$here/out"
-        tried "$1: packages/linebreak" env -C "$top/packages/linebreak" -u LD_LIBRARY_PATH UNICODE_DATA="$LBK_DATABASE" "$1" test --offline --locked
+        tried "$1: packages/linebreak" env -C "$top/packages/linebreak" \
+            -u LD_LIBRARY_PATH UNICODE_DATA="$LBK_DATABASE" "$1" test --offline --locked
     fi
 }
 
 # Rust
-printf '#include <lbk.h>\n#include <stdio.h>\nint main(void) { printf("%%zu", sizeof(lbk_table)); return 0; }\n' > "$here/size.c"
+printf '#include <lbk.h>\n#include <stdio.h>\nint main(void) { printf("%%zu", sizeof(lbk_table)); return 0; }\n' > \
+    "$here/size.c"
 tried 'sizeof(lbk_table)' cc "${flags[@]}" "$here/size.c" -o "$here/size" && LBK_TABLE_SIZE=$("$here/size")
 export LBK_TABLE_SIZE
 rlib=$here/liblbk.rlib
@@ -401,7 +434,8 @@ elif has rustc; then
     left_out 'cargo is not there, so the tests of the Rust crate'
     tried 'rustc: the crate' rustc --edition 2021 --crate-type rlib --crate-name lbk --cfg 'feature="std"' -O \
         -L "$folder" -l static=lbk "$top/packages/rust/src/lib.rs" -o "$here/liblbk.rlib"
-    tried 'rustc: breaks.rs' rustc --edition 2021 -O "$top/examples/breaks.rs" --extern "lbk=$here/liblbk.rlib" -L "$folder" \
+    tried 'rustc: breaks.rs' rustc --edition 2021 -O "$top/examples/breaks.rs" --extern "lbk=$here/liblbk.rlib" \
+        -L "$folder" \
         -o "$here/built/breaks-rs"
     compare 'rustc: breaks.rs' "$here/built/breaks-rs"
 else
@@ -460,15 +494,18 @@ PYTHON
 
 # Python
 include=$(python3 -c 'import sysconfig; print(sysconfig.get_path("include"))')
-if ! python3 -c 'import setuptools, sys; sys.exit(sys.version_info < (3, 11))' 2> "$here/log" || [ ! -r "$include/Python.h" ]; then
+if ! python3 -c 'import setuptools, sys; sys.exit(sys.version_info < (3, 11))' 2> "$here/log" \
+    || [ ! -r "$include/Python.h" ]; then
     left_out 'the Python package, which needs Python 3.11 with its headers and setuptools'
     try_page
     end
 fi
 cp -r "$top/packages/python" "$here/python"
 # build_python FOLDER WORD..: builds the package into a folder, with the words for the compiler.
-build_python() (cd "$here/python" && CFLAGS=${*:2} LBK_PREFIX=$prefix python3 setup.py -q build -b "$1-build" --build-lib "$1")
-test_python() { LBK_LIBRARY=$prefix/lib/liblbk.so UNICODE_DATA=$ucd python3 -m unittest discover -s "$top/packages/python/tests"; }
+build_python() (cd "$here/python" && CFLAGS=${*:2} LBK_PREFIX=$prefix python3 setup.py -q build -b "$1-build" \
+    --build-lib "$1")
+test_python() { LBK_LIBRARY=$prefix/lib/liblbk.so UNICODE_DATA=$ucd python3 -m unittest discover \
+    -s "$top/packages/python/tests"; }
 tried 'the Python package' build_python "$here/python-library" || end
 export PYTHONPATH=$here/python-library
 tried 'the tests of the Python package' test_python
