@@ -1,6 +1,7 @@
-/* What a table in two stages and smaller breaks would gain: the loop of the library for C, modelled in C over its table and its
- * steps (crates/lbk_rules/src/row_steps.rt), with kinds read flat or by pages, and breaks of 16 bytes, in columns of 4 + 1 + 1 bytes, or of 2 bytes (the distance from the break
- * before, and the number of the rule). Texts are taken as well-formed and held positions as no breaks, in every form alike.
+/* What a table in two stages and smaller breaks would gain: the loop of the library for C, modelled in C over its
+ * table and its steps (crates/lbk_rules/src/row_steps.rt), with kinds read flat or by pages, and breaks of 16 bytes,
+ * in columns of 4 + 1 + 1 bytes, or of 2 bytes (the distance from the break before, and the number of the rule).
+ * Texts are taken as well-formed and held positions as no breaks, in every form alike.
  *
  *     layouts ROW-STEPS LINE-BREAK EAST-ASIAN CATEGORY EMOJI TEXT..
  */

@@ -1,4 +1,5 @@
-/* An older library beside this one, for peers.c: its header is included here alone, and bench/run gives its calls other names. */
+/* An older library beside this one, for peers.c: its header is included here alone, and bench/run gives its calls
+ * other names. */
 #include <lbk.h>
 #include <stddef.h>
 

@@ -1,4 +1,5 @@
-/* This library beside others that a program of C can link: ICU, libunibreak, and by a shim xi-unicode and unicode-linebreak.
+/* This library beside others that a program of C can link: ICU, libunibreak, and by a shim xi-unicode and
+ * unicode-linebreak.
  *
  *     peers speed FILES.. TEXT..   millions of bytes a second of processor time, over the first million bytes of each text
  *     peers first FILES.. TABLE    microseconds of the first use in this process; TABLE is a file for a saved table

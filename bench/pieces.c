@@ -2,8 +2,8 @@
  *
  *     pieces SIZE LINE_BREAK EAST_ASIAN CATEGORY EMOJI TEXT..
  *
- * SIZE is that of a piece, in bytes. Writes for the first two million bytes of each text, in each profile, the best of several
- * runs of each in millions of bytes a second of processor time, and what the pieces reach of the whole.
+ * SIZE is that of a piece, in bytes. Writes for the first two million bytes of each text, in each profile, the best
+ * of several runs of each in millions of bytes a second of processor time, and what the pieces reach of the whole.
  */
 #define _DEFAULT_SOURCE
 #include "../examples/example.h"

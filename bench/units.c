@@ -1,9 +1,11 @@
-/* The breaks of one text in UTF-8, UTF-16 and UTF-32, beside ICU's line iterator and libunibreak over the same units of 16 bits.
+/* The breaks of one text in UTF-8, UTF-16 and UTF-32, beside ICU's line iterator and libunibreak over the same units
+ * of 16 bits.
  *
  *     units FILES.. TEXT..
  *
- * FILES are the four property files, each TEXT is UTF-8, of which the first million bytes are taken. A line has millions of
- * scalars a second of processor time, the best of 25 runs. Each is asked for all breaks, and a sum of their places is kept.
+ * FILES are the four property files, each TEXT is UTF-8, of which the first million bytes are taken. A line has
+ * millions of scalars a second of processor time, the best of 25 runs. Each is asked for all breaks, and a sum of
+ * their places is kept.
  */
 #define _GNU_SOURCE
 #include "../examples/example.h"

@@ -1,10 +1,10 @@
-/* How fast lbk_words finds the words of a text, beside unicode-segmentation's `unicode_words` (shim/), ICU's word iterator and, where
- * OLDER is defined, an older lbk_words.
+/* How fast lbk_words finds the words of a text, beside unicode-segmentation's `unicode_words` (shim/), ICU's word
+ * iterator and, where OLDER is defined, an older lbk_words.
  *
  *     words TEXT..
  *
- * Prints lines `TEXT words WAY RATE MB/s`, with tabs, over the first million bytes of each text: processor time, the best of 15 runs
- * in turn, blocks of 256 words. ICU iterates over the text as UTF-8.
+ * Prints lines `TEXT words WAY RATE MB/s`, with tabs, over the first million bytes of each text: processor time, the
+ * best of 15 runs in turn, blocks of 256 words. ICU iterates over the text as UTF-8.
  */
 #define _GNU_SOURCE
 #include <lbk.h>

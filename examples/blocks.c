@@ -1,10 +1,11 @@
-/* Tries lbk_words: asks for the words of texts in blocks of all rooms and of random ones, and compares them with those of the whole.
+/* Tries lbk_words: asks for the words of texts in blocks of all rooms and of random ones, and compares them with
+ * those of the whole.
  *
  *     blocks ROUNDS SEED
  *
- * Between two blocks all bytes before the state's place may turn into others, and from a word boundary on a text is one of its own.
- * Each text, block and state ends where memory ends that may be used, or begins where it begins, so that a byte too far ends the
- * program by a signal. The last line is `N passed, M failed`.
+ * Between two blocks all bytes before the state's place may turn into others, and from a word boundary on a text is
+ * one of its own. Each text, block and state ends where memory ends that may be used, or begins where it begins, so
+ * that a byte too far ends the program by a signal. The last line is `N passed, M failed`.
  */
 #define _DEFAULT_SOURCE
 #include "harness.h"
@@ -36,8 +37,8 @@ static int are_those(const lbk_word *word, size_t count, const found *all, size_
     return 1;
 }
 
-/* Asks for the words in blocks of these rooms, and then of the last one, which is not 0, until none is left. If `turns`, the bytes
- * before the state turn into others after each block. Returns whether all held that has to. */
+/* Asks for the words in blocks of these rooms, and then of the last one, which is not 0, until none is left. If
+ * `turns`, the bytes before the state turn into others after each block. Returns whether all held that has to. */
 static int agrees(const char *made, size_t size, const size_t *rooms, size_t count, int turns, const found *all)
 {
     char *text = place(texts, size);

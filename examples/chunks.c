@@ -1,6 +1,6 @@
-/* Tries lbk_chunks against its definition, as it reads, over the breaks and the words that the library gives: over texts and
- * random bytes, in both profiles, with random limits and rooms. With tables and states of random bytes each chunk has to start
- * at the end of the one before or earlier, and to end past it and within the text.
+/* Tries lbk_chunks against its definition, as it reads, over the breaks and the words that the library gives: over
+ * texts and random bytes, in both profiles, with random limits and rooms. With tables and states of random bytes
+ * each chunk has to start at the end of the one before or earlier, and to end past it and within the text.
  *
  *     chunks ROUNDS SEED LINE_BREAK EAST_ASIAN CATEGORY EMOJI TEXT..
  *

@@ -1,5 +1,5 @@
-/* Tries lbk_cut and lbk_cut_before at all places of random texts with ill-formed bytes, against what lbk_breaks says of the
- * whole text and of its parts, by tables in which line ends are others than usual, too.
+/* Tries lbk_cut and lbk_cut_before at all places of random texts with ill-formed bytes, against what lbk_breaks says
+ * of the whole text and of its parts, by tables in which line ends are others than usual, too.
  *
  *     cuts ROUNDS SEED LINE_BREAK EAST_ASIAN CATEGORY EMOJI
  *
@@ -63,7 +63,8 @@ static int joins(const lbk_table *table, unsigned profile, const char *text, siz
     return 1;
 }
 
-/* Whether both cuts stand where they do if other bytes stand before the four that precede them, and after the scalar at their end. */
+/* Whether both cuts stand where they do if other bytes stand before the four that precede them, and after the scalar
+ * at their end. */
 static int look_near(const lbk_table *table, const char *text, size_t size, size_t at)
 {
     char other[MOST_TEXT];

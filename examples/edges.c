@@ -1,6 +1,6 @@
-/* Tries the calls at their edges: null with length 0, rooms of 0 and 1, states that are spent, past the end or of no profile,
- * ill-formed and cut bytes, files with faults, and tables that are not whole. It needs no files, and writes what did not hold.
- * The last line is `N passed, M failed`.
+/* Tries the calls at their edges: null with length 0, rooms of 0 and 1, states that are spent, past the end or of no
+ * profile, ill-formed and cut bytes, files with faults, and tables that are not whole. It needs no files, and writes
+ * what did not hold. The last line is `N passed, M failed`.
  */
 #include <lbk.h>
 #include <stdint.h>
@@ -392,7 +392,8 @@ static void try_rule_texts(void)
     }
 }
 
-/* Whether the packed bytes are refused so. A table that is refused as damaged is corrupt then, and another one unchanged. */
+/* Whether the packed bytes are refused so. A table that is refused as damaged is corrupt then, and another one
+ * unchanged. */
 static int is_refused(const char *packed, size_t size, uint32_t cause)
 {
     static lbk_table other;

@@ -1,5 +1,5 @@
-/* Tries lbk.hpp at its edges: what its types are, what does not compile, ranges and iterators that are copied, kept and compared,
- * and tables from bytes, from a folder and from a mapped file. It writes what did not hold.
+/* Tries lbk.hpp at its edges: what its types are, what does not compile, ranges and iterators that are copied, kept
+ * and compared, and tables from bytes, from a folder and from a mapped file. It writes what did not hold.
  *
  *     edges FOLDER [DATABASE]     an empty folder, for files of its own, and one with the files that Unicode published
  *

@@ -2,8 +2,9 @@
  *
  *     fuzz ROUNDS SEED LINE_BREAK EAST_ASIAN CATEGORY EMOJI
  *
- * What a call is given ends where memory ends that may be read or written, or begins where it begins, so that a byte too far
- * ends the program by a signal, also where no checker has seen the library's code. The last line is `N passed, M failed`.
+ * What a call is given ends where memory ends that may be read or written, or begins where it begins, so that a byte
+ * too far ends the program by a signal, also where no checker has seen the library's code. The last line is `N
+ * passed, M failed`.
  */
 #define _DEFAULT_SOURCE
 #include "harness.h"
@@ -61,7 +62,8 @@ static void go_over_positions(const lbk_table *table, const char *text, size_t s
     }
 }
 
-/* The segments from a state on: each within the text, and by a kind and a rule, if the state's start is before its place. */
+/* The segments from a state on: each within the text, and by a kind and a rule, if the state's start is before its
+ * place. */
 static void go_over_segments(const lbk_table *table, const char *text, size_t size, fenced blocks, lbk_state from, size_t most_room)
 {
     const size_t start = below(4) == 0 ? below(from.at + 1) : from.at;

@@ -1,4 +1,5 @@
-/* What the programs that run the library on random bytes share: random numbers and texts, and memory with guard pages. */
+/* What the programs that run the library on random bytes share: random numbers and texts, and memory with guard
+ * pages. */
 #ifndef HARNESS_H
 #define HARNESS_H
 

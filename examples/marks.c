@@ -1,11 +1,11 @@
-/* Tries lbk_marks against lbk_breaks: over texts and random bytes, in both profiles, of whole texts and of parts, with random
- * numbers of words, the bits that are set have to be those of the breaks, and no others. With tables and states of random bytes
- * no bit may be set behind those that are told of.
+/* Tries lbk_marks against lbk_breaks: over texts and random bytes, in both profiles, of whole texts and of parts,
+ * with random numbers of words, the bits that are set have to be those of the breaks, and no others. With tables and
+ * states of random bytes no bit may be set behind those that are told of.
  *
  *     marks ROUNDS SEED LINE_BREAK EAST_ASIAN CATEGORY EMOJI TEXT..
  *
- * Each text, state and block of words ends where memory ends that may be used, or begins where it begins. The last line is
- * `N passed, M failed`.
+ * Each text, state and block of words ends where memory ends that may be used, or begins where it begins. The last
+ * line is `N passed, M failed`.
  */
 #define _DEFAULT_SOURCE
 #include "harness.h"
@@ -29,7 +29,8 @@ static int are_clear(const uint64_t *words, size_t count, size_t from)
     return 1;
 }
 
-/* Whether some words have a bit for each wanted place from `from` on, and no other. None is wanted where there are no places. */
+/* Whether some words have a bit for each wanted place from `from` on, and no other. None is wanted where there are
+ * no places. */
 static int agree(const uint64_t *words, size_t count, size_t from, const unsigned char *wanted, size_t size)
 {
     for (size_t i = 0; i < 64 * count; i++)

@@ -2,8 +2,8 @@
  *
  *     positions TABLE PROFILE [breaks] < TEXT
  *
- * TABLE is a file that save_table wrote, PROFILE 1 or 2. A line has the place in bytes, the kind (0 no, 1 may, 2 must) and
- * the rule. With `breaks` it writes the breaks alone, by lbk_breaks.
+ * TABLE is a file that save_table wrote, PROFILE 1 or 2. A line has the place in bytes, the kind (0 no, 1 may, 2
+ * must) and the rule. With `breaks` it writes the breaks alone, by lbk_breaks.
  */
 #include "example.h"
 

@@ -1,6 +1,7 @@
-/* Tries lbk_read_published: it takes the files that Unicode 15.0.0 published, with LF or CR LF at the ends of their lines, and
- * makes the table that lbk_read makes; it refuses each file with one other bit, a row less, a byte more or less, or another
- * file in its place, and leaves the table. The arguments name the four published files. The last line is `N passed, M failed`.
+/* Tries lbk_read_published: it takes the files that Unicode 15.0.0 published, with LF or CR LF at the ends of their
+ * lines, and makes the table that lbk_read makes; it refuses each file with one other bit, a row less, a byte more
+ * or less, or another file in its place, and leaves the table. The arguments name the four published files. The last
+ * line is `N passed, M failed`.
  */
 #include "example.h"
 #include <string.h>

@@ -1,10 +1,10 @@
-/* Tries lbk_feed: cuts texts and parts of texts into pieces in all ways and at random, and compares the breaks with those of the
- * whole.
+/* Tries lbk_feed: cuts texts and parts of texts into pieces in all ways and at random, and compares the breaks with
+ * those of the whole.
  *
  *     streams ROUNDS SEED LINE_BREAK EAST_ASIAN CATEGORY EMOJI
  *
- * Each piece, block and stream ends where memory ends that may be used, or begins where it begins, so that a byte too far ends
- * the program by a signal. The last line is `N passed, M failed`.
+ * Each piece, block and stream ends where memory ends that may be used, or begins where it begins, so that a byte
+ * too far ends the program by a signal. The last line is `N passed, M failed`.
  */
 #define _DEFAULT_SOURCE
 #include "harness.h"
@@ -75,8 +75,8 @@ static int is_open(const uint8_t *front, size_t size)
     return size == 0;
 }
 
-/* What a stream says of itself where the block was not full: all bytes are seen, and no more is open than a scalar and one
- * position. */
+/* What a stream says of itself where the block was not full: all bytes are seen, and no more is open than a scalar
+ * and one position. */
 static int is_settled(const lbk_stream *stream, uint64_t seen, const found *got, const found *all)
 {
     if (stream->at + stream->cut_size != seen || stream->cut_size > 3 || !is_open(stream->cut, stream->cut_size))
@@ -123,7 +123,8 @@ static int is_over(lbk_stream *stream)
     return fed.count == 0 && fed.taken == 3 && stream->ended != 0 && stream->at == old.at;
 }
 
-/* The part of a text that begins at a byte of it, in pieces that end at these places, of which the last is the text's size. */
+/* The part of a text that begins at a byte of it, in pieces that end at these places, of which the last is the
+ * text's size. */
 static int agrees(uint8_t profile,
     const char *text, size_t start, const size_t *ends, size_t count, size_t room, const found *all)
 {
@@ -143,8 +144,8 @@ static int agrees(uint8_t profile,
     return holds && same_breaks(&got, all) && is_over(&stream);
 }
 
-/* All ways to cut a text into up to four pieces, empty ones among them, and `last` set with the last or after it; where the text
- * ends there, and where it goes on. */
+/* All ways to cut a text into up to four pieces, empty ones among them, and `last` set with the last or after it;
+ * where the text ends there, and where it goes on. */
 static void try_all_cuttings(const char *text, size_t size)
 {
     for (unsigned profile = 0; profile < PROFILES; profile++) {
@@ -212,7 +213,8 @@ static void try_random_cutting(void)
     told("a stream gone on with over another text", holds && same_breaks(&got, &all));
 }
 
-/* A text in parts that begin where lbk_cut says, each a stream in random pieces: their breaks, one after another, are the text's. */
+/* A text in parts that begin where lbk_cut says, each a stream in random pieces: their breaks, one after another,
+ * are the text's. */
 static void try_parts(void)
 {
     char text[MOST_TEXT];

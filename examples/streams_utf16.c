@@ -1,10 +1,10 @@
-/* Tries lbk_feed_utf16: cuts texts in UTF-16 into pieces in all ways and at random, also between the halves of a surrogate pair,
- * and compares the breaks with those of lbk_breaks_utf16 over the whole.
+/* Tries lbk_feed_utf16: cuts texts in UTF-16 into pieces in all ways and at random, also between the halves of a
+ * surrogate pair, and compares the breaks with those of lbk_breaks_utf16 over the whole.
  *
  *     streams_utf16 ROUNDS SEED LINE_BREAK EAST_ASIAN CATEGORY EMOJI
  *
- * Each piece, block and stream ends where memory ends that may be used, or begins where it begins, so that a unit too far ends
- * the program by a signal. The last line is `N passed, M failed`.
+ * Each piece, block and stream ends where memory ends that may be used, or begins where it begins, so that a unit
+ * too far ends the program by a signal. The last line is `N passed, M failed`.
  */
 #define _DEFAULT_SOURCE
 #include "harness.h"
@@ -41,7 +41,8 @@ static int same_breaks(const found *a, const found *b)
     return 1;
 }
 
-/* What a stream says of itself where the block was not full: all units are seen, and at most the first half of a pair waits. */
+/* What a stream says of itself where the block was not full: all units are seen, and at most the first half of a
+ * pair waits. */
 static int is_settled(const lbk_stream *stream, uint64_t seen)
 {
     return stream->at + stream->cut_size == seen
@@ -83,7 +84,8 @@ static int is_over(lbk_stream *stream)
     return fed.count == 0 && fed.taken == 3 && stream->ended != 0 && memcmp(stream, &old, sizeof old) == 0;
 }
 
-/* The part of a text that begins at a unit of it, in pieces that end at these places, of which the last is the text's size. */
+/* The part of a text that begins at a unit of it, in pieces that end at these places, of which the last is the
+ * text's size. */
 static int agrees(uint8_t profile, const uint16_t *text, size_t start, const size_t *ends, size_t count, size_t room)
 {
     found all = breaks_of_whole(profile, text, start, ends[count - 1]), got;
@@ -102,7 +104,8 @@ static int agrees(uint8_t profile, const uint16_t *text, size_t start, const siz
     return holds && same_breaks(&got, &all) && is_over(&stream);
 }
 
-/* Every cutting of a short text, by a bit for each place between two units, and `last` set with the last piece or after it. */
+/* Every cutting of a short text, by a bit for each place between two units, and `last` set with the last piece or
+ * after it. */
 static void try_all_cuttings(const uint16_t *text, size_t size)
 {
     for (unsigned cuts = 0; cuts < 1U << (size == 0 ? 0 : size - 1); cuts++)

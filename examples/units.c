@@ -1,12 +1,14 @@
-/* Tries lbk_breaks_utf16 and lbk_breaks_utf32 against lbk_breaks, and lbk_positions_utf16 and lbk_positions_utf32 against
- * lbk_positions: what they give of random units has to be what is given of the UTF-8 text of the same scalars, at the units that
- * spell the scalars before it, in blocks of any room, also where the text goes on. Tries lbk_cut_utf16 and lbk_cut_before_utf16 at
- * all places of a text, against where a line must end in it, and the parts against the whole.
+/* Tries lbk_breaks_utf16 and lbk_breaks_utf32 against lbk_breaks, and lbk_positions_utf16 and lbk_positions_utf32
+ * against lbk_positions: what they give of random units has to be what is given of the UTF-8 text of the same
+ * scalars, at the units that spell the scalars before it, in blocks of any room, also where the text goes on. Tries
+ * lbk_cut_utf16 and lbk_cut_before_utf16 at all places of a text, against where a line must end in it, and the parts
+ * against the whole.
  *
  *     units ROUNDS SEED LINE_BREAK EAST_ASIAN CATEGORY EMOJI [TEXT]
  *
- * TEXT is a file of UTF-8, each line of which is tried too. Each text and block ends where memory ends that may be used, or
- * begins where it begins, so that a unit too far ends the program by a signal. The last line is `N passed, M failed`.
+ * TEXT is a file of UTF-8, each line of which is tried too. Each text and block ends where memory ends that may be
+ * used, or begins where it begins, so that a unit too far ends the program by a signal. The last line is `N passed,
+ * M failed`.
  */
 #define _DEFAULT_SOURCE
 #include "harness.h"
@@ -82,8 +84,8 @@ static size_t next(int all, int wide, lbk_state *state, const void *units, size_
                 : lbk_breaks_utf16(&table, state, units, size, block, room);
 }
 
-/* What is given of the scalars as UTF-8. Of positions of a part after which the text goes on: all but the last one of a text, and
- * then the break at the end, if there is one. */
+/* What is given of the scalars as UTF-8. Of positions of a part after which the text goes on: all but the last one
+ * of a text, and then the break at the end, if there is one. */
 static size_t wanted_of(int all, uint8_t profile, const scalars *read, lbk_break *to)
 {
     lbk_state state = {0}, over = {0};
@@ -199,8 +201,8 @@ static size_t part_of(int all, uint8_t profile, const uint16_t *units, size_t fr
     return (all ? lbk_positions_utf16 : lbk_breaks_utf16)(&table, &state, units, size, to, MOST_UNITS);
 }
 
-/* Whether what is given of both parts, one after the other, is what is given of the whole. The second begins with a position that
- * the first has. */
+/* Whether what is given of both parts, one after the other, is what is given of the whole. The second begins with a
+ * position that the first has. */
 static int joins(int all, uint8_t profile, const uint16_t *units, size_t size, size_t cut)
 {
     static lbk_break whole[MOST_UNITS], first[MOST_UNITS], second[MOST_UNITS];

@@ -2,7 +2,8 @@
  *
  *     iconv -f UTF-8 -t UTF-16LE TEXT | utf16 LINE_BREAK EAST_ASIAN CATEGORY EMOJI
  *
- * The units are in the machine's order of bytes, which is UTF-16LE on x86-64. The names are those of the four property files.
+ * The units are in the machine's order of bytes, which is UTF-16LE on x86-64. The names are those of the four
+ * property files.
  */
 #include "example.h"
 

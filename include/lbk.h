@@ -191,7 +191,8 @@ typedef struct lbk_state {
  *
  * A stream is a value: copy it, keep it, go back to it. It has no pointers, and no earlier piece is needed again.
  * Callers write `profile` at the start. They may read `at`, `ended`, `cut_size`, whether `held_code` is 0, and
- * `held_at` if it is not. The other fields are internal. A unit is a byte for lbk_feed, and 16 bits for lbk_feed_utf16. */
+ * `held_at` if it is not. The other fields are internal. A unit is a byte for lbk_feed, and 16 bits for
+ * lbk_feed_utf16. */
 typedef struct lbk_stream {
     uint64_t at;        /* the offset of the first unit that was not taken */
     uint64_t held_at;   /* the offset that waits for what follows, if one does; only in the second profile */

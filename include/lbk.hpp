@@ -56,7 +56,7 @@ struct error {
     enum class reason : std::uint8_t {
         none,
         refused,      ///< the four files have a fault; `fault` is the first one
-        unreadable,   ///< a file cannot be read: `fault.file` is its number, 0 for a saved table, and `system` the errno
+        unreadable,   ///< a file cannot be read: `fault.file` is its number (0: a saved table), `system` the errno
         not_a_table,  ///< the bytes are not an intact table of this version
         out_of_memory ///< an allocation failed
     };
@@ -72,7 +72,8 @@ struct error {
     /// What went wrong, in English.
     std::string message() const
     {
-        std::string file = fault.file == LBK_NO_FILE && why == reason::unreadable ? "table" : lbk_file_name(fault.file).text;
+        std::string file = fault.file == LBK_NO_FILE && why == reason::unreadable ? "table"
+            : lbk_file_name(fault.file).text;
         switch (why) {
         case reason::none:
             return "no error";
@@ -205,8 +206,8 @@ class table {
 public:
     /// Makes a table of the bytes of any four files. If `is_strict`, it refuses a truncated file (LBK_CAUSE_CUT): its
     /// first line claims a name that Unicode published, such as `# LineBreak-15.0.0.txt`, and its last is not `# EOF`.
-    static std::optional<table> try_read(std::string_view line_break, std::string_view east_asian, std::string_view category,
-                                         std::string_view emoji, error &why, bool is_strict = true) noexcept
+    static std::optional<table> try_read(std::string_view line_break, std::string_view east_asian,
+        std::string_view category, std::string_view emoji, error &why, bool is_strict = true) noexcept
     {
         const std::string_view files[] = {line_break, east_asian, category, emoji};
         for (std::uint32_t k = 0; is_strict && k < 4; k++)
@@ -221,7 +222,8 @@ public:
     /// that Unicode published for LBK_UNICODE_VERSION.
     static std::optional<table> try_load(const std::string &folder, error &why) noexcept
     {
-        static const char *const names[] = {"LineBreak.txt", "EastAsianWidth.txt", "DerivedGeneralCategory.txt", "emoji-data.txt"};
+        static const char *const names[] = {"LineBreak.txt", "EastAsianWidth.txt", "DerivedGeneralCategory.txt",
+            "emoji-data.txt"};
         static const char *const below[] = {"", "", "extracted/", "emoji/"};
         const detail::file_path ucd(folder.c_str(), "ucd", "");
         const bool is_below = !detail::file_path(folder.c_str(), "", names[0]).is_there() && ucd.is_there();
@@ -239,7 +241,8 @@ public:
         std::optional<table> made =
             read_by(lbk_read_published, files[0].view(), files[1].view(), files[2].view(), files[3].view(), why);
         if (why.fault.cause == LBK_CAUSE_NOT_PUBLISHED)
-            why.claim = lbk_claim_text(why.fault.file, files[why.fault.file - 1].view().data(), files[why.fault.file - 1].view().size());
+            why.claim = lbk_claim_text(why.fault.file, files[why.fault.file - 1].view().data(),
+                files[why.fault.file - 1].view().size());
         return made;
     }
 
@@ -257,11 +260,13 @@ public:
             error refused;
             if (std::optional<table> made = try_load(folder, refused))
                 return found = new table(std::move(*made));
-            refusals += "\n  " + folder + (refused.why == error::reason::out_of_memory ? ": " : "/") + refused.message();
+            refusals += "\n  " + folder + (refused.why == error::reason::out_of_memory ? ": " : "/")
+                + refused.message();
         }
         if (found == nullptr)
-            why = "found no files of Unicode " LBK_UNICODE_VERSION ".0; install the package unicode-data (Debian 12), unpack UCD.zip from "
-                  "https://www.unicode.org/Public/" LBK_UNICODE_VERSION ".0/ucd/ into ~/.local/share/unicode, or set UNICODE_DATA to a "
+            why = "found no files of Unicode " LBK_UNICODE_VERSION ".0; install the package unicode-data (Debian 12), "
+                  "unpack UCD.zip from https://www.unicode.org/Public/" LBK_UNICODE_VERSION ".0/ucd/ into "
+                  "~/.local/share/unicode, or set UNICODE_DATA to a "
                   "folder that has them. Looked for:" + refusals;
         return found;
     }
@@ -319,8 +324,8 @@ public:
     }
 
 #if defined(__cpp_exceptions)
-    static table read(std::string_view line_break, std::string_view east_asian, std::string_view category, std::string_view emoji,
-                      bool is_strict = true)
+    static table read(std::string_view line_break, std::string_view east_asian, std::string_view category,
+        std::string_view emoji, bool is_strict = true)
     {
         error why;
         return or_throw(try_read(line_break, east_asian, category, emoji, why, is_strict), why);
@@ -369,7 +374,8 @@ public:
     operator const lbk_table &() const && = delete;
 
     /// The bytes of the table, to save it to a file. They depend on the machine's byte order.
-    std::string_view bytes() const & noexcept { return {reinterpret_cast<const char *>(held_.get()), sizeof(lbk_table)}; }
+    std::string_view bytes() const & noexcept { return {reinterpret_cast<const char *>(held_.get()), sizeof(lbk_table)};
+        }
     std::string_view bytes() const && = delete;
 
     /// The table in a packed form of a few kilobytes, for unpack().
@@ -388,15 +394,15 @@ private:
     table(const lbk_table *at, release how) noexcept : held_(at, how) {}
 
     /// Makes the table of four files by `call`, lbk_read or lbk_read_published.
-    static std::optional<table> read_by(decltype(&lbk_read) call, std::string_view line_break, std::string_view east_asian,
-                                        std::string_view category, std::string_view emoji, error &why) noexcept
+    static std::optional<table> read_by(decltype(&lbk_read) call, std::string_view line_break,
+        std::string_view east_asian, std::string_view category, std::string_view emoji, error &why) noexcept
     {
         lbk_table *made = new (std::nothrow) lbk_table;
         if (made == nullptr)
             return none(why, error::reason::out_of_memory);
         table held(made, freed);
-        lbk_fault fault = call(made, line_break.data(), line_break.size(), east_asian.data(), east_asian.size(), category.data(),
-                               category.size(), emoji.data(), emoji.size());
+        lbk_fault fault = call(made, line_break.data(), line_break.size(), east_asian.data(), east_asian.size(),
+            category.data(), category.size(), emoji.data(), emoji.size());
         if (fault.cause == LBK_CAUSE_OUT_OF_MEMORY)
             return none(why, error::reason::out_of_memory);
         if (fault.cause != LBK_CAUSE_NONE)
@@ -431,9 +437,9 @@ private:
 
 namespace detail {
 
-/// An iterator over the results of a library call, which it fetches a block at a time. Copies are independent. It holds a
-/// block in the packed form of `Call`, and returns results by value. If not all of a block can be packed, it holds the
-/// first `Call::fitting`, at least one.
+/// An iterator over the results of a library call, which it fetches a block at a time. Copies are independent. It holds
+/// a block in the packed form of `Call`, and returns results by value. If not all of a block can be packed, it holds
+/// the first `Call::fitting`, at least one.
 template <typename Call>
 class iterator {
 public:
@@ -514,8 +520,8 @@ private:
     }
 };
 
-/// The state of lbk_breaks or lbk_positions. It is copied field by field, as it was written: a wider load would stall on
-/// the narrower stores. The library gets a copy, so that a loop keeps the rest of an iterator in registers.
+/// The state of lbk_breaks or lbk_positions. It is copied field by field, as it was written: a wider load would stall
+/// on the narrower stores. The library gets a copy, so that a loop keeps the rest of an iterator in registers.
 class break_state {
 public:
     using state_type = lbk_state;
@@ -580,7 +586,8 @@ class break_view {
         {
             return {static_cast<std::uint16_t>(one.at - base), one.kind, one.rule};
         }
-        static lbk_break unpacked(packed one, std::size_t base) noexcept { return {base + one.after, one.kind, one.rule}; }
+        static lbk_break unpacked(packed one, std::size_t base) noexcept { return {base + one.after, one.kind,
+            one.rule}; }
     };
 
 public:
@@ -708,8 +715,8 @@ inline std::vector<std::uint64_t> marks(const lbk_table &by, std::string_view te
     return words;
 }
 
-/// The first offset at or after `at` where a part of the text may begin: one with a required break, or the text's size if
-/// there is none. The parts have the breaks of the text: pass `follows::more` for each except the last, and add the
+/// The first offset at or after `at` where a part of the text may begin: one with a required break, or the text's size
+/// if there is none. The parts have the breaks of the text: pass `follows::more` for each except the last, and add the
 /// number of bytes before the part to its offsets.
 inline std::size_t cut(const lbk_table &by, std::string_view text, std::size_t at) noexcept
 {
@@ -877,9 +884,11 @@ private:
 struct limits {
     std::size_t most = 500;           ///< the most bytes, 1 or more
     std::size_t words = 0;            ///< the most words; 0: any number
-    /// a chunk may end early, at a required break, once this many of its bytes are in no earlier one; default: half of most
+    /// a chunk may end early, at a required break, once this many of its bytes are in no earlier one; default: half of
+    /// most
     std::optional<std::size_t> least = std::nullopt;
-    std::size_t overlap = 0;          ///< the next chunk repeats at most this many bytes of this one, and at most half of it
+    std::size_t overlap = 0;
+        ///< the next chunk repeats at most this many bytes of this one, and at most half of it
 
     lbk_limits get() const noexcept { return {most, words, least.value_or(most / 2), overlap}; }
 
@@ -892,14 +901,15 @@ struct limits {
         if (it.least > it.most)
             return "least must be from 0 to most (" + std::to_string(it.most) + "), not " + std::to_string(it.least);
         if (it.overlap > it.most / 2)
-            return "overlap must be from 0 to half of most (" + std::to_string(it.most) + "), not " + std::to_string(it.overlap);
+            return "overlap must be from 0 to half of most (" + std::to_string(it.most) + "), not "
+                + std::to_string(it.overlap);
         return {};
     }
 };
 
-/// The chunks of a text for search and retrieval, in order, each as its start and end, as a multi-pass view. Each ends at
-/// a break outside words (lbk_chunks). Limits that are out of range throw a std::invalid_argument that says which; without
-/// exceptions there are no chunks then.
+/// The chunks of a text for search and retrieval, in order, each as its start and end, as a multi-pass view. Each ends
+/// at a break outside words (lbk_chunks). Limits that are out of range throw a std::invalid_argument that says which;
+/// without exceptions there are no chunks then.
 class chunks {
     struct call {
         using value_type = lbk_chunk;
@@ -975,7 +985,8 @@ public:
     explicit unit_stream(const lbk_table &&, profile = profile::first) = delete;
     explicit unit_stream(const table &&, profile = profile::first) = delete;
 
-    /// Takes the next piece, and calls `found` with each break that it settles. Offsets count from the start of the text.
+    /// Takes the next piece, and calls `found` with each break that it settles. Offsets count from the start of the
+    /// text.
     template <typename Found>
     void feed(std::basic_string_view<Unit> piece, Found &&found)
     {
@@ -1000,7 +1011,8 @@ private:
         lbk_break block[room];
         lbk_fed fed;
         do {
-            fed = Feed(table_, &state_, reinterpret_cast<const Number *>(piece.data()), piece.size(), last, block, room);
+            fed = Feed(table_, &state_, reinterpret_cast<const Number *>(piece.data()), piece.size(), last, block,
+                room);
             piece.remove_prefix(fed.taken);
             for (std::size_t k = 0; k < fed.count; k++)
                 found(block[k]);
@@ -1010,8 +1022,8 @@ private:
 
 } // namespace detail
 
-/// The breaks of a text that arrives in pieces, cut anywhere. It refers to its table; the table must outlive it. Copies are
-/// independent.
+/// The breaks of a text that arrives in pieces, cut anywhere. It refers to its table; the table must outlive it. Copies
+/// are independent.
 using stream = detail::unit_stream<char, char, lbk_feed>;
 
 /// The same for a text in UTF-16, which may also be cut inside a surrogate pair. Offsets are in units.

@@ -1,4 +1,5 @@
-/** A text in a column, once with given breaks and once as the browser breaks it, with the places where only one starts a line. */
+/** A text in a column, once with given breaks and once as the browser breaks it, with the places where only one
+ * starts a line. */
 import { Blocks } from "./blocks.js";
 import { element } from "./elements.js";
 import { headLength, lineStarts, withoutLineEnd } from "./lines.js";
@@ -19,8 +20,8 @@ function browserStarts({ firstChild: node }) {
     if (withoutLineEnd(node.data[k]) === "") continue;
     range.setStart(node, k);
     range.setEnd(node, k + 1);
-    // A character at the start of a line can have an empty box at the end of the line before, too, and boxes of some fonts are so high
-    // that they reach into the next line.
+    // A character at the start of a line can have an empty box at the end of the line before, too, and boxes of some
+    // fonts are so high that they reach into the next line.
     const box = [...range.getClientRects()].at(-1);
     if (!box || (box.top + box.bottom) / 2 < bottom) continue;
     starts.push(k);
@@ -82,8 +83,8 @@ export class ColumnsView {
   }
 
   /**
-   * Shows a passage: its `text`, the `offset` in the whole text at which it starts, and its `paragraphs`, each with its `text` and the
-   * `ends` of its segments.
+   * Shows a passage: its `text`, the `offset` in the whole text at which it starts, and its `paragraphs`, each with
+   * its `text` and the `ends` of its segments.
    */
   show(passage) {
     this.#passage = passage;

@@ -1,6 +1,6 @@
 /**
- * A text and what is decided of it, paragraph by paragraph. After a required break the rules start anew, so that an edit
- * changes the paragraphs that it touches, and no other.
+ * A text and what is decided of it, paragraph by paragraph. After a required break the rules start anew, so that an
+ * edit changes the paragraphs that it touches, and no other.
  */
 
 import { characterAt, characterBefore } from "./characters.js";
@@ -29,7 +29,8 @@ function commonEnd(one, other, most) {
   return size;
 }
 
-/** The text from one place to another, with the character that follows, as a break after a line end depends on that one. */
+/** The text from one place to another, with the character that follows, as a break after a line end depends on that
+ * one. */
 function withNext(text, start, end) {
   return text.slice(start, end + characterAt(text, end).length);
 }
@@ -66,7 +67,8 @@ export class DecidedText {
     this.#count();
   }
 
-  /** Takes a text that an edit made of the one before, decides the paragraphs that changed, and returns how many these are. */
+  /** Takes a text that an edit made of the one before, decides the paragraphs that changed, and returns how many
+   * these are. */
   edit(text) {
     const before = this.text;
     const start = commonStart(before, text);
@@ -121,8 +123,9 @@ export class DecidedText {
   }
 
   /**
-   * The positions of a part of a paragraph, with places in it. The one at the part's end is there where the paragraph ends, too, and
-   * the one at a paragraph's start in the first paragraph only, since in others it is the last of the paragraph before.
+   * The positions of a part of a paragraph, with places in it. The one at the part's end is there where the
+   * paragraph ends, too, and the one at a paragraph's start in the first paragraph only, since in others it is the
+   * last of the paragraph before.
    */
   positionsIn(index, from, to) {
     const { at } = this.#columnsOf(index);

@@ -1,6 +1,6 @@
 /**
- * Letters with room for a sign between any two. They are text in spans, and nothing stands between these: what did would turn numbers
- * in right-to-left text round, as the bidirectional algorithm takes it for a neutral character.
+ * Letters with room for a sign between any two. They are text in spans, and nothing stands between these: what did
+ * would turn numbers in right-to-left text round, as the bidirectional algorithm takes it for a neutral character.
  */
 import { characterAt, characterBefore } from "./characters.js";
 import { hiddenName } from "./notation.js";
@@ -65,7 +65,8 @@ function shapeOf(text, at, measure) {
   return { character, written: (isJoined ? STROKE : MARK_BASE) + character, before: isJoined, after: isJoined };
 }
 
-/** What is written for a character, with strokes towards the letters to which it is joined, as wide as a letter has to be. */
+/** What is written for a character, with strokes towards the letters to which it is joined, as wide as a letter has
+ * to be. */
 function withStrokes({ written, before, after }, measure) {
   if (!before && !after) return written;
   const padding = before && after ? 0 : LEAST_PADDING;

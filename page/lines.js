@@ -1,6 +1,8 @@
-/** Lines of given width of a text whose breaks are known. White space at the end of a line hangs: it counts for no width. */
+/** Lines of given width of a text whose breaks are known. White space at the end of a line hangs: it counts for no
+ * width. */
 
-/** White space that hangs (CSS Text, section 4.1.3): spaces, tabs and other space separators, but for a no-break space. */
+/** White space that hangs (CSS Text, section 4.1.3): spaces, tabs and other space separators, but for a no-break
+ * space. */
 const HANGING = /[\t\p{Zs}]*$/u;
 
 /** The end of a line: what has one of the classes CR, LF, NL and BK. */
@@ -17,8 +19,8 @@ export function headLength(segment) {
 }
 
 /**
- * The indexes of the segments with which lines of a paragraph start. `ends` are the places where its segments end, `fits` says of a piece
- * of it whether it is narrow enough. A segment that is too wide has a line of its own.
+ * The indexes of the segments with which lines of a paragraph start. `ends` are the places where its segments end,
+ * `fits` says of a piece of it whether it is narrow enough. A segment that is too wide has a line of its own.
  */
 export function lineStarts(paragraph, ends, fits) {
   const starts = [];

@@ -25,7 +25,8 @@ let text = "";
 
 function takeText(given) {
   text = given;
-  // A browser that looks for the direction of each paragraph takes seconds for a key in a long one, and lays all out where it is set.
+  // A browser that looks for the direction of each paragraph takes seconds for a key in a long one, and lays all out
+  // where it is set.
   const direction = text.length > MOST_OF_AUTO ? directionOf(text) : "auto";
   if (field.dir !== direction) field.dir = direction;
 }

@@ -15,7 +15,8 @@ export function directionOf(text) {
   return probe.matches(":dir(rtl)") ? "rtl" : "ltr";
 }
 
-/** The pieces of a paragraph, which are not drawn yet. They don't keep its text, as a slice would keep the whole text. */
+/** The pieces of a paragraph, which are not drawn yet. They don't keep its text, as a slice would keep the whole
+ * text. */
 export function piecesOf(paragraph) {
   const found = paragraph === "" ? [new Piece(0, 0)] : [];
   for (let from = 0; from < paragraph.length; ) {

@@ -11,7 +11,8 @@ function isOneLine(one, other) {
   return Boolean(one && other) && Math.abs(one.top - other.top) < one.height / 2;
 }
 
-/** The direction in which a box follows the one before it: undefined where they don't touch or are on different lines. */
+/** The direction in which a box follows the one before it: undefined where they don't touch or are on different
+ * lines. */
 function following(one, other) {
   if (!isOneLine(one, other)) return undefined;
   if (isNear(one.right, other.left)) return "ltr";
@@ -55,9 +56,10 @@ function settle(signs) {
 }
 
 /**
- * The places of the positions before each of some letters, of which there is one at least, and after the last: the middle of each sign, and its top. `boxes` are those of
- * letters in reading order, `base` is the direction of their paragraph. Where the direction changes a sign stands at one of two letters:
- * at the one that does not go in the paragraph's direction, if no other sign stands there.
+ * The places of the positions before each of some letters, of which there is one at least, and after the last: the
+ * middle of each sign, and its top. `boxes` are those of letters in reading order, `base` is the direction of their
+ * paragraph. Where the direction changes a sign stands at one of two letters: at the one that does not go in the
+ * paragraph's direction, if no other sign stands there.
  */
 export function signPlaces(boxes, base) {
   const signs = edgesOf(boxes, base);

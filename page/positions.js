@@ -1,4 +1,5 @@
-/** The view of the positions of a text: its letters and a sign at each position, one of them chosen. What is in view is drawn. */
+/** The view of the positions of a text: its letters and a sign at each position, one of them chosen. What is in view
+ * is drawn. */
 import { characterAt } from "./characters.js";
 import { element } from "./elements.js";
 import { FontMeasure } from "./letters.js";
@@ -22,8 +23,8 @@ export class PositionsView {
   #marked = [];
 
   /**
-   * `chose` is called with a position that is chosen and, where a letter is, with the position after this. `cover` may stand over
-   * the list's end.
+   * `chose` is called with a position that is chosen and, where a letter is, with the position after this. `cover`
+   * may stand over the list's end.
    */
   constructor(list, cover, decided, chose) {
     this.#list = list;

@@ -1,5 +1,5 @@
-/* What the calls of lbk.h give: each function goes through all breaks, words or chunks of a text, adds up their places and
- * kinds, and returns how many there are. bench/speeds and bench/doors call them. */
+/* What the calls of lbk.h give: each function goes through all breaks, words or chunks of a text, adds up their
+ * places and kinds, and returns how many there are. bench/speeds and bench/doors call them. */
 #include <lbk.h>
 
 enum { ROOM = 256, PIECE = 4096, MOST = 500 };

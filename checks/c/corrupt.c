@@ -1,5 +1,5 @@
-/* Made-up tables: makes each call over a text of SIZE bytes, however the kinds and the neighbours of its table are set, for
- * valgrind to count the instructions of `try_all`. They may grow no faster than the text.
+/* Made-up tables: makes each call over a text of SIZE bytes, however the kinds and the neighbours of its table are
+ * set, for valgrind to count the instructions of `try_all`. They may grow no faster than the text.
  *
  *     corrupt SIZE LINE-BREAK EAST-ASIAN CATEGORY EMOJI
  */

@@ -1,4 +1,5 @@
-/* Ends the program that it is loaded before (LD_PRELOAD) with status 99 where it reads into no room or writes no bytes. */
+/* Ends the program that it is loaded before (LD_PRELOAD) with status 99 where it reads into no room or writes no
+ * bytes. */
 #define _GNU_SOURCE
 #include <dlfcn.h>
 #include <sys/types.h>

@@ -2,7 +2,8 @@
  *
  *     instructions CALL SIZE LINE_BREAK EAST_ASIAN CATEGORY EMOJI
  *
- * CALL is lbk_read or lbk_read_published; or lbk_cut or lbk_cut_before, of a text of SIZE bytes near its start or near its end.
+ * CALL is lbk_read or lbk_read_published; or lbk_cut or lbk_cut_before, of a text of SIZE bytes near its start or
+ * near its end.
  */
 #include "../../examples/example.h"
 

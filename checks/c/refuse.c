@@ -1,8 +1,8 @@
 /* Refuses allocations of the program that it is loaded before (LD_PRELOAD).
  *
- * An allocation is a request to the C library for memory: malloc, calloc, realloc or one of their aligned kin. The program
- * tells where they are counted by asking for BEGIN bytes, and where no longer by asking for END; such a request is
- * itself never counted.
+ * An allocation is a request to the C library for memory: malloc, calloc, realloc or one of their aligned kin. The
+ * program tells where they are counted by asking for BEGIN bytes, and where no longer by asking for END; such a
+ * request is itself never counted.
  *
  *   REFUSE=n           the n-th allocation that is counted is refused; 0 or nothing: none is
  *   REFUSE_LATER=1     all later ones are refused too

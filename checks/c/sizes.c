@@ -1,10 +1,10 @@
-/* Calls lbk_read with files of each size up to 4,096 bytes, and of sizes that are drawn at random, with ample memory: it must take
- * them all, and say of those that have a row twice at which line.
+/* Calls lbk_read with files of each size up to 4,096 bytes, and of sizes that are drawn at random, with ample
+ * memory: it must take them all, and say of those that have a row twice at which line.
  *
  *     sizes SECONDS SEED
  *
- * Each of the four files is an empty one, or has one row and comments up to a size of at most 8,388,608 bytes: a power of two or
- * a neighbour of one, one between two powers, or any. The last line is `N passed, M failed`.
+ * Each of the four files is an empty one, or has one row and comments up to a size of at most 8,388,608 bytes: a
+ * power of two or a neighbour of one, one between two powers, or any. The last line is `N passed, M failed`.
  */
 #define _DEFAULT_SOURCE
 #include "../../examples/harness.h"

@@ -1,11 +1,10 @@
-/* Times the calls of the library over texts of letters of one, two and three bytes, and over others, against a loop that takes a
- * byte a step through a small table, as any machine does at its own speed.
+/* Times the calls of the library over texts of letters of one, two and three bytes, and over others, against a loop
+ * that takes a byte a step through a small table, as any machine does at its own speed.
  *
  *     speed CALLS LINE_BREAK EAST_ASIAN CATEGORY EMOJI TEXT..
  *
- * CALLS are names of calls, each between two spaces, or `all`.
- * Writes for each text lines `TEXT CALL RATIO`: how many times as fast as the loop a call goes over its bytes, by the best of
- * RUNS runs of each in processor time.
+ * CALLS are names of calls, each between two spaces, or `all`. Writes for each text lines `TEXT CALL RATIO`: how
+ * many times as fast as the loop a call goes over its bytes, by the best of RUNS runs of each in processor time.
  */
 #define _DEFAULT_SOURCE
 #include "../../examples/example.h"

@@ -1,11 +1,10 @@
-/* Runs each call of the library in a thread with so many bytes of stack, below which memory may not be used, and says how many
- * of these it used. A call that needs more ends the program by a signal.
+/* Runs each call of the library in a thread with so many bytes of stack, below which memory may not be used, and
+ * says how many of these it used. A call that needs more ends the program by a signal.
  *
  *     stack LARGE SMALL LINE_BREAK EAST_ASIAN CATEGORY EMOJI TEXT..
  *
- * LARGE bytes are for lbk_read, lbk_read_published and lbk_chunks, SMALL for the others. They are all that the thread has: its own
- * data, which the C library puts there, count too. The last line is
- * `N passed, M failed`.
+ * LARGE bytes are for lbk_read, lbk_read_published and lbk_chunks, SMALL for the others. They are all that the
+ * thread has: its own data, which the C library puts there, count too. The last line is `N passed, M failed`.
  */
 #define _DEFAULT_SOURCE
 #include "../../examples/example.h"

@@ -1,5 +1,6 @@
-/* Goes over one text in many threads at once, which share a table: its breaks, those of it as a stream, and its words. Each thread
- * has to find what one finds by itself. The words name the four files; the last line is `N passed, M failed`.
+/* Goes over one text in many threads at once, which share a table: its breaks, those of it as a stream, and its
+ * words. Each thread has to find what one finds by itself. The words name the four files; the last line is `N
+ * passed, M failed`.
  */
 #define _DEFAULT_SOURCE
 #include "../../examples/harness.h"

@@ -2,8 +2,8 @@
  *
  *     wraps FONT < LINES
  *
- * A line of output is the number of a line, from 1, the scalars of it before the wrap, and `forced` where the line must end
- * there. libass reads `\N` in a line as a line feed.
+ * A line of output is the number of a line, from 1, the scalars of it before the wrap, and `forced` where the line
+ * must end there. libass reads `\N` in a line as a line feed.
  */
 #include <ass/ass.h>
 #include <stdarg.h>

@@ -1,5 +1,5 @@
-/* The heap of the library for C on 64-bit ARM: the kit has one for x86-64 only. By it lbk_read and lbk_read_published take
- * memory, as malloc gives it. This file is tested and not proved. */
+/* The heap of the library for C on 64-bit ARM: the kit has one for x86-64 only. By it lbk_read and
+ * lbk_read_published take memory, as malloc gives it. This file is tested and not proved. */
 #include <stdint.h>
 #include <stdlib.h>
 

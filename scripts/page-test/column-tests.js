@@ -1,6 +1,6 @@
 /**
- * The lines of the page's column, beside a layout that is made here of the breaks and of measured widths: a segment goes to the next
- * line where the line with it, without white space at its end, would be wider than the column.
+ * The lines of the page's column, beside a layout that is made here of the breaks and of measured widths: a segment
+ * goes to the next line where the line with it, without white space at its end, would be wider than the column.
  */
 import { change, equal, follow, openPage, say } from "./harness.js";
 
@@ -53,7 +53,8 @@ function asLine(text) {
   return text.slice(0, end) + (text[end - 1] === "\u00ad" ? "\u2010" : "");
 }
 
-/** The same places in a layout of breaks. Where a line is as wide as the room but for rounding, it is as it is `shown`. */
+/** The same places in a layout of breaks. Where a line is as wide as the room but for rounding, it is as it is
+ * `shown`. */
 function laidOut(text, breaks, widthOf, room, shown) {
   const firstSeen = (from, to = text.length) => [...Array(to - from).keys()].map((k) => from + k).find((it) =>
     isSeen(text[it]));

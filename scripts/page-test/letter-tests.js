@@ -1,4 +1,5 @@
-/** Letters and signs of the page: their order in both directions, numbers, joined letters, and that no two signs are in one place. */
+/** Letters and signs of the page: their order in both directions, numbers, joined letters, and that no two signs are
+ * in one place. */
 import { EXAMPLES } from "/modules/examples.js";
 import { change, equal, follow, matches, openPage, press, say, write } from "./harness.js";
 
@@ -53,7 +54,8 @@ async function tryPlaces(page) {
   }
 }
 
-/** Letters join where a font has shapes for that: each stroke goes to the edge of its letter's box, where the next one starts. */
+/** Letters join where a font has shapes for that: each stroke goes to the edge of its letter's box, where the next
+ * one starts. */
 async function tryJoined(page) {
   const { font } = page.window.getComputedStyle(page.find("positions"));
   const context = document.createElement("canvas").getContext("2d");
@@ -108,7 +110,8 @@ function astray(page) {
   return boxes(page, ".position").filter((it) => !stands(it)).map(({ at }) => at);
 }
 
-/** Signs stand at the edges of letters in a page that opens with a text, whether or not its view scrolls, and after a resize. */
+/** Signs stand at the edges of letters in a page that opens with a text, whether or not its view scrolls, and after a
+ * resize. */
 async function tryEdges() {
   for (const count of [1, 3, 20]) {
     const text = `${MIXED.slice(-2).join(" ")} سعر\n`.repeat(count);

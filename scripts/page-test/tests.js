@@ -84,7 +84,8 @@ function goWithIcu(text) {
   while (iterator.next() >= 0);
 }
 
-/** How fast columns are, beside the C library and the line iterator of ICU that Chromium has. Speeds are of UTF-8, in MB/s. */
+/** How fast columns are, beside the C library and the line iterator of ICU that Chromium has. Speeds are of UTF-8, in
+ * MB/s. */
 async function trySpeed(table) {
   for (const [name, file, whole, pieces] of await (await fetch("speed.json")).json()) {
     const bytes = await bytesOf(file);

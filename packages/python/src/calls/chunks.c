@@ -95,8 +95,8 @@ static size_t start_after(cut_queue *cuts, const lbk_limits *limits, const here 
     return end;
 }
 
-/* Adds the chunks of a text, with limits in code points: as lbk_chunks does for bytes, with the same cuts. Returns false where
- * an allocation fails. */
+/* Adds the chunks of a text, with limits in code points: as lbk_chunks does for bytes, with the same cuts. Returns
+ * false where an allocation fails. */
 static bool add_by_points(const request *asked, chunk_list *found)
 {
     const lbk_limits *limits = &asked->limits;

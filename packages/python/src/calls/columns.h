@@ -8,7 +8,8 @@
  * is added to each offset. */
 PyObject *text_columns(PyObject *module, PyObject *const *given, Py_ssize_t count);
 
-/* list_columns(table, texts, profile): a bytearray of the texts' offsets in the columns (8 bytes each), and the columns. */
+/* list_columns(table, texts, profile): a bytearray of the texts' offsets in the columns (8 bytes each), and the
+ * columns. */
 PyObject *list_columns(PyObject *module, PyObject *const *given, Py_ssize_t count);
 
 #endif

@@ -29,7 +29,8 @@ static bool push(numbers *column, size_t number)
     return true;
 }
 
-/* Adds the words of a passage, as those of a separate text, and the end of their list. `before` is its offset in the text's unit. */
+/* Adds the words of a passage, as those of a separate text, and the end of their list. `before` is its offset in the
+ * text's unit. */
 static bool push_words(numbers *columns, const utf8_text *passage, size_t before)
 {
     lbk_word block[BLOCK];
