@@ -349,9 +349,8 @@ fn segment<'a>(alloc: Global) -> Made<'a>
 fn sized<'a>(alloc: Global) -> Made<'a>
     ensures { IsMade sized_app result }
 {
-    let most = size_option(alloc, "most", 1, "Largest chunk in bytes, 1 to 16777216").required(
-        true,
-    );
+    let most = "Largest chunk in bytes, 1 to 16777216";
+    let most = size_option(alloc, "most", 1, most).required(true);
     let command = with_option(with_files(alloc, "chunk"), most);
     let words = "Most words, 1 to 16777216 [default: any number]";
     let command = with_option(command, size_option(alloc, "words", 1, words));
