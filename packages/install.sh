@@ -32,7 +32,7 @@ prefix=$(absolute "$1")
 libdir=$(absolute "${2:-$prefix/lib}")
 case $prefix$libdir in
 *[\"\'\\\$\`\#\;[:cntrl:]]*)
-    printf '%s\n' "install.sh: a folder has one of \" ' \\ \$ \` # ; or a tab or line end in its name, which lbk.pc cannot name; choose another: \
+    printf '%s\n' "install.sh: lbk.pc cannot name a folder with \" ' \\ \$ \` # ; a tab or a line end; choose another: \
 $prefix $libdir" >&2
     exit 2
     ;;
@@ -40,11 +40,11 @@ esac
 cd "$(dirname "$0")"
 machine=$(cat machine)
 if [ -z "${DESTDIR:-}" ] && [ "$(uname -m)" != "$machine" ]; then
-    echo "install.sh: this machine is $(uname -m), and the code is for $machine" >&2
+    echo "install.sh: this archive is for $machine, and this machine is $(uname -m)" >&2
     exit 1
 fi
 if [ -z "${DESTDIR:-}" ] && [ "$machine" = x86_64 ] && [ -r /proc/cpuinfo ] && ! grep -q -w sse4_2 /proc/cpuinfo; then
-    echo "install.sh: this processor has no SSE4.2, and the code is for x86-64-v2" >&2
+    echo "install.sh: this processor lacks SSE4.2, which the code needs (x86-64-v2)" >&2
     exit 1
 fi
 to=${DESTDIR:-}$prefix

@@ -41,7 +41,7 @@ fn bundled() -> Option<PathBuf> {
 fn main() {
     let named = variable("LBK_LIB_DIR").map(PathBuf::from);
     let folder = named.or_else(bundled).or_else(by_pkg_config).unwrap_or_else(|| {
-        eprintln!("there is no liblbk of version 0.1: install it, and name its folder in LBK_LIB_DIR, or that of lbk.pc in PKG_CONFIG_PATH");
+        eprintln!("no liblbk of version 0.1: install it, and set LBK_LIB_DIR to its folder, or PKG_CONFIG_PATH to that of lbk.pc");
         exit(1)
     });
     let kind = if variable("LBK_SHARED").is_some() {

@@ -88,7 +88,7 @@ class Values(unittest.TestCase):
                     for thread in threads:
                         thread.join()
                 self.assertEqual(said,
-                    {"another thread uses this iterator at this time: give each thread one of its own"})
+                    {"another thread is using this iterator; give each thread its own"})
 
 
 @unittest.skipUnless(samples.HAS_PUBLISHED, "the published files are not there")

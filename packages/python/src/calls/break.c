@@ -15,7 +15,7 @@ static lbk_break *found_in(PyObject *self)
 PyObject *new_break(PyTypeObject *type, const lbk_break *one)
 {
     if (type == NULL)
-        return PyErr_Format(PyExc_RuntimeError, "the module is being taken down");
+        return PyErr_Format(PyExc_RuntimeError, "the module is being unloaded");
     break_object *made = PyObject_New(break_object, type);
     if (made != NULL)
         made->found = *one;

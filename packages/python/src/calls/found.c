@@ -7,7 +7,7 @@
 #include <string.h>
 
 /* The message for all but one of the threads that use an iterator at the same time. */
-#define SHARED "another thread uses this iterator at this time: give each thread one of its own"
+#define SHARED "another thread is using this iterator; give each thread its own"
 
 /* What an iterator returns. The Python modules use these numbers by their names. */
 enum { BREAKS, SEGMENTS, POSITIONS, WORDS, WORD_RANGES };

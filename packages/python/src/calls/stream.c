@@ -136,7 +136,7 @@ PyObject *feed(PyObject *module, PyObject *const *given, Py_ssize_t count)
     if (table != NULL && PyObject_GetBuffer(given[1], &state_view, PyBUF_WRITABLE) == 0) {
         stream_state *state = state_view.buf;
         if (state_view.len != sizeof(stream_state) || state->is_busy)
-            PyErr_SetString(PyExc_ValueError, "another thread feeds this stream");
+            PyErr_SetString(PyExc_ValueError, "another thread is feeding this stream; give each thread its own");
         else if (hold_bytes(owner, &piece, &piece_view)) {
             list = feed_copy((PyTypeObject *)names->break_type, table, state, &piece, given[3] == Py_True);
             PyBuffer_Release(&piece_view);
