@@ -16,8 +16,8 @@ here=$(mktemp -d)
 trap 'rm -rf "$here"' EXIT
 passed=0 failed=0
 
-# told WHAT OK: counts what was tried.
-told() {
+# report WHAT OK: counts what was tried.
+report() {
     if [ "$2" = yes ]; then
         passed=$((passed + 1))
         printf 'ok      %s\n' "$1"
@@ -34,9 +34,9 @@ tried() {
     "$@" > "$here/log" 2>&1
     status=$?
     if [ $status = 0 ]; then
-        told "$what" yes
+        report "$what" yes
     else
-        told "$what" "status $status"
+        report "$what" "status $status"
         tail -n 20 "$here/log"
     fi
     return $status
@@ -53,12 +53,12 @@ end() {
 has() { command -v "$1" > "$here/found"; }
 
 for word in cc python3 ar ld objcopy objdump nm pkg-config; do
-    if ! has $word; then told "$word" 'it is not there'; fi
+    if ! has $word; then report "$word" 'it is not there'; fi
 done
 [ "$failed" = 0 ] || end
 
 prefix=$here/prefix
-"$top/scripts/prove" lbk lbk_c || { told 'the program and the library are proved' "status $?"; end; }
+"$top/scripts/prove" lbk lbk_c || { report 'the program and the library are proved' "status $?"; end; }
 tried 'install-library' "$top/scripts/install-library" "$prefix" || end
 export PKG_CONFIG_PATH=$prefix/lib/pkgconfig LD_LIBRARY_PATH=$prefix/lib PYTHONDONTWRITEBYTECODE=1
 folder=$(pkg-config --variable=libdir lbk)
@@ -86,11 +86,11 @@ PYTHON
     texts+=("$here/test-lines")
     oracle=(random published scalars)
     "$top/checks/word_oracle.py" "$ucd" random 40000 1 "$here/random" > "$here/random-words" \
-        || told 'word_oracle, random bytes' "status $?"
+        || report 'word_oracle, random bytes' "status $?"
     "$top/checks/word_oracle.py" "$ucd" published "$here/published" > "$here/published-words" \
-        || told 'word_oracle, the published test' "status $?"
+        || report 'word_oracle, the published test' "status $?"
     "$top/checks/word_oracle.py" "$ucd" scalars "$here/scalars" > "$here/scalars-words" \
-        || told 'word_oracle, each scalar' "status $?"
+        || report 'word_oracle, each scalar' "status $?"
 else
     left_out "the published files of Unicode 15.0, which are in the package unicode-data; the stored runs' files are taken"
     files=("${names[@]##*/}")
@@ -104,7 +104,7 @@ for profile in 1 2; do
         "$top/crates/lbk/out/lbk" segment --line-break "${files[0]}" --east-asian "${files[1]}" \
             --category "${files[2]}" --emoji "${files[3]}" \
             --limit 16777216 --profile $profile < "${texts[number]}" > "$here/all" \
-                || told "lbk segment of ${texts[number]}" "status $?"
+                || report "lbk segment of ${texts[number]}" "status $?"
         sed -n '/^S /p' "$here/all" > "$here/wanted-$profile-$number"
         sed -n '/^W /p' "$here/all" > "$here/words-$number"
     done
@@ -115,17 +115,17 @@ code_in() { (mkdir "$2" && cd "$2" && ar x "$1" && for it in *.o; do objdump -s 
     | awk '/^Contents of section/ { on = $4 ~ /^\.text\./ } on'; done); }
 code_in "$top/crates/lbk_c/out/liblbk_c.a" "$here/made" > "$here/code-made"
 code_in "$folder/liblbk.a" "$here/linked" > "$here/code-linked"
-told 'the code in liblbk.a is that of the proved archive' \
+report 'the code in liblbk.a is that of the proved archive' \
     "$([ -s "$here/code-made" ] && cmp "$here/code-made" "$here/code-linked" && echo yes)"
 
 # The names that the libraries show: those of the header, and in the shared one with the version.
 calls=$(sed -n 's/^[a-z].* \**\(lbk_[a-z0-9_]*\)(.*/\1/p' "$prefix/include/lbk.h" | sort)
 shown=$(nm -g --defined-only "$folder/liblbk.a" | sed -n 's/.* //p' | grep -v '^lbk\.o:$' | sort)
-told 'liblbk.a shows the calls of the header alone' \
+report 'liblbk.a shows the calls of the header alone' \
     "$([ -n "$calls" ] && [ "$shown" = "$calls" ] && echo yes || echo "it shows $shown")"
 shown=$(nm -D --defined-only --with-symbol-versions "$folder/liblbk.so" | sed -n 's/.* T //p' | sort)
 version=$(pkg-config --modversion lbk)
-told 'liblbk.so shows them with its version' "$([ "$shown" = "$(sed "s/\$/@@LBK_${version%.*}/" <<< "$calls")" ] && echo yes || echo "it shows $shown")"
+report 'liblbk.so shows them with its version' "$([ "$shown" = "$(sed "s/\$/@@LBK_${version%.*}/" <<< "$calls")" ] && echo yes || echo "it shows $shown")"
 
 # compare WHAT WORD..: a program has to write of each text, in each profile, the segments that `lbk segment` wrote.
 compare() {
@@ -139,7 +139,7 @@ compare() {
             fi
         done
     done
-    told "$what: the segments of ${#texts[@]} texts in both profiles" "${wrong:-yes}"
+    report "$what: the segments of ${#texts[@]} texts in both profiles" "${wrong:-yes}"
 }
 
 # try_words WHAT PROGRAM: the words that a program writes of each text have to be those of
@@ -158,11 +158,11 @@ try_words() {
                 || wrong="room $room, ${texts[number]}: $(diff "$here/words-$number" "$here/out" | sed -n 2p)"
         done
     done
-    told "$what: the words of ${#texts[@]} texts" "${wrong:-yes}"
+    report "$what: the words of ${#texts[@]} texts" "${wrong:-yes}"
     for number in "${oracle[@]}"; do
         "$program" 7 < "$here/$number" > "$here/out" 2> "$here/log" && cmp -s "$here/out" "$here/$number-words"
         status=$?
-        told "$what: the words of $number" \
+        report "$what: the words of $number" \
             "$([ $status = 0 ] && echo yes || diff "$here/$number-words" "$here/out" | sed -n 2p)"
     done
 }
@@ -215,7 +215,7 @@ try_c() {
     python3 -c 'import array, sys; sys.stdout.buffer.write(array.array("H", [97, 98, 32, 0xD83D, 0xDE00, 32, 99, 10, 100]))' \
         | "$here/built/utf16-$1" "${files[@]}" > "$here/out" 2> "$here/log"
     wrong=$(cut -d ' ' -f 1 "$here/out" | tr '\n' ' ')
-    told "$1: utf16.c" "$([ "$wrong" = '3 6 8 9 ' ] && echo yes || echo "it wrote $wrong")"
+    report "$1: utf16.c" "$([ "$wrong" = '3 6 8 9 ' ] && echo yes || echo "it wrote $wrong")"
     try_words "$1: words.c" "$here/built/words-$1"
     count "$1: edges.c" "$here/built/edges-$1"
     count "$1: fuzz.c" "$here/built/fuzz-$1" 5000 1 "${files[@]}"
@@ -254,7 +254,7 @@ CPP
     elif ! "$1" "${words[@]}" -DFINE > "$here/log" 2>&1; then
         why="without it the program does not compile: $(head -n 1 "$here/log")"
     fi
-    told "$1: $2 does not compile" "$why"
+    report "$1: $2 does not compile" "$why"
 }
 
 try_cpp() {
@@ -322,7 +322,7 @@ for number in "${!texts[@]}"; do
     wrote=$("$here/built/save_table-cc" "$table" < "${texts[number]}")
     [ "$wrote" = "$wanted" ] || wrong="it wrote $wrote and not $wanted for ${texts[number]}"
 done
-told 'save_table.c: a mapped table gives as many breaks' "${wrong:-yes}"
+report 'save_table.c: a mapped table gives as many breaks' "${wrong:-yes}"
 
 # libunibreak's calls, by a table and a folder that are whole, and then by those that are not.
 # try_no_table WHAT TABLE LINE: without a table each mark has to say so, and the line to name the file and what to do.
@@ -332,7 +332,7 @@ try_no_table() {
     tried "packages/unibreak: build for $1" "$top/packages/unibreak/build" "$2" "$here/without"
     [ -z "$made" ] || rm "$2"
     count "packages/unibreak: $1" env LD_LIBRARY_PATH="$here/without/lib" "$here/built/unibreak" no-table
-    told "packages/unibreak: $1 is named once" \
+    report "packages/unibreak: $1 is named once" \
         "$([ "$(grep '^linebreak: ' "$here/log")" = "linebreak: $3" ] && echo yes || cat "$here/log")"
 }
 unibreak=()
@@ -349,7 +349,7 @@ fi
 printf 'x' | dd of="$table" bs=1 seek=100000 conv=notrunc status=none
 "$here/built/save_table-cc" "$table" < "$here/few" > "$here/log" 2>&1
 status=$?
-told 'save_table.c: a table that is not whole is refused' "$([ $status = 1 ] && echo yes || echo "status $status")"
+report 'save_table.c: a table that is not whole is refused' "$([ $status = 1 ] && echo yes || echo "status $status")"
 if [ ${#unibreak[@]} != 0 ]; then
     remedy='install the files of Unicode 15.0 (Debian: unicode-data)'
     try_no_table 'a table that is not whole' "$table" \

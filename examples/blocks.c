@@ -84,10 +84,10 @@ static void try_all_rooms(const char *text, size_t size)
         for (size_t j = 0; i + j <= all.count; j++)
             for (size_t k = 0; i + j + k <= all.count; k++) {
                 size_t rooms[] = {i, j, k, all.count - i - j - k + 1};
-                told("a text in four blocks", agrees(text, size, rooms, 4, (i + j + k) % 2 == 1, &all));
+                report("a text in four blocks", agrees(text, size, rooms, 4, (i + j + k) % 2 == 1, &all));
             }
     for (size_t room = 0; room <= all.count; room++)
-        told("the rest of a text as one of its own", has_the_rest(text, size, room, &all));
+        report("the rest of a text as one of its own", has_the_rest(text, size, room, &all));
 }
 
 /* Texts for the end of a block: words that a rule keeps together over two scalars, marks, flags, and cut scalars. */
@@ -114,8 +114,8 @@ static void try_random_rooms(void)
         rooms[k] = below(below(4) == 0 ? MOST_ROOM + 1 : 4);
     rooms[count - 1] += rooms[count - 1] == 0;
     found all = words_of_whole(text, size, 0);
-    told("a text in random blocks", agrees(text, size, rooms, count, below(2) == 0, &all));
-    told("the rest of a random text as one of its own", has_the_rest(text, size, below(MOST_ROOM + 1), &all));
+    report("a text in random blocks", agrees(text, size, rooms, count, below(2) == 0, &all));
+    report("the rest of a random text as one of its own", has_the_rest(text, size, below(MOST_ROOM + 1), &all));
 }
 
 int main(int words, char **word)

@@ -130,7 +130,7 @@ static void try_random_text(void)
     size_t size = random_text(made);
     char *text = place(texts, size);
     memcpy(text, made, size);
-    told("random bytes have the chunks of the definition",
+    report("random bytes have the chunks of the definition",
         has_its_chunks(text, size, (uint8_t)below(2), random_limits()));
 }
 
@@ -142,7 +142,7 @@ static void try_bad_limits(void)
     for (size_t k = 0; k < sizeof bad / sizeof *bad; k++) {
         lbk_chunk_state state = {0};
         lbk_chunk block[4];
-        told("limits out of range", lbk_chunks(&real, &bad[k], &state, "ab cd", 5, block, 4) == 0 && state.told == 0);
+        report("limits out of range", lbk_chunks(&real, &bad[k], &state, "ab cd", 5, block, 4) == 0 && state.told == 0);
     }
 }
 
@@ -165,7 +165,7 @@ static void try_shown(void)
         int same = count == shown[k].count;
         for (size_t i = 0; same && i < count; i++)
             same = block[i].start == shown[k].places[2 * i] && block[i].end == shown[k].places[2 * i + 1];
-        told("the chunks of the page", same);
+        report("the chunks of the page", same);
     }
 }
 
@@ -191,8 +191,8 @@ static void try_any_table(const lbk_table *any)
         goes = block[k].start <= from && from < block[k].end && block[k].end <= size;
         from = block[k].end;
     }
-    told("any table: chunks go through the text", goes && state->told == from);
-    told("any table: a state from which nothing comes stays", count != 0 || memcmp(&old, state, sizeof old) == 0);
+    report("any table: chunks go through the text", goes && state->told == from);
+    report("any table: a state from which nothing comes stays", count != 0 || memcmp(&old, state, sizeof old) == 0);
 }
 
 static void try_file(const char *name)
@@ -203,7 +203,7 @@ static void try_file(const char *name)
     size_t size = text.size < 20000 ? text.size : 20000;
     for (uint8_t profile = 0; profile < 2; profile++)
         for (size_t k = 0; k < sizeof some / sizeof *some; k++)
-            told(name, has_its_chunks(text.at, size, profile, some[k]));
+            report(name, has_its_chunks(text.at, size, profile, some[k]));
     free(text.at);
 }
 

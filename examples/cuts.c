@@ -88,18 +88,18 @@ static void try_text(const lbk_table *table, unsigned profile, const char *text,
         int safe = at == 0 || at == size || ends_at(&whole, size, at);
         before[at] = safe ? at : before[at - 1];
         if (safe && at != 0 && at != size)
-            told("the breaks of two parts are those of the whole", joins(table, profile, text, size, &whole, at));
+            report("the breaks of two parts are those of the whole", joins(table, profile, text, size, &whole, at));
     }
     for (size_t at = size + 1; at-- > 0;)
         behind[at] = before[at] == at ? at : behind[at + 1];
     for (size_t at = 0; at <= size; at++) {
-        told("the first cut at or after a byte", lbk_cut(table, text, size, at) == behind[at]);
-        told("the last cut at or before a byte", lbk_cut_before(table, text, size, at) == before[at]);
-        told("only bytes near a place are looked at", look_near(table, text, size, at));
+        report("the first cut at or after a byte", lbk_cut(table, text, size, at) == behind[at]);
+        report("the last cut at or before a byte", lbk_cut_before(table, text, size, at) == before[at]);
+        report("only bytes near a place are looked at", look_near(table, text, size, at));
     }
     for (unsigned times = 0; times < 2; times++) {
         size_t past = times == 0 ? size + 1 + below(9) : SIZE_MAX - below(2);
-        told("past the end", lbk_cut(table, text, size, past) == size && lbk_cut_before(table, text, size,
+        report("past the end", lbk_cut(table, text, size, past) == size && lbk_cut_before(table, text, size,
             past) == size);
     }
 }
@@ -113,7 +113,7 @@ static void try_parts(const lbk_table *table, const char *text, size_t size)
         if (to <= from || to > size)
             break;
     }
-    told("the parts are the text", from == size && parts <= size);
+    report("the parts are the text", from == size && parts <= size);
 }
 
 /* By a table of random bytes no cut is past the end, and none is where it should not be. */
@@ -121,8 +121,8 @@ static void try_any_table(lbk_table *any, const char *text, size_t size)
 {
     size_t at = below(size + 2), end = at < size ? at : size;
     size_t first = lbk_cut(any, text, size, at), last = lbk_cut_before(any, text, size, at);
-    told("any table: the first cut", first >= end && first <= size);
-    told("any table: the last cut", last <= end);
+    report("any table: the first cut", first >= end && first <= size);
+    report("any table: the last cut", last <= end);
 }
 
 int main(int words, char **word)
@@ -138,7 +138,7 @@ int main(int words, char **word)
     for (size_t k = 1; k < TABLES; k++) {
         const char *lines = others[k - 1];
         lbk_fault fault = lbk_read(&tables[k], lines, strlen(lines), NULL, 0, NULL, 0, NULL, 0);
-        told("a table of other line ends", fault.cause == LBK_CAUSE_NONE);
+        report("a table of other line ends", fault.cause == LBK_CAUSE_NONE);
     }
     fenced texts = fence(MOST_TEXT), any = fence(sizeof(lbk_table));
     fill_random(any.from, sizeof(lbk_table));

@@ -11,7 +11,7 @@ enum { ROOM = 64 };
 
 static unsigned passed, failed;
 
-static void told(const char *what, int holds)
+static void report(const char *what, int holds)
 {
     if (holds) {
         passed++;
@@ -59,14 +59,14 @@ static void try_nothing(void)
     lbk_state state = {0}, start = {0};
     lbk_break block[1];
     lbk_fault fault = lbk_read(&before, NULL, 0, NULL, 0, NULL, 0, NULL, 0);
-    told("four empty files have no fault", fault.cause == LBK_CAUSE_NONE && fault.file == LBK_NO_FILE
+    report("four empty files have no fault", fault.cause == LBK_CAUSE_NONE && fault.file == LBK_NO_FILE
         && fault.line == 0);
-    told("the table of four empty files is whole", lbk_check(&before));
-    told("an empty text has no break", lbk_breaks(&table, &state, NULL, 0, block, 1) == 0);
+    report("the table of four empty files is whole", lbk_check(&before));
+    report("an empty text has no break", lbk_breaks(&table, &state, NULL, 0, block, 1) == 0);
     state = start;
-    told("an empty text, no room", lbk_breaks(&table, &state, NULL, 0, NULL, 0) == 0);
+    report("an empty text, no room", lbk_breaks(&table, &state, NULL, 0, NULL, 0) == 0);
     state = start;
-    told("an empty text that is not null", lbk_breaks(&table, &state, "", 0, block, 1) == 0);
+    report("an empty text that is not null", lbk_breaks(&table, &state, "", 0, block, 1) == 0);
 }
 
 /* A table is made of its files alone: nothing in it is left of what its memory held. */
@@ -76,7 +76,7 @@ static void try_memory(void)
     memset(&used, 0xA5, sizeof used);
     int both = read_lines(&used, LINE_BREAKS, CATEGORIES).cause == LBK_CAUSE_NONE
                && read_lines(&clear, LINE_BREAKS, CATEGORIES).cause == LBK_CAUSE_NONE;
-    told("no byte of a table is one that its memory held", both && memcmp(&used, &clear, sizeof used) == 0);
+    report("no byte of a table is one that its memory held", both && memcmp(&used, &clear, sizeof used) == 0);
 }
 
 static void try_rooms(void)
@@ -86,64 +86,64 @@ static void try_rooms(void)
     lbk_state state = {0}, start = {0};
     lbk_break whole[ROOM], one;
     size_t all = lbk_breaks(&table, &state, text, size, whole, ROOM);
-    told("a text with breaks", all == 6);
-    told("the last break is the end, by rule 3",
+    report("a text with breaks", all == 6);
+    report("the last break is the end, by rule 3",
          all > 0 && whole[all - 1].at == size && whole[all - 1].kind == LBK_MUST && whole[all - 1].rule == LBK_RULE_3);
     lbk_state spent = state;
-    told("a spent state answers 0", lbk_breaks(&table, &state, text, size, whole + all, ROOM - all) == 0);
-    told("a spent state stays", same(state, spent));
+    report("a spent state answers 0", lbk_breaks(&table, &state, text, size, whole + all, ROOM - all) == 0);
+    report("a spent state stays", same(state, spent));
 
     state = start;
-    told("no room: 0", lbk_breaks(&table, &state, text, size, NULL, 0) == 0);
-    told("no room: the state stays", same(state, start));
+    report("no room: 0", lbk_breaks(&table, &state, text, size, NULL, 0) == 0);
+    report("no room: the state stays", same(state, start));
     for (size_t k = 0; k < all; k++) {
         lbk_state back = state;
         size_t count = lbk_breaks(&table, &state, text, size, &one, 1);
-        told("room for one: the next break", count == 1 && one.at == whole[k].at && one.kind == whole[k].kind
+        report("room for one: the next break", count == 1 && one.at == whole[k].at && one.kind == whole[k].kind
             && one.rule == whole[k].rule);
         count = lbk_breaks(&table, &back, text, size, &one, 1);
-        told("a copy of a state answers the same", count == 1 && one.at == whole[k].at && same(back, state));
+        report("a copy of a state answers the same", count == 1 && one.at == whole[k].at && same(back, state));
     }
-    told("room for one: no more", lbk_breaks(&table, &state, text, size, &one, 1) == 0);
+    report("room for one: no more", lbk_breaks(&table, &state, text, size, &one, 1) == 0);
 
     state = start;
-    told("a full block", lbk_breaks(&table, &state, text, size, whole, all) == all);
-    told("a full block: no more", lbk_breaks(&table, &state, text, size, &one, 1) == 0);
+    report("a full block", lbk_breaks(&table, &state, text, size, whole, all) == all);
+    report("a full block: no more", lbk_breaks(&table, &state, text, size, &one, 1) == 0);
 }
 
 static void try_states(void)
 {
     lbk_break one;
     lbk_state state = {4, 0, LBK_FIRST, 0}, kept = state;
-    told("past the end: 0", lbk_breaks(&table, &state, "a b", 3, &one, 1) == 0);
-    told("past the end: the state stays", same(state, kept));
+    report("past the end: 0", lbk_breaks(&table, &state, "a b", 3, &one, 1) == 0);
+    report("past the end: the state stays", same(state, kept));
     state.at = SIZE_MAX;
     kept = state;
-    told("far past the end: 0", lbk_breaks(&table, &state, "a b", 3, &one, 1) == 0);
-    told("far past the end: the state stays", same(state, kept));
+    report("far past the end: 0", lbk_breaks(&table, &state, "a b", 3, &one, 1) == 0);
+    report("far past the end: the state stays", same(state, kept));
     for (unsigned profile = 4; profile <= UINT8_MAX; profile++) {
         state = (lbk_state){0, 0, (uint8_t)profile, 0};
         kept = state;
-        told("no such profile: no position", lbk_positions(&table, &state, "a b", 3, &one, 1) == 0);
-        told("no such profile: the state stays", same(state, kept));
-        told("no such profile: 0", lbk_breaks(&table, &state, "a b", 3, &one, 1) == 0);
-        told("no such profile: the state stays", same(state, kept));
+        report("no such profile: no position", lbk_positions(&table, &state, "a b", 3, &one, 1) == 0);
+        report("no such profile: the state stays", same(state, kept));
+        report("no such profile: 0", lbk_breaks(&table, &state, "a b", 3, &one, 1) == 0);
+        report("no such profile: the state stays", same(state, kept));
     }
     for (unsigned ended = 1; ended <= UINT8_MAX; ended++) {
         state = (lbk_state){0, 0, LBK_SECOND, (uint8_t)ended};
         kept = state;
-        told("a state that has ended: 0", lbk_breaks(&table, &state, "a b", 3, &one, 1) == 0);
-        told("a state that has ended: it stays", same(state, kept));
+        report("a state that has ended: 0", lbk_breaks(&table, &state, "a b", 3, &one, 1) == 0);
+        report("a state that has ended: it stays", same(state, kept));
     }
 }
 
 static void try_profiles(void)
 {
     const char text[] = "a \xC2\xAB b \xC2\xBB a";
-    told("quotation marks, first profile", has_breaks(LBK_FIRST, text, 11, PLACES(2, 5, 7, 10, 11)));
-    told("quotation marks, second profile", has_breaks(LBK_SECOND, text, 11, PLACES(2, 10, 11)));
-    told("a closing mark that stays open", has_breaks(LBK_SECOND, "b \xC2\xBB" "a", 5, PLACES(2, 5)));
-    told("a closing mark at the end", has_breaks(LBK_SECOND, "b \xC2\xBB\xCC\x81", 6, PLACES(6)));
+    report("quotation marks, first profile", has_breaks(LBK_FIRST, text, 11, PLACES(2, 5, 7, 10, 11)));
+    report("quotation marks, second profile", has_breaks(LBK_SECOND, text, 11, PLACES(2, 10, 11)));
+    report("a closing mark that stays open", has_breaks(LBK_SECOND, "b \xC2\xBB" "a", 5, PLACES(2, 5)));
+    report("a closing mark at the end", has_breaks(LBK_SECOND, "b \xC2\xBB\xCC\x81", 6, PLACES(6)));
 }
 
 /* Whether the end of a part after which the text goes on comes as this break, or not at all by rule 0. */
@@ -161,26 +161,26 @@ static int ends_part(const char *part, size_t size, uint8_t rule)
 static void try_parts(void)
 {
     lbk_break one;
-    told("an empty part has no end", ends_part("", 0, 0));
-    told("a part ends at no letter", ends_part("a b", 3, 0));
-    told("a part ends at no space", ends_part("a ", 2, 0));
-    told("a part ends at LF", ends_part("a\n", 2, LBK_RULE_5));
-    told("a part ends at CR", ends_part("a\r", 2, LBK_RULE_5));
-    told("a part ends at NEL", ends_part("a\xC2\x85", 3, LBK_RULE_5));
-    told("a part ends at PS", ends_part("a\xE2\x80\xA9", 4, LBK_RULE_4));
+    report("an empty part has no end", ends_part("", 0, 0));
+    report("a part ends at no letter", ends_part("a b", 3, 0));
+    report("a part ends at no space", ends_part("a ", 2, 0));
+    report("a part ends at LF", ends_part("a\n", 2, LBK_RULE_5));
+    report("a part ends at CR", ends_part("a\r", 2, LBK_RULE_5));
+    report("a part ends at NEL", ends_part("a\xC2\x85", 3, LBK_RULE_5));
+    report("a part ends at PS", ends_part("a\xE2\x80\xA9", 4, LBK_RULE_4));
     lbk_state state = {2, 0, LBK_FIRST, 0};
-    told("a part from a byte on: places from the text's start", lbk_breaks(&table, &state, "\nab", 3, &one, 1) == 1
+    report("a part from a byte on: places from the text's start", lbk_breaks(&table, &state, "\nab", 3, &one, 1) == 1
         && one.at == 3);
     state = (lbk_state){3, 0, LBK_FIRST, 0};
-    told("an empty part at the text's end has no break", lbk_breaks(&table, &state, "\nab", 3, &one, 1) == 0);
+    report("an empty part at the text's end has no break", lbk_breaks(&table, &state, "\nab", 3, &one, 1) == 0);
     state = (lbk_state){0, 0, LBK_FIRST + LBK_GOES_ON, 0};
-    told("a block that is full at a part's last scalar", lbk_breaks(&table, &state, "a \n", 3, &one, 1) == 1
+    report("a block that is full at a part's last scalar", lbk_breaks(&table, &state, "a \n", 3, &one, 1) == 1
         && one.at == 3);
-    told("nothing is left then", lbk_breaks(&table, &state, "a \n", 3, &one, 1) == 0);
+    report("nothing is left then", lbk_breaks(&table, &state, "a \n", 3, &one, 1) == 0);
     state = (lbk_state){0, 0, LBK_FIRST + LBK_GOES_ON, 0};
-    told("a block that is full before a part's last scalar", lbk_breaks(&table, &state, "a\n\n", 3, &one, 1) == 1
+    report("a block that is full before a part's last scalar", lbk_breaks(&table, &state, "a\n\n", 3, &one, 1) == 1
         && one.at == 2);
-    told("the end is left", lbk_breaks(&table, &state, "a\n\n", 3, &one, 1) == 1 && one.at == 3
+    report("the end is left", lbk_breaks(&table, &state, "a\n\n", 3, &one, 1) == 1 && one.at == 3
         && one.rule == LBK_RULE_5);
 }
 
@@ -228,13 +228,13 @@ static void try_safe_breaks(void)
     } rows[] = {{"ab c d", 5}, {"ab\ncd", 3}, {"ab\n", 0}, {"ab", 0}, {"", 0}, {"a\nb c", 4}};
     size_t safe;
     for (size_t k = 0; k < sizeof rows / sizeof rows[0]; k++)
-        told("a safe break", has_safe_break(rows[k].text, strlen(rows[k].text), LBK_FIRST, &safe)
+        report("a safe break", has_safe_break(rows[k].text, strlen(rows[k].text), LBK_FIRST, &safe)
             && safe == rows[k].safe);
     for (uint8_t profile = LBK_FIRST; profile <= LBK_SECOND; profile++)
         for (size_t size = 0; size < sizeof many; size++)
-            told("after a safe break the breaks are those of the text from there on",
+            report("after a safe break the breaks are those of the text from there on",
                 has_safe_break(many, size, profile, &safe));
-    told("no text has no safe break", lbk_safe_break(&table, LBK_FIRST, NULL, 0) == 0);
+    report("no text has no safe break", lbk_safe_break(&table, LBK_FIRST, NULL, 0) == 0);
 }
 
 static void try_segments(void)
@@ -246,42 +246,42 @@ static void try_segments(void)
         for (size_t size = 0; size <= sizeof many; size += size < 12 ? 1 : 9)
             for (size_t room = 1; room <= 3 * ROOM + 1; room += room < 3 ? 1 : room < ROOM - 1 ? ROOM - 1 - room
                 : room < ROOM + 1 ? 1 : ROOM)
-                told("segments in blocks of any size", has_segments(many, size, profile, room));
+                report("segments in blocks of any size", has_segments(many, size, profile, room));
     lbk_segment one;
     lbk_segment_state state = {.breaks = {.at = 2}, .start = 2}, old = state;
-    told("segments without room: 0", lbk_segments(&table, &state, "a\nb", 3, NULL, 0) == 0
+    report("segments without room: 0", lbk_segments(&table, &state, "a\nb", 3, NULL, 0) == 0
         && same(state.breaks, old.breaks) && state.start == 2);
-    told("a segment of a part", lbk_segments(&table, &state, "a\nb", 3, &one, 1) == 1 && one.start == 2 && one.end == 3
+    report("a segment of a part", lbk_segments(&table, &state, "a\nb", 3, &one, 1) == 1 && one.start == 2 && one.end == 3
         && one.rule == LBK_RULE_3);
-    told("no segment is left", lbk_segments(&table, &state, "a\nb", 3, &one, 1) == 0 && state.start == 3);
+    report("no segment is left", lbk_segments(&table, &state, "a\nb", 3, &one, 1) == 0 && state.start == 3);
     state = (lbk_segment_state){.breaks = {.profile = 4}};
-    told("segments of no profile: 0", lbk_segments(&table, &state, "a", 1, &one, 1) == 0 && state.start == 0);
+    report("segments of no profile: 0", lbk_segments(&table, &state, "a", 1, &one, 1) == 0 && state.start == 0);
     state = (lbk_segment_state){.breaks = {.at = 2}};
-    told("segments from a place past the text: 0", lbk_segments(&table, &state, "a", 1, &one, 1) == 0
+    report("segments from a place past the text: 0", lbk_segments(&table, &state, "a", 1, &one, 1) == 0
         && state.breaks.at == 2);
 }
 
 /* The examples of the Unicode Standard, section 3.9, tables 3-8 to 3-11, and what they leave out. */
 static void try_ill_formed(void)
 {
-    told("non-shortest forms", has_breaks(0, "\xC0\xAF\xE0\x80\xBF\xF0\x81\x82\x41", 9,
+    report("non-shortest forms", has_breaks(0, "\xC0\xAF\xE0\x80\xBF\xF0\x81\x82\x41", 9,
         PLACES(1, 2, 3, 4, 5, 6, 7, 8, 9)));
-    told("surrogates", has_breaks(0, "\xED\xA0\x80\xED\xBF\xBF\xED\xAF\x41", 9, PLACES(1, 2, 3, 4, 5, 6, 7, 8, 9)));
-    told("other ill-formed bytes", has_breaks(0, "\xF4\x91\x92\x93\xFF\x61\x80\xBF\x62", 9,
+    report("surrogates", has_breaks(0, "\xED\xA0\x80\xED\xBF\xBF\xED\xAF\x41", 9, PLACES(1, 2, 3, 4, 5, 6, 7, 8, 9)));
+    report("other ill-formed bytes", has_breaks(0, "\xF4\x91\x92\x93\xFF\x61\x80\xBF\x62", 9,
         PLACES(1, 2, 3, 4, 5, 6, 7, 8, 9)));
-    told("cut scalars", has_breaks(0, "\xE1\x80\xE2\xF0\x91\x92\xF1\xBF\x61", 9, PLACES(2, 3, 6, 8, 9)));
-    told("a cut scalar of two bytes", has_breaks(0, "a\xC3", 2, PLACES(1, 2)));
-    told("a cut scalar of three bytes, one there", has_breaks(0, "a\xE4", 2, PLACES(1, 2)));
-    told("a cut scalar of three bytes, two there", has_breaks(0, "a\xE4\xB8", 3, PLACES(1, 3)));
-    told("a cut scalar of four bytes, one there", has_breaks(0, "a\xF0", 2, PLACES(1, 2)));
-    told("a cut scalar of four bytes, two there", has_breaks(0, "a\xF0\x9F", 3, PLACES(1, 3)));
-    told("a cut scalar of four bytes, three there", has_breaks(0, "a\xF0\x9F\x98", 4, PLACES(1, 4)));
-    told("the whole scalar", has_breaks(0, "a\xF0\x9F\x98\x80", 5, PLACES(1, 5)));
-    told("a byte of continuation", has_breaks(0, "\x80", 1, PLACES(1)));
-    told("a zero byte is a scalar", has_breaks(0, "a\0 a", 4, PLACES(3, 4)));
+    report("cut scalars", has_breaks(0, "\xE1\x80\xE2\xF0\x91\x92\xF1\xBF\x61", 9, PLACES(2, 3, 6, 8, 9)));
+    report("a cut scalar of two bytes", has_breaks(0, "a\xC3", 2, PLACES(1, 2)));
+    report("a cut scalar of three bytes, one there", has_breaks(0, "a\xE4", 2, PLACES(1, 2)));
+    report("a cut scalar of three bytes, two there", has_breaks(0, "a\xE4\xB8", 3, PLACES(1, 3)));
+    report("a cut scalar of four bytes, one there", has_breaks(0, "a\xF0", 2, PLACES(1, 2)));
+    report("a cut scalar of four bytes, two there", has_breaks(0, "a\xF0\x9F", 3, PLACES(1, 3)));
+    report("a cut scalar of four bytes, three there", has_breaks(0, "a\xF0\x9F\x98", 4, PLACES(1, 4)));
+    report("the whole scalar", has_breaks(0, "a\xF0\x9F\x98\x80", 5, PLACES(1, 5)));
+    report("a byte of continuation", has_breaks(0, "\x80", 1, PLACES(1)));
+    report("a zero byte is a scalar", has_breaks(0, "a\0 a", 4, PLACES(3, 4)));
     for (unsigned byte = 0x80; byte <= UINT8_MAX; byte++) {
         char text[] = {(char)byte, 'a'};
-        told("a byte of no scalar", has_breaks(0, text, 2, PLACES(1, 2)));
+        report("a byte of no scalar", has_breaks(0, text, 2, PLACES(1, 2)));
     }
 }
 
@@ -305,9 +305,9 @@ static void try_faults(void)
     };
     for (size_t k = 0; k < sizeof rows / sizeof *rows; k++) {
         lbk_fault fault = read_lines(&read, rows[k].line_break, rows[k].category);
-        told("the first fault", fault.file == rows[k].file && fault.line == rows[k].line
+        report("the first fault", fault.file == rows[k].file && fault.line == rows[k].line
             && fault.cause == rows[k].cause);
-        told("at a fault the table is as it was", memcmp(&read, &before, sizeof read) == 0);
+        report("at a fault the table is as it was", memcmp(&read, &before, sizeof read) == 0);
     }
 }
 
@@ -319,18 +319,18 @@ static void try_sizes(void)
     static lbk_table read;
     memset(file, '\n', sizeof file);
     lbk_fault fault = lbk_read(&read, NULL, 0, NULL, 0, NULL, 0, file, MOST_BYTES);
-    told("a file of the greatest size", fault.cause == LBK_CAUSE_NONE);
+    report("a file of the greatest size", fault.cause == LBK_CAUSE_NONE);
     fault = lbk_read(&read, NULL, 0, NULL, 0, NULL, 0, file, MOST_BYTES + 1);
-    told("a file past it", fault.file == LBK_EMOJI && fault.line == 0 && fault.cause == LBK_CAUSE_FILE_TOO_LONG);
+    report("a file past it", fault.file == LBK_EMOJI && fault.line == 0 && fault.cause == LBK_CAUSE_FILE_TOO_LONG);
     size_t size = 0, most = 0;
     for (unsigned code = 0; code <= MOST_ROWS; code++) {
         most = size;
         size += (size_t)snprintf(file + size, sizeof file - size, "%04X;W\n", code);
     }
     fault = lbk_read(&read, NULL, 0, file, most, NULL, 0, NULL, 0);
-    told("the greatest number of rows", fault.cause == LBK_CAUSE_NONE);
+    report("the greatest number of rows", fault.cause == LBK_CAUSE_NONE);
     fault = lbk_read(&read, NULL, 0, file, size, NULL, 0, NULL, 0);
-    told("a row past it", fault.file == LBK_EAST_ASIAN && fault.line == MOST_ROWS + 1
+    report("a row past it", fault.file == LBK_EAST_ASIAN && fault.line == MOST_ROWS + 1
         && fault.cause == LBK_CAUSE_TOO_MANY_ROWS);
 }
 
@@ -338,10 +338,10 @@ static void try_tables(void)
 {
     static lbk_table copy;
     copy = table;
-    told("a table that was read is whole", lbk_check(&table));
-    told("its layout is the header's", table.layout == LBK_LAYOUT);
-    told("a copy is whole", lbk_check(&copy));
-    told("a table can be read again", read_lines(&copy, LINE_BREAKS, CATEGORIES).cause == LBK_CAUSE_NONE
+    report("a table that was read is whole", lbk_check(&table));
+    report("its layout is the header's", table.layout == LBK_LAYOUT);
+    report("a copy is whole", lbk_check(&copy));
+    report("a table can be read again", read_lines(&copy, LINE_BREAKS, CATEGORIES).cause == LBK_CAUSE_NONE
         && memcmp(&copy, &table, sizeof table) == 0);
     unsigned char *bytes = (unsigned char *)&copy;
     size_t wrong = 0;
@@ -352,11 +352,11 @@ static void try_tables(void)
     }
     bytes[sizeof copy - 1] ^= 0x80;
     wrong += lbk_check(&copy);
-    told("a table with one other bit is not whole", wrong == 0);
+    report("a table with one other bit is not whole", wrong == 0);
     memset(&copy, 0, sizeof copy);
-    told("zeros are no table", !lbk_check(&copy));
+    report("zeros are no table", !lbk_check(&copy));
     memset(&copy, 0xFF, sizeof copy);
-    told("ones are no table", !lbk_check(&copy));
+    report("ones are no table", !lbk_check(&copy));
 }
 
 static void try_labels(void)
@@ -377,18 +377,18 @@ static void try_labels(void)
         lbk_rule_label label = lbk_label((uint8_t)rule), wanted = {{0}};
         if (labels[rule] != NULL)
             strcpy(wanted.text, labels[rule]);
-        told("a rule's label", memcmp(label.text, wanted.text, sizeof wanted.text) == 0);
+        report("a rule's label", memcmp(label.text, wanted.text, sizeof wanted.text) == 0);
     }
 }
 
 static void try_rule_texts(void)
 {
-    told("what a rule says", strcmp(lbk_rule_text(LBK_RULE_18).text, "A break is allowed after spaces.") == 0);
+    report("what a rule says", strcmp(lbk_rule_text(LBK_RULE_18).text, "A break is allowed after spaces.") == 0);
     for (unsigned rule = 0; rule <= UINT8_MAX; rule++) {
         const lbk_text text = lbk_rule_text((uint8_t)rule);
         const char *end = memchr(text.text, 0, sizeof text.text);
-        told("a rule that has a label says something", (text.text[0] != 0) == (lbk_label((uint8_t)rule).text[0] != 0));
-        told("zeros follow what it says", end != NULL && text.text[sizeof text.text - 1] == 0);
+        report("a rule that has a label says something", (text.text[0] != 0) == (lbk_label((uint8_t)rule).text[0] != 0));
+        report("zeros follow what it says", end != NULL && text.text[sizeof text.text - 1] == 0);
     }
 }
 
@@ -408,28 +408,28 @@ static void try_packing(void)
     static lbk_table unpacked;
     static char packed[1 << 16], again[1 << 16];
     const size_t size = lbk_pack(&table, packed, sizeof packed);
-    told("a table is packed into few bytes", size > 12 && size < sizeof packed && memcmp(packed, "lbk", 3) == 0
+    report("a table is packed into few bytes", size > 12 && size < sizeof packed && memcmp(packed, "lbk", 3) == 0
         && packed[3] == LBK_LAYOUT);
-    told("what is packed is unpacked", lbk_unpack(&unpacked, packed, size) == LBK_CAUSE_NONE
+    report("what is packed is unpacked", lbk_unpack(&unpacked, packed, size) == LBK_CAUSE_NONE
         && memcmp(&unpacked, &table, sizeof table) == 0);
     memset(again, 1, sizeof again);
-    told("without room: the size", lbk_pack(&table, NULL, 0) == size && lbk_pack(&table, again, size - 1) == size);
-    told("without room nothing is written", again[0] == 1 && memchr(again, packed[0], size) == NULL);
-    told("just enough room", lbk_pack(&table, again, size) == size && memcmp(packed, again, size) == 0
+    report("without room: the size", lbk_pack(&table, NULL, 0) == size && lbk_pack(&table, again, size - 1) == size);
+    report("without room nothing is written", again[0] == 1 && memchr(again, packed[0], size) == NULL);
+    report("just enough room", lbk_pack(&table, again, size) == size && memcmp(packed, again, size) == 0
         && again[size] == 1);
     for (size_t cut = 0; cut < size; cut += cut < 16 ? 1 : 977)
-        told("packed bytes that were cut", is_refused(packed, cut, cut < 4 ? LBK_CAUSE_NOT_PACKED : LBK_CAUSE_DAMAGED));
+        report("packed bytes that were cut", is_refused(packed, cut, cut < 4 ? LBK_CAUSE_NOT_PACKED : LBK_CAUSE_DAMAGED));
     for (size_t at = 0; at < size; at += at < 16 ? 1 : 977) {
         packed[at] ^= 1;
-        told("packed bytes that were changed",
+        report("packed bytes that were changed",
              is_refused(packed, size, at < 3 ? LBK_CAUSE_NOT_PACKED : at == 3 ? LBK_CAUSE_OTHER_LAYOUT
                  : LBK_CAUSE_DAMAGED));
         packed[at] ^= 1;
     }
-    told("more than the packed bytes", is_refused(packed, size + 1, LBK_CAUSE_DAMAGED));
-    told("a table is no packed table", is_refused((const char *)&table, sizeof table, LBK_CAUSE_NOT_PACKED));
+    report("more than the packed bytes", is_refused(packed, size + 1, LBK_CAUSE_DAMAGED));
+    report("a table is no packed table", is_refused((const char *)&table, sizeof table, LBK_CAUSE_NOT_PACKED));
     unpacked.kinds[65] ^= 1;
-    told("a corrupt table is not packed", lbk_pack(&unpacked, again, sizeof again) == 0
+    report("a corrupt table is not packed", lbk_pack(&unpacked, again, sizeof again) == 0
         && memcmp(packed, again, size) == 0);
 }
 
@@ -445,7 +445,7 @@ static void try_classes(void)
     for (size_t k = 0; k < sizeof rows / sizeof rows[0]; k++) {
         lbk_class_label label = lbk_class(&table, rows[k].scalar), wanted = {{0}};
         strcpy(wanted.text, rows[k].name);
-        told("a scalar's class", memcmp(label.text, wanted.text, sizeof wanted.text) == 0);
+        report("a scalar's class", memcmp(label.text, wanted.text, sizeof wanted.text) == 0);
     }
 }
 
@@ -468,33 +468,33 @@ static void try_words(void)
 {
     lbk_word_state state = {0};
     lbk_word one;
-    told("an empty text has no word", has_words(NULL, 0, WORDS(0, 0)));
-    told("no room for a word: 0", lbk_words(&state, "a b", 3, NULL, 0) == 0 && state.at == 0);
+    report("an empty text has no word", has_words(NULL, 0, WORDS(0, 0)));
+    report("no room for a word: 0", lbk_words(&state, "a b", 3, NULL, 0) == 0 && state.at == 0);
     for (size_t at = 3; at != 0; at = at == 3 ? SIZE_MAX : 0) {
         state.at = at;
-        told("words at the end and past it: 0", lbk_words(&state, "a b", 3, &one, 1) == 0 && state.at == at);
+        report("words at the end and past it: 0", lbk_words(&state, "a b", 3, &one, 1) == 0 && state.at == at);
     }
     state.at = 0;
     for (size_t k = 0; k < 2; k++)
-        told("room for one word", lbk_words(&state, "a b", 3, &one, 1) == 1 && one.start == 2 * k && one.end == 2 * k
+        report("room for one word", lbk_words(&state, "a b", 3, &one, 1) == 1 && one.start == 2 * k && one.end == 2 * k
             + 1);
-    told("room for one word: no more", lbk_words(&state, "a b", 3, &one, 1) == 0);
+    report("room for one word: no more", lbk_words(&state, "a b", 3, &one, 1) == 0);
     state.at = 1;
-    told("a text that is taken from a byte on", lbk_words(&state, "ab", 2, &one, 1) == 1 && one.start == 1
+    report("a text that is taken from a byte on", lbk_words(&state, "ab", 2, &one, 1) == 1 && one.start == 1
         && one.end == 2);
 
-    told("words and no words", has_words("can't, 3.5 - \xE4\xB8\x80!", 17, WORDS(0, 5, 7, 10, 13, 16)));
-    told("a mid letter without a letter behind it", has_words("a' b.", 5, WORDS(0, 1, 3, 4)));
-    told("a mark belongs to its letter", has_words("e\xCC\x81" "e", 4, WORDS(0, 4)));
-    told("a word across the end of a line", has_words("ab\r\ncd", 6, WORDS(0, 2, 4, 6)));
-    told("no letter, no word", has_words("\xF0\x9F\x87\xA6\xF0\x9F\x87\xA6 --", 11, WORDS(0, 0)));
-    told("ill-formed bytes between words", has_words("a\xFF" "b", 3, WORDS(0, 1, 2, 3)));
-    told("a cut scalar between words", has_words("a\xE4\xB8" "b", 4, WORDS(0, 1, 3, 4)));
-    told("a cut scalar behind a word", has_words("a\xF0\x9F\x98", 4, WORDS(0, 1)));
-    told("ill-formed bytes in a mark's run", has_words("'a\x80\xCC\x81" "b", 6, WORDS(1, 2, 5, 6)));
+    report("words and no words", has_words("can't, 3.5 - \xE4\xB8\x80!", 17, WORDS(0, 5, 7, 10, 13, 16)));
+    report("a mid letter without a letter behind it", has_words("a' b.", 5, WORDS(0, 1, 3, 4)));
+    report("a mark belongs to its letter", has_words("e\xCC\x81" "e", 4, WORDS(0, 4)));
+    report("a word across the end of a line", has_words("ab\r\ncd", 6, WORDS(0, 2, 4, 6)));
+    report("no letter, no word", has_words("\xF0\x9F\x87\xA6\xF0\x9F\x87\xA6 --", 11, WORDS(0, 0)));
+    report("ill-formed bytes between words", has_words("a\xFF" "b", 3, WORDS(0, 1, 2, 3)));
+    report("a cut scalar between words", has_words("a\xE4\xB8" "b", 4, WORDS(0, 1, 3, 4)));
+    report("a cut scalar behind a word", has_words("a\xF0\x9F\x98", 4, WORDS(0, 1)));
+    report("ill-formed bytes in a mark's run", has_words("'a\x80\xCC\x81" "b", 6, WORDS(1, 2, 5, 6)));
     for (unsigned byte = 0x80; byte <= UINT8_MAX; byte++) {
         char text[] = {(char)byte, 'a'};
-        told("a byte of no scalar is in no word", has_words(text, 2, WORDS(1, 2)));
+        report("a byte of no scalar is in no word", has_words(text, 2, WORDS(1, 2)));
     }
 }
 
@@ -519,8 +519,8 @@ static void try_cut_files(void)
         {"# emoji-data.txt\n # EOF", true}, {"# Linebreak-15.0.0.txt\n", false}, {"\n# LineBreak-15.0.0.txt\n", false},
     };
     for (size_t k = 0; k < sizeof rows / sizeof rows[0]; k++)
-        told("a file was cut, or not", lbk_is_cut(rows[k].file, strlen(rows[k].file)) == rows[k].is_cut);
-    told("no file was not cut", !lbk_is_cut(NULL, 0));
+        report("a file was cut, or not", lbk_is_cut(rows[k].file, strlen(rows[k].file)) == rows[k].is_cut);
+    report("no file was not cut", !lbk_is_cut(NULL, 0));
 }
 
 static void try_claims(void)
@@ -545,9 +545,9 @@ static void try_claims(void)
         {LBK_NO_FILE, "# LineBreak-14.0.0.txt\n", ""}, {5, "# LineBreak-14.0.0.txt\n", ""},
     };
     for (size_t k = 0; k < sizeof rows / sizeof rows[0]; k++)
-        told("what a file claims", is_text(lbk_claim_text(rows[k].file, rows[k].contents, strlen(rows[k].contents)),
+        report("what a file claims", is_text(lbk_claim_text(rows[k].file, rows[k].contents, strlen(rows[k].contents)),
             rows[k].says));
-    told("where the files are", strstr(lbk_remedy_text().text, "15.0.0/ucd/UCD.zip") != NULL
+    report("where the files are", strstr(lbk_remedy_text().text, "15.0.0/ucd/UCD.zip") != NULL
         && lbk_remedy_text().text[95] == 0);
 }
 
@@ -555,22 +555,22 @@ static void try_texts(void)
 {
     static const char *const names[] = {"the four files", "LineBreak.txt", "EastAsianWidth.txt",
         "DerivedGeneralCategory.txt", "emoji-data.txt"};
-    told("the version", is_text(lbk_version(), LBK_VERSION));
+    report("the version", is_text(lbk_version(), LBK_VERSION));
     for (uint32_t k = 0; k < 5; k++)
-        told("the name of a file", is_text(lbk_file_name(k), names[k]));
+        report("the name of a file", is_text(lbk_file_name(k), names[k]));
     for (uint32_t k = 0; k <= LBK_CAUSE_CUT; k++)
-        told("a cause has a text", (lbk_cause_text(k).text[0] == 0) == (k == 9) && lbk_cause_text(k).text[95] == 0);
-    told("a cause's text", is_text(lbk_cause_text(LBK_CAUSE_OUT_OF_MEMORY), "out of memory"));
+        report("a cause has a text", (lbk_cause_text(k).text[0] == 0) == (k == 9) && lbk_cause_text(k).text[95] == 0);
+    report("a cause's text", is_text(lbk_cause_text(LBK_CAUSE_OUT_OF_MEMORY), "out of memory"));
     for (uint32_t k = 1; k != 0; k <<= 1) {
-        told("a number of no file", k < 5 || is_text(lbk_file_name(k), ""));
-        told("a number of no cause", k <= LBK_CAUSE_CUT || is_text(lbk_cause_text(k), ""));
+        report("a number of no file", k < 5 || is_text(lbk_file_name(k), ""));
+        report("a number of no cause", k <= LBK_CAUSE_CUT || is_text(lbk_cause_text(k), ""));
     }
-    told("the numbers behind the last", is_text(lbk_file_name(5), "") && is_text(lbk_cause_text(15), ""));
+    report("the numbers behind the last", is_text(lbk_file_name(5), "") && is_text(lbk_cause_text(15), ""));
 }
 
 int main(void)
 {
-    told("the small files are read", read_lines(&table, LINE_BREAKS, CATEGORIES).cause == LBK_CAUSE_NONE);
+    report("the small files are read", read_lines(&table, LINE_BREAKS, CATEGORIES).cause == LBK_CAUSE_NONE);
     try_nothing();
     try_memory();
     try_rooms();

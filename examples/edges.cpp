@@ -82,10 +82,10 @@ static std::vector<std::size_t> unit_places(const Breaks &range)
 
 static void try_ranges(const lbk_table &table)
 {
-    told("no break of no text", lbk::breaks(table, "").begin() == lbk::breaks(table, "").end());
-    told("no break of a view of nothing", places(table, std::string_view()).empty());
-    told("the breaks of a text", places(table, "ab cd\nef") == these{3, 6, 8});
-    told("profiles differ", places(table, "a \xC2\xAB b", lbk::profile::first) == these{2, 5, 6}
+    report("no break of no text", lbk::breaks(table, "").begin() == lbk::breaks(table, "").end());
+    report("no break of a view of nothing", places(table, std::string_view()).empty());
+    report("the breaks of a text", places(table, "ab cd\nef") == these{3, 6, 8});
+    report("profiles differ", places(table, "a \xC2\xAB b", lbk::profile::first) == these{2, 5, 6}
                                 && places(table, "a \xC2\xAB b", lbk::profile::second) == these{2, 6});
     std::string many;
     these wanted;
@@ -93,7 +93,7 @@ static void try_ranges(const lbk_table &table)
         many += "a ";
         wanted.push_back(2 * k);
     }
-    told("more breaks than an iterator holds", places(table, many) == wanted);
+    report("more breaks than an iterator holds", places(table, many) == wanted);
     std::string apart = "a b ";
     these far{2, 4};
     for (std::size_t letters : {65535, 1, 65534, 65536, 200000, 3, 30000, 40000}) {
@@ -101,23 +101,23 @@ static void try_ranges(const lbk_table &table)
         far.push_back(apart.size() - 2);
         far.push_back(apart.size());
     }
-    told("breaks that stand far apart", places(table, apart) == far);
+    report("breaks that stand far apart", places(table, apart) == far);
     lbk::breaks twice(table, many);
-    told("a range is gone through again", std::distance(twice.begin(), twice.end()) == 1000
+    report("a range is gone through again", std::distance(twice.begin(), twice.end()) == 1000
                                               && std::distance(twice.begin(), twice.end()) == 1000);
-    told("the breaks of UTF-16", unit_places(lbk::breaks_utf16(table, u"a \xD83D\xDE00\nb \xD83D ")) == these{2, 5, 7,
+    report("the breaks of UTF-16", unit_places(lbk::breaks_utf16(table, u"a \xD83D\xDE00\nb \xD83D ")) == these{2, 5, 7,
         9});
-    told("the breaks of UTF-32", unit_places(lbk::breaks_utf32(table, U"a \x1F600\nb \x110000 ")) == these{2, 4, 6, 8});
-    told("profiles differ in UTF-16", unit_places(lbk::breaks_utf16(table, u"a \u00AB b", lbk::profile::first))
+    report("the breaks of UTF-32", unit_places(lbk::breaks_utf32(table, U"a \x1F600\nb \x110000 ")) == these{2, 4, 6, 8});
+    report("profiles differ in UTF-16", unit_places(lbk::breaks_utf16(table, u"a \u00AB b", lbk::profile::first))
         == these{2, 4, 5}
                                           && unit_places(lbk::breaks_utf16(table, u"a \u00AB b", lbk::profile::second))
                                           == these{2, 5});
-    told("the breaks of wide characters", unit_places(lbk::breaks_wide(table, L"a \x1F600\nb \x110000 ")) == these{2, 4,
+    report("the breaks of wide characters", unit_places(lbk::breaks_wide(table, L"a \x1F600\nb \x110000 ")) == these{2, 4,
         6, 8});
-    told("no break of no units", unit_places(lbk::breaks_utf16(table, u"")).empty()
+    report("no break of no units", unit_places(lbk::breaks_utf16(table, u"")).empty()
         && unit_places(lbk::breaks_utf32(table, U"")).empty());
-    told("labels", lbk::label(LBK_RULE_8A) == "8a" && lbk::label(255).empty());
-    told("what rules say", lbk::rule_text(LBK_RULE_18) == "A break is allowed after spaces."
+    report("labels", lbk::label(LBK_RULE_8A) == "8a" && lbk::label(255).empty());
+    report("what rules say", lbk::rule_text(LBK_RULE_18) == "A break is allowed after spaces."
         && lbk::rule_text(255).empty());
 }
 
@@ -126,18 +126,18 @@ static void try_iterators(const lbk_table &table)
     std::string text = "a b c d e f g h i j k l m n o p q r s t u v\nw";
     lbk::breaks range(table, text);
     const lbk_break &kept = *std::find_if(range.begin(), range.end(), [](lbk_break it) { return it.kind == LBK_MUST; });
-    told("a break that was found stays", kept.at == text.size() - 1 && kept.kind == LBK_MUST);
+    report("a break that was found stays", kept.at == text.size() - 1 && kept.kind == LBK_MUST);
 
     iterator place = range.begin(), before = place++, copy = place;
-    told("before and after", before->at == 2 && (*place).at == 4 && copy == place && before != place);
+    report("before and after", before->at == 2 && (*place).at == 4 && copy == place && before != place);
     while (copy != range.end())
         ++copy;
-    told("a copy goes on by itself", place->at == 4 && copy == range.end() && copy == iterator() && place != copy);
+    report("a copy goes on by itself", place->at == 4 && copy == range.end() && copy == iterator() && place != copy);
     std::advance(place, 15);
     std::advance(before, 16);
-    told("two ways to one place", place == before && place->at == before->at);
+    report("two ways to one place", place == before && place->at == before->at);
     before = range.begin();
-    told("an iterator is assigned", before->at == 2);
+    report("an iterator is assigned", before->at == 2);
 }
 
 static void try_positions(const lbk_table &table)
@@ -145,12 +145,12 @@ static void try_positions(const lbk_table &table)
     std::string shown, text = "ab \xC2\xAB";
     for (lbk_break one : lbk::positions(table, text))
         shown += std::to_string(one.at) + (one.kind == LBK_NO ? '-' : '+') + lbk::label(one.rule) + ' ';
-    told("the positions of a text", shown == "0-2 1-28 2-7 3+18 5+3 ");
-    told("the positions of UTF-16", unit_places(lbk::positions_utf16(table, u"ab \xD83D\xDE00\xD83D")) == these{0, 1, 2,
+    report("the positions of a text", shown == "0-2 1-28 2-7 3+18 5+3 ");
+    report("the positions of UTF-16", unit_places(lbk::positions_utf16(table, u"ab \xD83D\xDE00\xD83D")) == these{0, 1, 2,
         3, 5, 6});
-    told("the positions of UTF-32", unit_places(lbk::positions_utf32(table, U"ab \x1F600\x110000")) == these{0, 1, 2, 3,
+    report("the positions of UTF-32", unit_places(lbk::positions_utf32(table, U"ab \x1F600\x110000")) == these{0, 1, 2, 3,
         4, 5});
-    told("the positions of wide characters", unit_places(lbk::positions_wide(table, L"ab \x1F600\x110000")) == these{0,
+    report("the positions of wide characters", unit_places(lbk::positions_wide(table, L"ab \x1F600\x110000")) == these{0,
         1, 2, 3, 4, 5});
     for (int k = 0; k < 200; k++)
         text += "a b\n \xE4\xB8\x80";
@@ -162,7 +162,7 @@ static void try_positions(const lbk_table &table)
             if (one.kind != LBK_NO)
                 ends.push_back(one.at);
         }
-        told("positions where a line ends are the breaks", ends == places(table, text, rules) && scalars == 5
+        report("positions where a line ends are the breaks", ends == places(table, text, rules) && scalars == 5
             + 200 * 6);
     }
 }
@@ -175,16 +175,16 @@ static void try_cuts(const lbk_table &table)
         after.push_back(lbk::cut(table, text, at));
         before.push_back(lbk::cut_before(table, text, at));
     }
-    told("cuts at or after a byte", after == these{0, 3, 3, 3, 6, 6, 6, 7, 9, 9, 9});
-    told("cuts at or before a byte", before == these{0, 0, 0, 3, 3, 3, 6, 7, 7, 9, 9});
+    report("cuts at or after a byte", after == these{0, 3, 3, 3, 6, 6, 6, 7, 9, 9, 9});
+    report("cuts at or before a byte", before == these{0, 0, 0, 3, 3, 3, 6, 7, 7, 9, 9});
     these joined;
     for (std::size_t from = 0, to; from < text.size(); from = to) {
         to = lbk::cut(table, text, from + 1);
         for (std::size_t at : places(table, std::string_view(text).substr(from, to - from)))
             joined.push_back(from + at);
     }
-    told("the breaks of the parts are those of the text", joined == places(table, text));
-    told("no cut of no text", lbk::cut(table, "", 0) == 0 && lbk::cut_before(table, {}, 3) == 0);
+    report("the breaks of the parts are those of the text", joined == places(table, text));
+    report("no cut of no text", lbk::cut(table, "", 0) == 0 && lbk::cut_before(table, {}, 3) == 0);
 }
 
 /// A file that was cut is refused, and taken where that is asked for.
@@ -193,14 +193,14 @@ static void try_cut_files(const lbk::table &table)
     lbk::error why;
     const std::string head = "# LineBreak-15.0.0.txt\n", cut = head + LINE_BREAKS, whole = cut + "# EOF\r\n\n";
     auto is_same = [&](const std::optional<lbk::table> &made) { return made && made->bytes() == table.bytes(); };
-    told("a whole file is taken", is_same(lbk::table::try_read(whole, "# emoji-data.txt\n#EOF", CATEGORIES, "", why)));
-    told("a file that was cut is refused", !lbk::table::try_read(cut, "", CATEGORIES, "", why)
+    report("a whole file is taken", is_same(lbk::table::try_read(whole, "# emoji-data.txt\n#EOF", CATEGORIES, "", why)));
+    report("a file that was cut is refused", !lbk::table::try_read(cut, "", CATEGORIES, "", why)
         && why.fault.file == LBK_LINE_BREAK
                                                && why.fault.cause == LBK_CAUSE_CUT
                                                && why.message().find("LineBreak.txt: the file was truncated: ") == 0);
-    told("and the last of the four", !lbk::table::try_read(whole, "", CATEGORIES, "# emoji-data.txt", why)
+    report("and the last of the four", !lbk::table::try_read(whole, "", CATEGORIES, "# emoji-data.txt", why)
         && why.fault.file == LBK_EMOJI);
-    told("it is taken where that is asked for", is_same(lbk::table::try_read(cut, "", CATEGORIES, "", why, false))
+    report("it is taken where that is asked for", is_same(lbk::table::try_read(cut, "", CATEGORIES, "", why, false))
         && !why);
 }
 
@@ -211,21 +211,21 @@ static void try_segments(const lbk_table &table)
     for (lbk::segment it : lbk::segments(table, text))
         shown += std::to_string(it.start) + ' ' + std::string(it.text) + ' ' + std::to_string(it.kind) + ' '
             + lbk::label(it.rule) + '|';
-    told("segments", shown == "0 ab  1 18|3 cd\n 2 5|6 ef 2 3|");
+    report("segments", shown == "0 ab  1 18|3 cd\n 2 5|6 ef 2 3|");
     const lbk::segments none(table, "");
-    told("no segments of an empty text", none.begin() == none.end());
+    report("no segments of an empty text", none.begin() == none.end());
     lbk::segments all(table, text);
     lbk::segments::iterator first = all.begin(), same = first++;
-    told("an iterator of segments is a value", same == all.begin() && first != same && (*first).start == 3
+    report("an iterator of segments is a value", same == all.begin() && first != same && (*first).start == 3
         && (*same).start == 0);
 }
 
 static void try_safe_breaks(const lbk_table &table)
 {
     auto safe = [&](std::string_view text) { return lbk::safe_break(table, text); };
-    told("safe breaks", safe("ab c d") == 5 && safe("ab\ncd") == 3 && safe("ab\n") == 0 && safe("ab") == 0
+    report("safe breaks", safe("ab c d") == 5 && safe("ab\ncd") == 3 && safe("ab\n") == 0 && safe("ab") == 0
         && safe("") == 0);
-    told("classes", lbk::class_of(table, U'a') == "AL" && lbk::class_of(table, 0xd800).empty()
+    report("classes", lbk::class_of(table, U'a') == "AL" && lbk::class_of(table, 0xd800).empty()
         && lbk::class_of(table, 0x110000).empty());
 }
 
@@ -238,11 +238,11 @@ static void try_words()
     }
     for (lbk_word word : lbk::words(many))
         joined += many.substr(word.start, word.end - word.start) + '|';
-    told("words", joined == wanted);
-    told("no word", lbk::words(" .,").begin() == lbk::words("").end());
+    report("words", joined == wanted);
+    report("no word", lbk::words(" .,").begin() == lbk::words("").end());
     lbk::words range(many);
     auto place = range.begin(), before = place++;
-    told("places among words", before->start == 0 && place->start == 4 && before != place && ++before == place);
+    report("places among words", before->start == 0 && place->start == 4 && before != place && ++before == place);
 }
 
 // Each cutting of a text in UTF-16 into two pieces, also between the halves of a pair.
@@ -258,7 +258,7 @@ static void try_unit_streams(const lbk_table &table)
             stream.feed(std::u16string_view(text).substr(0, at), keep);
             stream.feed(std::u16string_view(text).substr(at), keep);
             stream.finish(keep);
-            told("a text in UTF-16 in pieces", found == wanted);
+            report("a text in UTF-16 in pieces", found == wanted);
         }
     }
 }
@@ -278,12 +278,12 @@ static void try_streams(const lbk_table &table)
                 stream.feed(std::string_view(text).substr(from, size), keep);
             lbk::stream copy = stream;
             stream.finish(keep);
-            told("a text in pieces", found == wanted);
+            report("a text in pieces", found == wanted);
             stream.finish(keep);
-            told("nothing comes after the end", found == wanted);
+            report("nothing comes after the end", found == wanted);
             these rest;
             copy.finish([&rest](lbk_break one) { rest.push_back(one.at); });
-            told("a copy goes on by itself", !rest.empty() && rest.back() == text.size());
+            report("a copy goes on by itself", !rest.empty() && rest.back() == text.size());
         }
     }
 }
@@ -297,30 +297,30 @@ static void try_bytes(const lbk::table &table)
 {
     using reason = lbk::error::reason;
     lbk::error why;
-    told("a file with a fault", !lbk::table::try_read("0061;AL\nno row\n", "", "", "", why)
+    report("a file with a fault", !lbk::table::try_read("0061;AL\nno row\n", "", "", "", why)
         && refused(why, reason::refused)
                                     && why.fault.file == LBK_LINE_BREAK && why.fault.line == 2
                                     && why.fault.cause == LBK_CAUSE_ROW_SYNTAX
                                     && why.message() == std::string("LineBreak.txt:2: ")
                                     + lbk_cause_text(LBK_CAUSE_ROW_SYNTAX).text);
     std::optional<lbk::table> copy = lbk::table::try_copy(table.bytes(), why);
-    told("a table from its bytes", copy && !why && places(*copy, "ab cd") == these{3, 5});
-    told("bytes that are too few", !lbk::table::try_copy(table.bytes().substr(1), why)
+    report("a table from its bytes", copy && !why && places(*copy, "ab cd") == these{3, 5});
+    report("bytes that are too few", !lbk::table::try_copy(table.bytes().substr(1), why)
         && refused(why, reason::not_a_table));
 
     const std::string packed = table.pack();
     std::optional<lbk::table> unpacked = lbk::table::try_unpack(packed, why);
-    told("a packed table", packed.size() < 200 && unpacked && !why && unpacked->bytes() == table.bytes());
-    told("a packed table that was cut", !lbk::table::try_unpack(packed.substr(1), why) && refused(why, reason::refused)
+    report("a packed table", packed.size() < 200 && unpacked && !why && unpacked->bytes() == table.bytes());
+    report("a packed table that was cut", !lbk::table::try_unpack(packed.substr(1), why) && refused(why, reason::refused)
                                             && why.message() == "these bytes are not a packed table");
 
-    told("a table in its place", lbk::table_in(table.bytes()) == &table.get());
-    told("no table in fewer bytes", lbk::table_in(table.bytes().substr(8)) == nullptr);
+    report("a table in its place", lbk::table_in(table.bytes()) == &table.get());
+    report("no table in fewer bytes", lbk::table_in(table.bytes().substr(8)) == nullptr);
     auto room = std::make_unique<char[]>(sizeof(lbk_table) + 1);
     std::memcpy(room.get() + 1, table.bytes().data(), sizeof(lbk_table));
-    told("no table out of line", lbk::table_in({room.get() + 1, sizeof(lbk_table)}) == nullptr);
+    report("no table out of line", lbk::table_in({room.get() + 1, sizeof(lbk_table)}) == nullptr);
     room[100000] ^= 1;
-    told("bytes that changed", !lbk::table::try_copy({room.get() + 1, sizeof(lbk_table)}, why)
+    report("bytes that changed", !lbk::table::try_copy({room.get() + 1, sizeof(lbk_table)}, why)
         && refused(why, reason::not_a_table));
 }
 
@@ -328,31 +328,31 @@ static void try_files(const lbk::table &table, const std::string &folder)
 {
     using reason = lbk::error::reason;
     lbk::error why;
-    told("a folder without files", !lbk::table::try_load(folder, why) && refused(why, reason::unreadable)
+    report("a folder without files", !lbk::table::try_load(folder, why) && refused(why, reason::unreadable)
                                        && why.fault.file == LBK_LINE_BREAK && why.system == ENOENT);
-    told("a folder of too long a name", !lbk::table::try_load(std::string(5000, 'a'), why)
+    report("a folder of too long a name", !lbk::table::try_load(std::string(5000, 'a'), why)
         && why.system == ENAMETOOLONG);
-    told("files are written", write(folder + "/LineBreak.txt", LINE_BREAKS) && write(folder + "/EastAsianWidth.txt", "")
+    report("files are written", write(folder + "/LineBreak.txt", LINE_BREAKS) && write(folder + "/EastAsianWidth.txt", "")
                                   && write(folder + "/emoji-data.txt", "") && write(folder + "/table", table.bytes())
                                   && write(folder + "/short", table.bytes().substr(8)));
-    told("a folder without one of them", !lbk::table::try_load(folder, why) && why.fault.file == LBK_CATEGORY);
-    told("a file is written below", ::mkdir((folder + "/extracted").c_str(), 0777) == 0
+    report("a folder without one of them", !lbk::table::try_load(folder, why) && why.fault.file == LBK_CATEGORY);
+    report("a file is written below", ::mkdir((folder + "/extracted").c_str(), 0777) == 0
                                         && write(folder + "/extracted/DerivedGeneralCategory.txt", CATEGORIES));
-    told("files that Unicode did not publish", !lbk::table::try_load(folder, why) && refused(why, reason::refused)
+    report("files that Unicode did not publish", !lbk::table::try_load(folder, why) && refused(why, reason::refused)
                                                    && why.fault.cause == LBK_CAUSE_NOT_PUBLISHED);
 
     std::optional<lbk::table> mapped = lbk::table::try_map(folder + "/table", why);
-    told("a mapped table", mapped && !why && places(*mapped, "ab cd") == these{3, 5});
+    report("a mapped table", mapped && !why && places(*mapped, "ab cd") == these{3, 5});
     lbk::table moved = std::move(*mapped);
     mapped.reset();
-    told("a mapped table that moved", places(moved, "ab cd") == these{3, 5});
-    told("a file that is too short", !lbk::table::try_map(folder + "/short", why) && refused(why, reason::not_a_table));
-    told("no file", !lbk::table::try_map(folder + "/none", why) && refused(why, reason::unreadable)
+    report("a mapped table that moved", places(moved, "ab cd") == these{3, 5});
+    report("a file that is too short", !lbk::table::try_map(folder + "/short", why) && refused(why, reason::not_a_table));
+    report("no file", !lbk::table::try_map(folder + "/none", why) && refused(why, reason::unreadable)
         && why.system == ENOENT);
-    told("a folder", !lbk::table::try_map(folder, why) && why);
+    report("a folder", !lbk::table::try_map(folder, why) && why);
     std::string changed(table.bytes());
     changed[100000] ^= 1;
-    told("a file that changed", write(folder + "/changed", changed) && !lbk::table::try_map(folder + "/changed", why)
+    report("a file that changed", write(folder + "/changed", changed) && !lbk::table::try_map(folder + "/changed", why)
                                     && refused(why, reason::not_a_table));
 }
 
@@ -361,18 +361,18 @@ static void try_not_found(const std::string &folder)
 {
     std::string why, none = folder + "/none";
     ::setenv("UNICODE_DATA", none.c_str(), 1);
-    told("where UNICODE_DATA names no folder none is found", lbk::table::try_find(why) == nullptr);
-    told("it says what to do", why.find("found no files of Unicode 15.0.0; install the package unicode-data") == 0);
-    told("it says where it looked", why.find("Looked for:\n  " + none + "/LineBreak.txt: ") != std::string::npos);
+    report("where UNICODE_DATA names no folder none is found", lbk::table::try_find(why) == nullptr);
+    report("it says what to do", why.find("found no files of Unicode 15.0.0; install the package unicode-data") == 0);
+    report("it says where it looked", why.find("Looked for:\n  " + none + "/LineBreak.txt: ") != std::string::npos);
     ::unsetenv("UNICODE_DATA");
     ::setenv("XDG_DATA_HOME", "/of/data", 1);
     ::setenv("HOME", "/home", 1);
     const std::vector<std::string> wanted = {"/usr/share/unicode", "/usr/share/unicode/ucd", "/of/data/unicode",
                                              "/home/.local/share/unicode"};
-    told("it looks into Debian's, Fedora's and the user's folders", lbk::detail::folders() == wanted);
+    report("it looks into Debian's, Fedora's and the user's folders", lbk::detail::folders() == wanted);
     ::setenv("XDG_DATA_HOME", "data", 1);
     ::unsetenv("HOME");
-    told("a user's folder is an absolute one", lbk::detail::folders().size() == 2);
+    report("a user's folder is an absolute one", lbk::detail::folders().size() == 2);
 }
 
 /// A table that is found is read once.
@@ -381,31 +381,31 @@ static void try_found(const std::string &folder)
     std::string why;
     ::setenv("UNICODE_DATA", folder.c_str(), 1);
     const lbk::table *found = lbk::table::try_find(why);
-    told("the folder of UNICODE_DATA is found", found != nullptr && why.empty());
+    report("the folder of UNICODE_DATA is found", found != nullptr && why.empty());
     ::setenv("UNICODE_DATA", "/none", 1);
-    told("it is read once", found != nullptr && lbk::table::try_find(why) == found);
+    report("it is read once", found != nullptr && lbk::table::try_find(why) == found);
 }
 
 static void try_database(const std::string &folder)
 {
     lbk::error why;
     std::optional<lbk::table> made = lbk::table::try_load(folder, why);
-    told("the files that Unicode published", made && !why && places(*made, "ab cd") == these{3, 5});
+    report("the files that Unicode published", made && !why && places(*made, "ab cd") == these{3, 5});
 }
 
 #if defined(__cpp_exceptions)
 static void try_exceptions(const lbk::table &table, const std::string &folder)
 {
     auto is_same = [&](const lbk::table &made) { return made.bytes() == table.bytes(); };
-    told("a table by each way", is_same(lbk::table::read(LINE_BREAKS, "", CATEGORIES, ""))
+    report("a table by each way", is_same(lbk::table::read(LINE_BREAKS, "", CATEGORIES, ""))
                                     && is_same(lbk::table::copy(table.bytes()))
                                     && is_same(lbk::table::map(folder + "/table"))
                                     && is_same(lbk::table::unpack(table.pack())));
     try {
         lbk::table::load(folder + "/none");
-        told("no folder is thrown", false);
+        report("no folder is thrown", false);
     } catch (const lbk::table_error &thrown) {
-        told("no folder is thrown", thrown.error().why == lbk::error::reason::unreadable
+        report("no folder is thrown", thrown.error().why == lbk::error::reason::unreadable
                                         && thrown.what() == folder + "/none/" + thrown.error().message());
     }
 }
@@ -420,7 +420,7 @@ int main(int words, char **word)
         return 2;
     }
     std::optional<lbk::table> table = small_table();
-    told("the small files have no fault", table.has_value());
+    report("the small files have no fault", table.has_value());
     if (table) {
         try_ranges(*table);
         try_iterators(*table);
@@ -441,5 +441,5 @@ int main(int words, char **word)
             try_found(word[2]);
         }
     }
-    return told_all();
+    return report_all();
 }

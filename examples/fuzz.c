@@ -52,10 +52,10 @@ static void go_over_positions(const lbk_table *table, const char *text, size_t s
         lbk_break *block = place(blocks, room * sizeof *block);
         lbk_state old = *state;
         size_t count = lbk_positions(table, state, text, size, block, room);
-        told("no more positions than there is room for", count <= room);
-        told("positions: the profile stays, the place goes on within the text",
+        report("no more positions than there is room for", count <= room);
+        report("positions: the profile stays, the place goes on within the text",
              state->profile == from.profile && state->at >= old.at && (state->at <= size || state->at == old.at));
-        told("positions in order, between the places",
+        report("positions in order, between the places",
             are_positions(block, count, old.at, state->ended ? size + 1 : state->at));
         if (count < room)
             break;
@@ -73,13 +73,13 @@ static void go_over_segments(const lbk_table *table, const char *text, size_t si
         size_t room = below(most_room + 1);
         lbk_segment *block = place(blocks, room * sizeof *block);
         size_t next = state.start, count = lbk_segments(table, &state, text, size, block, room);
-        told("no more segments than there is room for", count <= room);
+        report("no more segments than there is room for", count <= room);
         for (size_t k = 0; k < count; next = block[k++].end)
-            told("segments one after another, each by a kind and a rule",
+            report("segments one after another, each by a kind and a rule",
                  block[k].start == next && (!is_sound || (next <= block[k].end && block[k].end <= size))
                      && (block[k].kind == LBK_MAY || block[k].kind == LBK_MUST)
                      && lbk_label(block[k].rule).text[0] != 0);
-        told("segments: the profile stays, and the next starts where the last ends",
+        report("segments: the profile stays, and the next starts where the last ends",
             state.breaks.profile == from.profile && state.start == next);
         if (count < room)
             break;
@@ -105,13 +105,13 @@ static void go_over_pieces(const lbk_table *table, const char *text, size_t size
         size_t room = 1 + below(most_room), piece = below(size - from) + 1, next = next_place(&stream);
         lbk_break *block = place(blocks, room * sizeof *block);
         lbk_fed fed = lbk_feed(table, &stream, text + from, piece, from + piece == size, block, room);
-        told("no more of a piece is taken than it has, and no more breaks given than there is room for",
+        report("no more of a piece is taken than it has, and no more breaks given than there is room for",
              fed.taken <= piece && fed.count <= room && (fed.count == room || fed.taken == piece));
-        told("pieces: the profile stays", stream.profile == profile);
+        report("pieces: the profile stays", stream.profile == profile);
         for (size_t k = 0; k < fed.count; k++)
-            told("pieces: each break is a kind by a rule",
+            report("pieces: each break is a kind by a rule",
                  (block[k].kind == LBK_MAY || block[k].kind == LBK_MUST) && lbk_label(block[k].rule).text[0] != 0);
-        told("pieces: breaks in order, between the places",
+        report("pieces: breaks in order, between the places",
              !is_sound || are_in_order(block, fed.count, next, stream.ended ? stream.at + 1 : next_place(&stream)));
         from += fed.taken;
     }
@@ -121,10 +121,10 @@ static void go_over_pieces(const lbk_table *table, const char *text, size_t size
 static void go_over_cuts(const lbk_table *table, const char *text, size_t size)
 {
     size_t at = below(size + 2), next = lbk_cut(table, text, size, at), last = lbk_cut_before(table, text, size, at);
-    told("a cut at or after a place", next <= size && (at >= size ? next == size : next >= at));
-    told("a cut at or before a place", last <= size && (at >= size ? last == size : last <= at));
+    report("a cut at or after a place", next <= size && (at >= size ? next == size : next >= at));
+    report("a cut at or before a place", last <= size && (at >= size ? last == size : last <= at));
     size_t safe = lbk_safe_break(table, (uint8_t)below(3), text, size);
-    told("a safe break before the end, and at the last cut or after it", size == 0 ? safe == 0 : safe < size
+    report("a safe break before the end, and at the last cut or after it", size == 0 ? safe == 0 : safe < size
         && safe >= lbk_cut_before(table, text, size, size - 1));
 }
 
@@ -144,20 +144,20 @@ static void go_over(const lbk_table *table, fenced texts, fenced states, fenced 
         lbk_break *block = place(blocks, room * sizeof *block);
         lbk_state old = *state;
         size_t count = lbk_breaks(table, state, text, size, block, room);
-        told("no more than there is room for", count <= room);
-        told("the profile stays", state->profile == from.profile);
-        told("the place is in the text", state->at <= size || state->at == old.at);
-        told("the place does not go back", state->at >= old.at);
-        told("breaks in order, between the places",
+        report("no more than there is room for", count <= room);
+        report("the profile stays", state->profile == from.profile);
+        report("the place is in the text", state->at <= size || state->at == old.at);
+        report("the place does not go back", state->at >= old.at);
+        report("breaks in order, between the places",
             are_in_order(block, count, old.at, state->ended ? size + 1 : state->at));
-        told("breaks take the state on", count == 0 || state->at > old.at || state->ended);
-        told("at its end a state is at the text's", old.ended || !state->ended || state->at == size);
+        report("breaks take the state on", count == 0 || state->at > old.at || state->ended);
+        report("at its end a state is at the text's", old.ended || !state->ended || state->at == size);
         sum += count;
         if (count < room)
             break;
     }
-    told("no more breaks than places", sum <= size + 1);
-    told("the text is as it was", memcmp(text, made, size) == 0);
+    report("no more breaks than places", sum <= size + 1);
+    report("the text is as it was", memcmp(text, made, size) == 0);
     go_over_positions(table, text, size, state, blocks, from, most_room);
     go_over_segments(table, text, size, blocks, from, most_room);
     go_over_pieces(table, text, size, blocks, most_room);
@@ -203,7 +203,7 @@ static void compare_rooms(const lbk_table *table)
     for (size_t k = 0; same && k < all; k++)
         same = whole[k].at == part[k].at && whole[k].kind == part[k].kind && whole[k].rule == part[k].rule;
     same = same && are_in_order(whole, all, 0, size + 1);
-    told("blocks of any rooms have the same breaks", same);
+    report("blocks of any rooms have the same breaks", same);
 }
 
 /* Asks for the words of a text, from any byte on, with rooms of all sizes: they rise, and are those
@@ -218,27 +218,27 @@ static void go_over_words(fenced texts, fenced states, fenced blocks)
     lbk_word_state *state = place(states, sizeof *state);
     state->at = start;
     size_t all = lbk_words(state, text, size, whole, MOST_TEXT);
-    told("all words: the state is at the end", state->at == size || (start > size && state->at == start));
+    report("all words: the state is at the end", state->at == size || (start > size && state->at == start));
     state->at = start;
     for (unsigned calls = 0; calls < 4 * MOST_TEXT; calls++) {
         size_t room = below(MOST_ROOM + 1);
         lbk_word *block = place(blocks, room * sizeof *block);
         lbk_word_state old = *state;
         size_t count = lbk_words(state, text, size, block, room);
-        told("no more words than there is room for", count <= room && got + count <= all);
-        told("the place of words does not go back", state->at >= old.at && (state->at <= size || state->at == old.at));
+        report("no more words than there is room for", count <= room && got + count <= all);
+        report("the place of words does not go back", state->at >= old.at && (state->at <= size || state->at == old.at));
         for (size_t k = 0; k < count && got < all; k++, got++) {
-            told("blocks of any rooms have the same words", block[k].start == whole[got].start
+            report("blocks of any rooms have the same words", block[k].start == whole[got].start
                 && block[k].end == whole[got].end);
-            told("words rise", last <= block[k].start && block[k].start < block[k].end && block[k].end <= size);
+            report("words rise", last <= block[k].start && block[k].start < block[k].end && block[k].end <= size);
             last = block[k].end;
         }
         if (count < room)
             break;
-        told("a full block of words takes the state on", room == 0 || state->at > old.at);
+        report("a full block of words takes the state on", room == 0 || state->at > old.at);
     }
-    told("each word came", got == all);
-    told("the text of words is as it was", memcmp(text, made, size) == 0);
+    report("each word came", got == all);
+    report("the text of words is as it was", memcmp(text, made, size) == 0);
 }
 
 /* Files with a few bytes changed: a fault leaves the table, and names a file, a line of it and a cause. */
@@ -258,10 +258,10 @@ static void read_changed(lbk_table *table, const bytes *files)
     lbk_fault fault = lbk_read(table, changed[0].at, changed[0].size, changed[1].at, changed[1].size, changed[2].at,
                                changed[2].size, changed[3].at, changed[3].size);
     if (fault.cause == LBK_CAUSE_NONE) {
-        told("no fault: a whole table", lbk_check(table) && fault.file == LBK_NO_FILE && fault.line == 0);
+        report("no fault: a whole table", lbk_check(table) && fault.file == LBK_NO_FILE && fault.line == 0);
     } else {
-        told("a fault: the table is as it was", digest(table, sizeof *table) == old);
-        told("a fault: one of a file",
+        report("a fault: the table is as it was", digest(table, sizeof *table) == old);
+        report("a fault: one of a file",
              fault.cause <= LBK_CAUSE_TOO_MANY_ROWS && fault.file >= LBK_LINE_BREAK && fault.file <= LBK_EMOJI);
     }
     for (int k = 0; k < 4; k++)
@@ -279,7 +279,7 @@ static lbk_table *random_table(fenced tables, const lbk_table *real)
     else if (kind == 1)
         for (uint64_t times = 1 + below(1000); times > 0; times--)
             ((unsigned char *)table)[below(sizeof *table)] = (unsigned char)below(256);
-    told("a table is whole where it is the real one", lbk_check(table) == (memcmp(table, real, sizeof *table) == 0));
+    report("a table is whole where it is the real one", lbk_check(table) == (memcmp(table, real, sizeof *table) == 0));
     return table;
 }
 
@@ -308,7 +308,7 @@ int main(int words, char **word)
             compare_rooms(&real);
             go_over_words(texts, states, blocks);
         }
-        told("the table is as it was", digest(table, sizeof *table) == old);
+        report("the table is as it was", digest(table, sizeof *table) == old);
         read_changed(table, files);
     }
     for (int k = 0; k < 4; k++)

@@ -14,7 +14,7 @@ enum { MOST_TEXT = 200, MOST_ROOM = 40 };
 static unsigned long passed, failed;
 static uint64_t seed;
 
-static inline void told(const char *what, int holds)
+static inline void report(const char *what, int holds)
 {
     if (holds) {
         passed++;

@@ -12,7 +12,7 @@
 
 static unsigned passed, failed;
 
-static void told(const char *what, bool holds)
+static void report(const char *what, bool holds)
 {
     if (holds) {
         passed++;
@@ -42,7 +42,7 @@ static bool write(const std::string &name, std::string_view bytes)
 using these = std::vector<std::size_t>;
 
 /* Says how many cases there were. Returns the status of the program. */
-static int told_all()
+static int report_all()
 {
     std::printf("%u passed, %u failed\n", passed, failed);
     return failed == 0 ? 0 : 1;

@@ -119,7 +119,7 @@ static void try_random_text(size_t longest)
     memcpy(text, made, size);
     start.profile = (uint8_t)below(4);
     start.at = below(2) == 0 ? 0 : below(size + 1);
-    told("random bytes have the bits of their breaks",
+    report("random bytes have the bits of their breaks",
         has_its_breaks(text, size, start, below(3) == 0 ? 1 + below(MOST_WORDS) : 0));
 }
 
@@ -142,12 +142,12 @@ static void try_any_table(const lbk_table *any)
     old = *state;
     size_t told_of = lbk_marks(any, state, text, size, words, count);
     int goes = old.at <= size && old.profile < 4 && !old.ended;
-    told("any table: as many places as there are",
+    report("any table: as many places as there are",
          told_of == (!goes ? 0 : 64 * count < size + 1 - old.at ? 64 * count : size + 1 - old.at));
-    told("any table: no bit behind them", are_clear(words, count, told_of));
-    told("any table: the state goes on", state->profile == old.profile && state->at >= old.at
+    report("any table: no bit behind them", are_clear(words, count, told_of));
+    report("any table: the state goes on", state->profile == old.profile && state->at >= old.at
         && (state->at <= size || !goes));
-    told("any table: a state from which nothing comes stays",
+    report("any table: a state from which nothing comes stays",
          told_of != 0 || (state->at == old.at && state->row == old.row && state->ended == old.ended));
 }
 
@@ -160,7 +160,7 @@ static void try_file(const char *name)
         for (size_t k = 0; k < sizeof many / sizeof *many; k++) {
             lbk_state start = {0};
             start.profile = (uint8_t)profile;
-            told(name, has_its_breaks(text.at, text.size, start, many[k]));
+            report(name, has_its_breaks(text.at, text.size, start, many[k]));
         }
     free(text.at);
 }

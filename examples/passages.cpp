@@ -40,13 +40,13 @@ static void try_passages(const lbk_table &table)
         for (lbk_word word : one.words())
             words.push_back(one.start + word.start);
     }
-    told("passages begin behind the ends of lines", starts == these{0, 5, 6, 10});
-    told("passages are the text", joined == text);
-    told("segments of passages", segments == "ab |c\n|\n|de \n|f|");
-    told("words of passages", words == these{0, 3, 6, 10});
-    told("no passage of no text", lbk::passages(table, "").begin() == lbk::passages(table, "").end());
+    report("passages begin behind the ends of lines", starts == these{0, 5, 6, 10});
+    report("passages are the text", joined == text);
+    report("segments of passages", segments == "ab |c\n|\n|de \n|f|");
+    report("words of passages", words == these{0, 3, 6, 10});
+    report("no passage of no text", lbk::passages(table, "").begin() == lbk::passages(table, "").end());
     lbk::passages twice(table, text);
-    told("passages are gone through again", std::distance(twice.begin(), twice.end()) == std::distance(twice.begin(),
+    report("passages are gone through again", std::distance(twice.begin(), twice.end()) == std::distance(twice.begin(),
         twice.end()));
 }
 
@@ -61,11 +61,11 @@ static void try_chunks(const lbk_table &table)
     };
     lbk::limits within;
     within.most = 12;
-    told("half of most is the least", shown(within) == "one two. |three\n|four five |six|");
+    report("half of most is the least", shown(within) == "one two. |three\n|four five |six|");
     within.least = 12;
-    told("the chunks of a text", shown(within) == "one two. |three\nfour |five six|");
+    report("the chunks of a text", shown(within) == "one two. |three\nfour |five six|");
     within.overlap = 5;
-    told("chunks with an overlap", shown(within) == "one two. |three\nfour |four five |five six|");
+    report("chunks with an overlap", shown(within) == "one two. |three\nfour |four five |five six|");
     std::string many, joined;
     for (int k = 0; k < 1000; k++)
         many += "a b ";
@@ -76,9 +76,9 @@ static void try_chunks(const lbk_table &table)
         is_on = is_on && it.start <= at && at < it.end;
         at = it.end;
     }
-    told("more chunks than an iterator holds", is_on && at == many.size());
-    told("a chunk that stands alone", lbk::chunks(table, "abcdefghijklmnop", within).begin()->alone);
-    told("no chunk of no text", lbk::chunks(table, "").begin() == lbk::chunks(table, "").end());
+    report("more chunks than an iterator holds", is_on && at == many.size());
+    report("a chunk that stands alone", lbk::chunks(table, "abcdefghijklmnop", within).begin()->alone);
+    report("no chunk of no text", lbk::chunks(table, "").begin() == lbk::chunks(table, "").end());
 }
 
 /// Limits that are out of range are named.
@@ -88,20 +88,20 @@ static void try_limits(const lbk_table &table)
     none.most = 0;
     least.least = 501;
     overlap.overlap = 251;
-    told("limits in range", lbk::limits().wrong().empty());
-    told("no most", none.wrong() == "most must be 1 or more, not 0");
-    told("too much least", least.wrong() == "least must be from 0 to most (500), not 501");
-    told("too much overlap", overlap.wrong() == "overlap must be from 0 to half of most (500), not 251");
+    report("limits in range", lbk::limits().wrong().empty());
+    report("no most", none.wrong() == "most must be 1 or more, not 0");
+    report("too much least", least.wrong() == "least must be from 0 to most (500), not 501");
+    report("too much overlap", overlap.wrong() == "overlap must be from 0 to half of most (500), not 251");
     for (const lbk::limits &one : {none, least, overlap}) {
 #if defined(__cpp_exceptions)
         try {
             lbk::chunks(table, "a b", one);
-            told("wrong limits are thrown", false);
+            report("wrong limits are thrown", false);
         } catch (const std::invalid_argument &thrown) {
-            told("wrong limits are thrown", thrown.what() == one.wrong());
+            report("wrong limits are thrown", thrown.what() == one.wrong());
         }
 #else
-        told("wrong limits give no chunk", lbk::chunks(table, "a b", one).begin() == lbk::chunks(table, "a b",
+        report("wrong limits give no chunk", lbk::chunks(table, "a b", one).begin() == lbk::chunks(table, "a b",
             one).end());
 #endif
     }
@@ -125,7 +125,7 @@ static void try_claims(const std::string &folder)
     for (const auto &[first, said] : claims) {
         lbk::error why;
         write(folder + "/claims/LineBreak.txt", first);
-        told(said, !lbk::table::try_load(folder + "/claims", why) && why.message() == std::string("LineBreak.txt: ")
+        report(said, !lbk::table::try_load(folder + "/claims", why) && why.message() == std::string("LineBreak.txt: ")
             + said);
     }
     const std::pair<const char *, const char *> emoji[] = {
@@ -134,14 +134,14 @@ static void try_claims(const std::string &folder)
         {"# emoji-data-15.0\n", "this is not emoji-data.txt of the Unicode Character Database"},
     };
     for (const auto &[first, said] : emoji) {
-        told(said, lbk_claim_text(LBK_EMOJI, first, std::strlen(first)).text == std::string(said));
+        report(said, lbk_claim_text(LBK_EMOJI, first, std::strlen(first)).text == std::string(said));
     }
 #if defined(__cpp_exceptions)
     try {
         lbk::table::load(folder + "/claims");
-        told("a claim is thrown", false);
+        report("a claim is thrown", false);
     } catch (const lbk::table_error &thrown) {
-        told("a claim is thrown", std::string(thrown.what()).find(folder + "/claims/LineBreak.txt: this is not") == 0
+        report("a claim is thrown", std::string(thrown.what()).find(folder + "/claims/LineBreak.txt: this is not") == 0
                                       && std::strstr(thrown.what(), "15.0.0/ucd/UCD.zip") != nullptr);
     }
 #endif
@@ -154,12 +154,12 @@ int main(int words, char **word)
         return 2;
     }
     std::optional<lbk::table> table = small_table();
-    told("the small files have no fault", table.has_value());
+    report("the small files have no fault", table.has_value());
     if (table) {
         try_passages(*table);
         try_chunks(*table);
         try_limits(*table);
         try_claims(word[1]);
     }
-    return told_all();
+    return report_all();
 }

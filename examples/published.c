@@ -8,7 +8,7 @@
 
 static unsigned passed, failed;
 
-static void told(const char *what, int file, int holds)
+static void report(const char *what, int file, int holds)
 {
     if (holds) {
         passed++;
@@ -30,7 +30,7 @@ static lbk_fault read_published(const bytes *files)
 static void taken(const char *what, int file, const bytes *files)
 {
     memset(&table, 0, sizeof table);
-    told(what, file, read_published(files).cause == LBK_CAUSE_NONE && memcmp(&table, &wanted, sizeof table) == 0);
+    report(what, file, read_published(files).cause == LBK_CAUSE_NONE && memcmp(&table, &wanted, sizeof table) == 0);
 }
 
 /* They have to be refused at this file. */
@@ -38,8 +38,8 @@ static void refused(const char *what, int file, const bytes *files)
 {
     table = wanted;
     lbk_fault fault = read_published(files);
-    told(what, file, fault.cause == LBK_CAUSE_NOT_PUBLISHED && fault.file == (uint32_t)file + 1 && fault.line == 0);
-    told("the table stays", file, memcmp(&table, &wanted, sizeof table) == 0);
+    report(what, file, fault.cause == LBK_CAUSE_NOT_PUBLISHED && fault.file == (uint32_t)file + 1 && fault.line == 0);
+    report("the table stays", file, memcmp(&table, &wanted, sizeof table) == 0);
 }
 
 /* A file with CR LF in the place of each LF. */

@@ -155,7 +155,7 @@ static void try_all_cuttings(const char *text, size_t size)
                 for (size_t k = j; k <= size; k++)
                     for (size_t room = 1; room <= 3; room++) {
                         size_t ends[] = {i, j, k, size, size};
-                        told("a text in four pieces", agrees((uint8_t)profile, text, 0, ends, 4 + (i + j + k) % 2, room,
+                        report("a text in four pieces", agrees((uint8_t)profile, text, 0, ends, 4 + (i + j + k) % 2, room,
                             &all));
                     }
     }
@@ -198,7 +198,7 @@ static void try_random_cutting(void)
     size_t start = below(2) == 0 ? 0 : below(size + 1), count = random_ends(start, size, ends);
     uint8_t profile = (uint8_t)below(PROFILES);
     found all = breaks_of_whole(profile, text, start, size);
-    told("a text in random pieces", agrees(profile, text, start, ends, count, room, &all));
+    report("a text in random pieces", agrees(profile, text, start, ends, count, room, &all));
 
     lbk_stream stream = {0};
     found got;
@@ -210,7 +210,7 @@ static void try_random_cutting(void)
     all = breaks_of_whole(profile, text, 0, size);
     holds &= is_settled(&stream, front, &got, &all);
     holds &= feed(&stream, text + front, size - front, true, room, &got);
-    told("a stream gone on with over another text", holds && same_breaks(&got, &all));
+    report("a stream gone on with over another text", holds && same_breaks(&got, &all));
 }
 
 /* A text in parts that begin where lbk_cut says, each a stream in random pieces: their breaks, one after another,
@@ -232,7 +232,7 @@ static void try_parts(void)
         for (size_t k = 0, start = from; k < count; start = ends[k++])
             holds &= feed(&stream, text + start, ends[k] - start, k + 1 == count, room, &got);
     }
-    told("a text in parts, each a stream", holds && same_breaks(&got, &all));
+    report("a text in parts, each a stream", holds && same_breaks(&got, &all));
 }
 
 /* A text a byte at a time, with room for one break. */
@@ -244,7 +244,7 @@ static void try_bytes(void)
     for (size_t k = 0; k <= size; k++)
         ends[k] = k;
     found all = breaks_of_whole(profile, text, 0, size);
-    told("a text a byte at a time", agrees(profile, text, 0, ends, size + 1, 1, &all));
+    report("a text a byte at a time", agrees(profile, text, 0, ends, size + 1, 1, &all));
 }
 
 /* Any bytes as a stream and as a table: calls return, and say no more than they did. */
@@ -266,22 +266,22 @@ static void try_any_bytes(const lbk_table *any)
         lbk_break *block = place(blocks, room * sizeof *block);
         lbk_stream old = *stream;
         lbk_fed fed = lbk_feed(any, stream, piece + from, size - from, below(2) == 0, block, room);
-        told("no more than there is room for", fed.count <= room && fed.taken <= size - from);
-        told("the profile stays", stream->profile == old.profile);
-        told("no room: nothing is taken", room > 0 || (fed.taken == 0 && memcmp(stream, &old, sizeof old) == 0));
-        told("room is left: all is taken", fed.count == room || fed.taken == size - from);
+        report("no more than there is room for", fed.count <= room && fed.taken <= size - from);
+        report("the profile stays", stream->profile == old.profile);
+        report("no room: nothing is taken", room > 0 || (fed.taken == 0 && memcmp(stream, &old, sizeof old) == 0));
+        report("room is left: all is taken", fed.count == room || fed.taken == size - from);
         for (size_t k = 0; k < fed.count; k++)
-            told("a break is a kind by a rule",
+            report("a break is a kind by a rule",
                  (block[k].kind == LBK_MAY || block[k].kind == LBK_MUST) && lbk_label(block[k].rule).text[0] != 0);
         sum += fed.count;
-        told("an ended stream stays", old.ended == 0 || room == 0
+        report("an ended stream stays", old.ended == 0 || room == 0
             || (fed.count == 0 && memcmp(stream, &old, sizeof old) == 0));
         from += fed.taken;
         if (fed.count < room || room == 0)
             break;
     }
-    told("at most a break for each byte, one that waited and the end", sum <= most);
-    told("the piece is as it was", memcmp(piece, text, size) == 0);
+    report("at most a break for each byte, one that waited and the end", sum <= most);
+    report("the piece is as it was", memcmp(piece, text, size) == 0);
 }
 
 int main(int words, char **word)

@@ -119,7 +119,7 @@ static void try_all_cuttings(const uint16_t *text, size_t size)
                 ends[count++] = size;
             uint8_t profile = (uint8_t)below(PROFILES);
             for (size_t room = 1; room <= 2; room++)
-                told("a short text in all ways", agrees(profile, text, 0, ends, count, room));
+                report("a short text in all ways", agrees(profile, text, 0, ends, count, room));
         }
 }
 
@@ -158,7 +158,7 @@ static void try_random_cutting(void)
         ends[count++] = from = from < size ? from : size;
     }
     ends[count++] = size;
-    told("a text in random pieces", agrees((uint8_t)below(PROFILES), text, start, ends, count,
+    report("a text in random pieces", agrees((uint8_t)below(PROFILES), text, start, ends, count,
         1 + below(MOST_FEED_ROOM)));
 }
 
@@ -179,13 +179,13 @@ static void try_any_stream(const lbk_table *any)
         int holds = fed.count <= room && fed.taken <= size - from && stream.profile == profile;
         for (size_t k = 0; holds && k < fed.count; k++)
             holds &= block[k].kind >= LBK_MAY && block[k].kind <= LBK_MUST && lbk_label(block[k].rule).text[0] != 0;
-        told("breaks of any table and any stream", holds);
+        report("breaks of any table and any stream", holds);
         if (!holds)
             return;
         from += fed.taken;
         sum += fed.count;
     } while (fed.count == room);
-    told("no more breaks than units, and two", from == size && sum <= most);
+    report("no more breaks than units, and two", from == size && sum <= most);
 }
 
 int main(int count, char **word)

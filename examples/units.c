@@ -191,7 +191,7 @@ static void try_going_on(uint8_t profile, const scalars *read)
     int holds = lbk_positions(&table, &state, (const char *)read->utf8, read->size, given, 4 * MOST_UNITS) == count;
     for (size_t k = 0; holds && k < count; k++)
         holds &= given[k].at == wanted[k].at && given[k].kind == wanted[k].kind && given[k].rule == wanted[k].rule;
-    told("positions of UTF-8 that goes on", holds);
+    report("positions of UTF-8 that goes on", holds);
 }
 
 /* The breaks or positions of the part of a text from a unit on. */
@@ -231,15 +231,15 @@ static void try_cuts(uint8_t profile, const uint16_t *units, size_t size)
         int safe = at == 0 || at == size || (next < count && whole[next].at == at && whole[next].kind == LBK_MUST);
         before[at] = safe ? at : before[at - 1];
         if (safe && at != 0 && at != size)
-            told("what is given of two parts in UTF-16 is what is given of the whole",
+            report("what is given of two parts in UTF-16 is what is given of the whole",
                  joins(0, profile, units, size, at) && joins(1, profile, units, size, at));
     }
     for (size_t at = size + 1; at-- > 0;) {
         behind = before[at] == at ? at : behind;
-        told("the first cut at or after a unit", lbk_cut_utf16(&table, text, size, at) == behind);
-        told("the last cut at or before a unit", lbk_cut_before_utf16(&table, text, size, at) == before[at]);
+        report("the first cut at or after a unit", lbk_cut_utf16(&table, text, size, at) == behind);
+        report("the last cut at or before a unit", lbk_cut_before_utf16(&table, text, size, at) == before[at]);
     }
-    told("cuts past the end", lbk_cut_utf16(&table, text, size, size + 1 + below(9)) == size
+    report("cuts past the end", lbk_cut_utf16(&table, text, size, size + 1 + below(9)) == size
         && lbk_cut_before_utf16(&table, text, size, SIZE_MAX) == size);
 }
 
@@ -252,8 +252,8 @@ static void try_utf16(const uint16_t *units, size_t size, size_t room)
     for (uint8_t profile = 0; profile < 4; profile++) {
         if (profile >= LBK_GOES_ON)
             try_going_on(profile, &read);
-        told("breaks of units of 16 bits", agrees(0, 0, profile, units, size, room, &read));
-        told("positions of units of 16 bits", agrees(1, 0, profile, units, size, room, &read));
+        report("breaks of units of 16 bits", agrees(0, 0, profile, units, size, room, &read));
+        report("positions of units of 16 bits", agrees(1, 0, profile, units, size, room, &read));
     }
 }
 
@@ -262,8 +262,8 @@ static void try_utf32(const uint32_t *units, size_t size, size_t room)
     static scalars read;
     read_utf32(&read, units, size);
     for (uint8_t profile = 0; profile < 4; profile++) {
-        told("breaks of units of 32 bits", agrees(0, 1, profile, units, size, room, &read));
-        told("positions of units of 32 bits", agrees(1, 1, profile, units, size, room, &read));
+        report("breaks of units of 32 bits", agrees(0, 1, profile, units, size, room, &read));
+        report("positions of units of 32 bits", agrees(1, 1, profile, units, size, room, &read));
     }
 }
 
@@ -324,7 +324,7 @@ static void try_any_table(const lbk_table *any, int all)
             && block[k].kind >= (all ? LBK_NO : LBK_MAY) && block[k].kind <= LBK_MUST
             && lbk_label(block[k].rule).text[0] != 0;
     holds &= count > 0 || room > 0 || memcmp(&state, &old, sizeof old) == 0;
-    told(all ? "positions of any table and any state" : "breaks of any table and any state", holds);
+    report(all ? "positions of any table and any state" : "breaks of any table and any state", holds);
 }
 
 /* Each line of a text in UTF-8, which is well-formed. */

@@ -80,7 +80,7 @@ void free(void *old)
 
 static unsigned passed, failed;
 
-static void told(const char *what, unsigned long number, int holds)
+static void report(const char *what, unsigned long number, int holds)
 {
     if (holds) {
         passed++;
@@ -100,13 +100,13 @@ static int try_allocation(const bytes *files, unsigned long number)
     lbk_fault fault = lbk_read(&table, files[0].at, files[0].size, files[1].at, files[1].size, files[2].at,
         files[2].size, files[3].at, files[3].size);
     is_counting = 0;
-    told("all memory is given back", number, held == 0);
+    report("all memory is given back", number, held == 0);
     if (refusals == 0) {
-        told("no fault where nothing was refused", number, fault.cause == LBK_CAUSE_NONE && lbk_check(&table));
+        report("no fault where nothing was refused", number, fault.cause == LBK_CAUSE_NONE && lbk_check(&table));
         return 0;
     }
-    told("out of memory", number, fault.cause == LBK_CAUSE_OUT_OF_MEMORY);
-    told("the table as it was", number, memcmp(&table, &before, sizeof table) == 0);
+    report("out of memory", number, fault.cause == LBK_CAUSE_OUT_OF_MEMORY);
+    report("the table as it was", number, memcmp(&table, &before, sizeof table) == 0);
     return 1;
 }
 
@@ -155,8 +155,8 @@ static void try_others(void)
     lbk_text cause = lbk_cause_text(LBK_CAUSE_RANGE), file = lbk_file_name(LBK_EMOJI), version = lbk_version();
     int whole = lbk_check(&table);
     is_counting = 0;
-    told("the other calls take no memory", 0, allocations == 0);
-    told("they give what they give", 0,
+    report("the other calls take no memory", 0, allocations == 0);
+    report("they give what they give", 0,
          count == 4 && cut_into == 4 && claim.text[0] != 0 && remedy.text[0] != 0 && fed.count == 4 && positions == 4
              && in_units == 2 && in_scalars == 2 && at_units == 4 && at_scalars == 4 && places == size + 1
              && of_text == 4 && pieces == 1 && cut == 6 && cut_before == 6 && safe >= cut_before
@@ -182,7 +182,7 @@ int main(int count, char **words)
             number++;
         most = number - 1;
     }
-    told("there are allocations to refuse", most, most > 0);
+    report("there are allocations to refuse", most, most > 0);
     try_others();
     printf("%u passed, %u failed\n", passed, failed);
     return failed != 0;

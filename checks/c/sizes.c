@@ -93,7 +93,7 @@ static void read_small_files(void)
         int is_read = read_files(files).cause == LBK_CAUSE_NONE;
         if (!is_read)
             printf("files of %zu bytes\n", size);
-        told("files of each size up to 4,096 bytes are taken", is_read);
+        report("files of each size up to 4,096 bytes are taken", is_read);
         free_files(files);
     }
 }
@@ -124,7 +124,7 @@ int main(int count, char **word)
                 files[0].size,
                    files[1].size, files[2].size, files[3].size, file, fault.file, fault.line,
                    lbk_cause_text(fault.cause).text);
-        told("files of drawn sizes are taken, and a row that comes twice is refused at its line", is_right);
+        report("files of drawn sizes are taken, and a row that comes twice is refused at its line", is_right);
         free_files(files);
     }
     printf("%lu passed, %lu failed\n", passed, failed);

@@ -29,7 +29,7 @@ static lbk_fault fault;
 static size_t total;
 static uint8_t profile;
 
-static void told(const char *what, int holds)
+static void report(const char *what, int holds)
 {
     if (holds) {
         passed++;
@@ -286,30 +286,30 @@ static void try_text(void)
     for (profile = 0; profile < 2; profile++) {
         run_in_thread("lbk_breaks", do_breaks);
         size_t breaks = total;
-        told("lbk_breaks gives breaks", breaks > 0 || text.size == 0);
+        report("lbk_breaks gives breaks", breaks > 0 || text.size == 0);
         run_in_thread("lbk_segments", do_segments);
-        told("lbk_segments gives as many segments as lbk_breaks gives breaks", total == breaks);
+        report("lbk_segments gives as many segments as lbk_breaks gives breaks", total == breaks);
         run_in_thread("lbk_feed", do_feed);
-        told("lbk_feed gives as many breaks as lbk_breaks", total == breaks);
+        report("lbk_feed gives as many breaks as lbk_breaks", total == breaks);
         run_in_thread("lbk_marks", do_marks);
-        told("lbk_marks sets as many bits as lbk_breaks gives breaks", total == breaks);
+        report("lbk_marks sets as many bits as lbk_breaks gives breaks", total == breaks);
         stack_size = large;
         run_in_thread("lbk_chunks", do_chunks);
         stack_size = small;
-        told("lbk_chunks gives chunks", total > 0 || text.size == 0);
+        report("lbk_chunks gives chunks", total > 0 || text.size == 0);
         run_in_thread("lbk_positions", do_positions);
-        told("lbk_positions gives positions", total > breaks);
+        report("lbk_positions gives positions", total > breaks);
         run_in_thread("UTF-16, UTF-32", do_units);
-        told("each unit of 32 bits has a position, and the end", total > text.size / 4);
+        report("each unit of 32 bits has a position, and the end", total > text.size / 4);
         run_in_thread("lbk_breaks_utf16", do_unit_breaks);
         breaks = total;
         run_in_thread("lbk_feed_utf16", do_unit_feed);
-        told("lbk_feed_utf16 gives as many breaks as lbk_breaks_utf16", total == breaks);
+        report("lbk_feed_utf16 gives as many breaks as lbk_breaks_utf16", total == breaks);
     }
     run_in_thread("lbk_words", do_words);
-    told("lbk_words gives words", total > 0 || text.size == 0);
+    report("lbk_words gives words", total > 0 || text.size == 0);
     run_in_thread("lbk_cut", do_cuts);
-    told("lbk_cut gives parts", total > 0 || text.size == 0);
+    report("lbk_cut gives parts", total > 0 || text.size == 0);
 }
 
 int main(int count, char **word)
@@ -325,17 +325,17 @@ int main(int count, char **word)
         files[k] = load(word[3 + k]);
     used_idle = used_by(do_nothing);
     run_in_thread("lbk_read", do_read);
-    told("lbk_read takes the files", fault.cause == LBK_CAUSE_NONE);
+    report("lbk_read takes the files", fault.cause == LBK_CAUSE_NONE);
     run_in_thread("lbk_read_published", do_read_published);
-    told("lbk_read_published takes them too, or not", fault.cause == LBK_CAUSE_NONE
+    report("lbk_read_published takes them too, or not", fault.cause == LBK_CAUSE_NONE
         || fault.cause == LBK_CAUSE_NOT_PUBLISHED);
     stack_size = small;
     run_in_thread("lbk_check", do_check);
-    told("lbk_check holds of the table", total == 1);
+    report("lbk_check holds of the table", total == 1);
     run_in_thread("lbk_pack", do_pack);
-    told("a table is packed and unpacked", total == 1);
+    report("a table is packed and unpacked", total == 1);
     run_in_thread("names", do_names);
-    told("there are names", total > 38 + LBK_CODES / 8);
+    report("there are names", total > 38 + LBK_CODES / 8);
     for (int k = 7; k < count; k++) {
         text = load(word[k]);
         try_text();

@@ -101,9 +101,9 @@ int main(int words, char **word)
     }
     for (unsigned k = 0; k < THREADS; k++) {
         pthread_join(threads[k], NULL);
-        told("breaks in a thread", differ[k].breaks == 0);
-        told("a stream in a thread", differ[k].stream == 0);
-        told("words in a thread", differ[k].words == 0);
+        report("breaks in a thread", differ[k].breaks == 0);
+        report("a stream in a thread", differ[k].stream == 0);
+        report("words in a thread", differ[k].words == 0);
     }
     printf("%lu passed, %lu failed\n", passed, failed);
     return failed != 0;

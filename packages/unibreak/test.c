@@ -14,7 +14,7 @@ enum { MOST = 400 };
 
 static unsigned passed, failed;
 
-static void told(const char *what, int holds)
+static void report(const char *what, int holds)
 {
     if (holds) {
         passed++;
@@ -68,14 +68,14 @@ static void try_scalars(const utf32_t *code, size_t count, const char *wanted)
     }
     memset(wide, 9, sizeof wide);
     set_linebreaks_utf32(code, count, "en", wide);
-    told("the marks of a text", wanted == NULL || memcmp(wide, wanted, count) == 0);
-    told("no mark too many", wide[count] == 9);
+    report("the marks of a text", wanted == NULL || memcmp(wide, wanted, count) == 0);
+    report("no mark too many", wide[count] == 9);
     memset(marks, 9, sizeof marks);
     set_linebreaks_utf8(bytes, size, NULL, marks);
-    told("UTF-8 as UTF-32", agrees(marks, wide, byte_ends, count) && marks[size] == 9);
+    report("UTF-8 as UTF-32", agrees(marks, wide, byte_ends, count) && marks[size] == 9);
     memset(marks, 9, sizeof marks);
     set_linebreaks_utf16(units, length, "", marks);
-    told("UTF-16 as UTF-32", agrees(marks, wide, unit_ends, count) && marks[length] == 9);
+    report("UTF-16 as UTF-32", agrees(marks, wide, unit_ends, count) && marks[length] == 9);
 }
 
 static void try_marks(void)
@@ -98,8 +98,8 @@ static void try_marks(void)
     static const utf16_t ill[] = {'a', ' ', 0xD83D, ' ', 0xDE00};
     char marks[5];
     set_linebreaks_utf16(ill, 5, "", marks);
-    told("surrogates that stand alone", memcmp(marks, "\2\1\2\1\0", 5) == 0);
-    told("two scalars", is_line_breakable('a', 'b', "") == LINEBREAK_NOBREAK
+    report("surrogates that stand alone", memcmp(marks, "\2\1\2\1\0", 5) == 0);
+    report("two scalars", is_line_breakable('a', 'b', "") == LINEBREAK_NOBREAK
                             && is_line_breakable(0x4E00, 0x4E00, "") == LINEBREAK_ALLOWBREAK
                             && is_line_breakable('\n', 'b', "") == LINEBREAK_MUSTBREAK);
 }
@@ -108,8 +108,8 @@ static void try_no_table(void)
 {
     char marks[3];
     set_linebreaks_utf8((const utf8_t *)"a b", 3, "", marks);
-    told("no table", memcmp(marks, "\4\4\4", 3) == 0);
-    told("no table, two scalars", is_line_breakable('a', 'b', "") == LINEBREAK_INDETERMINATE);
+    report("no table", memcmp(marks, "\4\4\4", 3) == 0);
+    report("no table, two scalars", is_line_breakable('a', 'b', "") == LINEBREAK_INDETERMINATE);
 }
 
 int main(int count, char **word)
