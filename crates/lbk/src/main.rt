@@ -3,8 +3,8 @@
 
 mod hints;
 mod output_file;
+mod reporting;
 mod system_files;
-mod telling;
 mod waiting;
 mod watching;
 mod words;
@@ -14,12 +14,12 @@ use lbk_feed::Device;
 use lbk_feed::noted::{Input, Notes, Noting, Prompted};
 use lbk_files::FileStore;
 use output_file::{Barred, OutputFile};
+use reporting::report_refusal;
 use std::alloc::{AllocError, Global};
 use std::fs;
 use std::io::IsTerminal;
 use std::process::ExitCode;
 use system_files::{SystemFiles, SystemTexts};
-use telling::tell_refused;
 use waiting::Waiting;
 use watching::{Named, Watching};
 use words::{without_help_of_help, words_given};
@@ -34,10 +34,10 @@ fn run_and_tell(rt: &HostRuntime) -> Ending {
     let notes = Notes::new();
     let given = match words_given(rt) {
         Ok(given) => given,
-        Err(ending) => return told(rt, Caller::NoWords, ending, &notes),
+        Err(ending) => return report(rt, Caller::NoWords, ending, &notes),
     };
     let Ok(words) = slices_of(rt.alloc(), &given) else {
-        return told(rt, Caller::NoWords, out_of_memory(), &notes);
+        return report(rt, Caller::NoWords, out_of_memory(), &notes);
     };
     if words.is_empty() {
         let _ = eprintln!(rt; "lbk: {}", hints::SAMPLES);
@@ -74,7 +74,7 @@ fn run_on_devices<'x>(
         &mut reader,
         &mut writer,
     );
-    told(rt, texts.caller(), ending, notes)
+    report(rt, texts.caller(), ending, notes)
 }
 
 fn slices_of(alloc: Global, words: &[String]) -> Result<Vec<&str>, AllocError> {
@@ -87,7 +87,7 @@ pub fn out_of_memory() -> Ending {
 
 /// Prints how a run ended: help on standard output; usage, errors and hints on standard error. Returns that ending, or
 /// a refused one if the help could not be written.
-fn told(rt: &HostRuntime, caller: Caller<'_>, ending: Ending, notes: &Notes) -> Ending {
+fn report(rt: &HostRuntime, caller: Caller<'_>, ending: Ending, notes: &Notes) -> Ending {
     let ending = with_help_written(rt, ending, notes);
     match &ending {
         Ending::Done | Ending::Help { .. } | Ending::Reported => {}
@@ -99,7 +99,7 @@ fn told(rt: &HostRuntime, caller: Caller<'_>, ending: Ending, notes: &Notes) -> 
         Ending::Usage { text } => {
             let _ = eprint!(rt; "{text}");
         }
-        Ending::Refused(fault) => tell_refused(rt, caller, None, *fault, notes),
+        Ending::Refused(fault) => report_refusal(rt, caller, None, *fault, notes),
     }
     ending
 }

@@ -3,7 +3,7 @@
 ghost use Rattle.std.specs.Prelude.{None};
 
 use super::output_file::OutputFile;
-use super::telling;
+use super::reporting;
 use super::watching::{Named, named};
 use lbk_args::{Engine, Order};
 use lbk_cmd::{Caller, RunFault, Texts};
@@ -113,6 +113,6 @@ impl<'a> Texts<'a> for SystemTexts<'a> {
     }
 
     fn refuse(&mut self, name: &str, fault: RunFault) {
-        telling::tell_refused(self.rt, self.caller, Some(name), fault, self.notes);
+        reporting::report_refusal(self.rt, self.caller, Some(name), fault, self.notes);
     }
 }

@@ -6,7 +6,7 @@ use lbk_notation::ReplayFault;
 use std::io::ErrorKind;
 
 /// One line for a refused run, or for a refused text; none if nobody reads the output any more.
-pub fn tell_refused<'x>(
+pub fn report_refusal<'x>(
     rt: &HostRuntime,
     caller: Caller<'x>,
     text: Option<&'x str>,
