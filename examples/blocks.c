@@ -1,11 +1,11 @@
-/* Tries lbk_words: asks for the words of texts in blocks of all rooms and of random ones, and compares them with
- * those of the whole.
+/* Tests lbk_words: gets the words of texts in blocks of every size and of random sizes, and compares them with the
+ * words of the whole text.
  *
  *     blocks ROUNDS SEED
  *
- * Between two blocks all bytes before the state's place may turn into others, and from a word boundary on a text is
- * one of its own. Each text, block and state ends where memory ends that may be used, or begins where it begins, so
- * that a byte too far ends the program by a signal. The last line is `N passed, M failed`.
+ * Between two blocks the bytes before the state's offset may change, and from a word boundary on a text counts as a
+ * whole text. Each text, block and state lies at a guard page, so an access out of bounds ends the program by a
+ * signal. The last line is `N passed, M failed`.
  */
 #define _DEFAULT_SOURCE
 #include "harness.h"
@@ -26,7 +26,7 @@ static found words_of_whole(const char *text, size_t size, size_t start)
     return all;
 }
 
-/* Whether these are the words of `all` from one of them on, each moved by so many bytes. */
+/* Whether these are the words of `all` from one of them on, each moved by the same number of bytes. */
 static int are_those(const lbk_word *word, size_t count, const found *all, size_t from, size_t moved)
 {
     if (from + count > all->count)
@@ -37,8 +37,8 @@ static int are_those(const lbk_word *word, size_t count, const found *all, size_
     return 1;
 }
 
-/* Asks for the words in blocks of these rooms, and then of the last one, which is not 0, until none is left. If
- * `turns`, the bytes before the state turn into others after each block. Returns whether all held that has to. */
+/* Gets the words in blocks of these sizes, and then of the last size, which is not 0, until none is left. With
+ * `turns` the bytes before the state change after each block. Returns whether every condition held. */
 static int agrees(const char *made, size_t size, const size_t *rooms, size_t count, int turns, const found *all)
 {
     char *text = place(texts, size);
@@ -64,7 +64,7 @@ static int agrees(const char *made, size_t size, const size_t *rooms, size_t cou
         1) == 0;
 }
 
-/* From where a state stands on, the text is one of its own: its words are those that were left. */
+/* From the offset of a state on, the text counts as a whole text: its words are those that were left. */
 static int has_the_rest(const char *made, size_t size, size_t room, const found *all)
 {
     lbk_word_state state = {0};

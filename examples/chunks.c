@@ -1,6 +1,6 @@
-/* Tries lbk_chunks against its definition, as it reads, over the breaks and the words that the library gives: over
- * texts and random bytes, in both profiles, with random limits and rooms. With tables and states of random bytes
- * each chunk has to start at the end of the one before or earlier, and to end past it and within the text.
+/* Tests lbk_chunks: compares it with its definition, applied to the library's breaks and words, over texts and
+ * random bytes, in both profiles, with random limits and block sizes. With tables and states of random bytes each
+ * chunk must start at or before the end of the one before it, and end after that and within the text.
  *
  *     chunks ROUNDS SEED LINE_BREAK EAST_ASIAN CATEGORY EMOJI TEXT..
  *
@@ -14,7 +14,7 @@ enum { MOST_CHUNKS = 7, ROUNDS_WITH_A_TABLE = 500 };
 static lbk_table real;
 static fenced texts, blocks, states;
 
-/* A break that stands within no word, and how many words are before it. */
+/* A break outside words, and how many words are before it. */
 typedef struct cut {
     size_t at, words;
     uint8_t kind, rule;
@@ -52,7 +52,7 @@ static int fits(const lbk_limits *limits, cut start, cut end)
     return end.at - start.at <= limits->most && (limits->words == 0 || end.words - start.words <= limits->words);
 }
 
-/* Where a chunk ends: the place of a cut among all. Those from `first` on are ahead. */
+/* Where a chunk ends: the index of a cut. The cuts from `first` on are ahead. */
 static size_t end_of(const lbk_limits *limits, cuts of, cut start, size_t told, size_t first)
 {
     size_t fitting = first;
@@ -79,7 +79,7 @@ static cut start_behind(const lbk_limits *limits, cuts of, cut start, size_t end
     return at;
 }
 
-/* Whether a call's chunks are those of the definition, as far as they come. */
+/* Whether a call's chunks are the first ones of the definition. */
 static int has_its_chunks(const char *text, size_t size, uint8_t profile, lbk_limits limits)
 {
     cuts of = cuts_of(text, size, profile);
@@ -134,7 +134,7 @@ static void try_random_text(void)
         has_its_chunks(text, size, (uint8_t)below(2), random_limits()));
 }
 
-/* Limits that are out of range give no chunk. */
+/* With limits out of range there is no chunk. */
 static void try_bad_limits(void)
 {
     static const lbk_limits bad[] = {{0, 0, 0, 0}, {5, 0, 6, 0}, {5, 0, 0, 3}, {1, 0, 0, 1},
@@ -169,7 +169,7 @@ static void try_shown(void)
     }
 }
 
-/* Any table, limits and state: the call returns, and the chunks go through the text. */
+/* With any table, limits and state the call returns, and the chunks go through the text. */
 static void try_any_table(const lbk_table *any)
 {
     static char made[MOST_TEXT];

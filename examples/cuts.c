@@ -1,14 +1,14 @@
-/* Tries lbk_cut and lbk_cut_before at all places of random texts with ill-formed bytes, against what lbk_breaks says
- * of the whole text and of its parts, by tables in which line ends are others than usual, too.
+/* Tests lbk_cut and lbk_cut_before at each offset of random texts with ill-formed bytes: compares them with the
+ * breaks of the whole text and of its parts, also with tables that have unusual line ends.
  *
  *     cuts ROUNDS SEED LINE_BREAK EAST_ASIAN CATEGORY EMOJI
  *
- * A text ends where memory ends that may be read, or begins where it begins. The last line is `N passed, M failed`.
+ * A text lies at a guard page. The last line is `N passed, M failed`.
  */
 #define _DEFAULT_SOURCE
 #include "harness.h"
 
-/* In these LF, or what ill-formed bytes are read as, is a letter, a line end, or the first or second half of one. */
+/* In these files LF, or U+FFFD for ill-formed bytes, is a letter, a line end, or the first or second half of one. */
 static const char *const others[] = {
     "000A;AL\n000D;CR\n0061..0062;AL\n",
     "000A;CR\n000D;LF\nFFFD;BK\n",
@@ -24,7 +24,7 @@ typedef struct broken {
     lbk_break at[MOST_TEXT];
 } broken;
 
-/* Those from a byte on, in a profile that may say that the text goes on, with blocks of any room. */
+/* The breaks from a byte on, in a profile with or without LBK_GOES_ON, in blocks of any size. */
 static void break_all(const lbk_table *table, unsigned profile, const char *text, size_t from, size_t size, broken *all)
 {
     lbk_state state = {from, 0, (uint8_t)profile, 0};
@@ -63,8 +63,8 @@ static int joins(const lbk_table *table, unsigned profile, const char *text, siz
     return 1;
 }
 
-/* Whether both cuts stand where they do if other bytes stand before the four that precede them, and after the scalar
- * at their end. */
+/* Whether both cuts stay the same if the bytes up to four before them change, and those after the scalar at their
+ * end. */
 static int look_near(const lbk_table *table, const char *text, size_t size, size_t at)
 {
     char other[MOST_TEXT];
@@ -104,7 +104,7 @@ static void try_text(const lbk_table *table, unsigned profile, const char *text,
     }
 }
 
-/* Cut one after another, all parts together have the bytes of the text, and none is empty. */
+/* Successive cuts give parts that are not empty, and that together have the bytes of the text. */
 static void try_parts(const lbk_table *table, const char *text, size_t size)
 {
     size_t from = 0, to, parts = 0, step = 1 + below(20);
@@ -116,7 +116,7 @@ static void try_parts(const lbk_table *table, const char *text, size_t size)
     report("the parts are the text", from == size && parts <= size);
 }
 
-/* By a table of random bytes no cut is past the end, and none is where it should not be. */
+/* With a table of random bytes each cut is within the text, and not where none may be. */
 static void try_any_table(lbk_table *any, const char *text, size_t size)
 {
     size_t at = below(size + 2), end = at < size ? at : size;

@@ -1,6 +1,6 @@
-/* Tries the calls at their edges: null with length 0, rooms of 0 and 1, states that are spent, past the end or of no
- * profile, ill-formed and cut bytes, files with faults, and tables that are not whole. It needs no files, and writes
- * what did not hold. The last line is `N passed, M failed`.
+/* Tests the calls at their limits: null with length 0, blocks of 0 and 1 entries, states that have ended, that are
+ * past the end or have no known profile, ill-formed and truncated bytes, files with faults, and corrupt tables. It
+ * needs no files, and prints what failed. The last line is `N passed, M failed`.
  */
 #include <lbk.h>
 #include <stdint.h>
@@ -39,7 +39,7 @@ static int same(lbk_state a, lbk_state b)
     return a.at == b.at && a.row == b.row && a.profile == b.profile && a.ended == b.ended;
 }
 
-/* Whether the text has its breaks at just these bytes, in the order of `places`, which 0 ends. */
+/* Whether the text has its breaks at exactly these bytes, in the order of `places`, which ends with 0. */
 static int has_breaks(uint8_t profile, const char *text, size_t size, const size_t *places)
 {
     lbk_state state = {0};
@@ -69,7 +69,7 @@ static void try_nothing(void)
     report("an empty text that is not null", lbk_breaks(&table, &state, "", 0, block, 1) == 0);
 }
 
-/* A table is made of its files alone: nothing in it is left of what its memory held. */
+/* A table depends only on its files, not on what its memory held before. */
 static void try_memory(void)
 {
     static lbk_table used, clear;
@@ -146,7 +146,7 @@ static void try_profiles(void)
     report("a closing mark at the end", has_breaks(LBK_SECOND, "b \xC2\xBB\xCC\x81", 6, PLACES(6)));
 }
 
-/* Whether the end of a part after which the text goes on comes as this break, or not at all by rule 0. */
+/* Whether the end of a part after which the text goes on is this break, or no break (rule 0). */
 static int ends_part(const char *part, size_t size, uint8_t rule)
 {
     lbk_state state = {0, 0, LBK_SECOND + LBK_GOES_ON, 0};
@@ -184,7 +184,7 @@ static void try_parts(void)
         && one.rule == LBK_RULE_5);
 }
 
-/* Whether the segments of a text, taken with so much room, are those between its breaks. */
+/* Whether the segments of a text, in blocks of this size, are those between its breaks. */
 static int has_segments(const char *text, size_t size, uint8_t profile, size_t room)
 {
     lbk_state state = {.profile = profile};
@@ -251,7 +251,8 @@ static void try_segments(void)
     lbk_segment_state state = {.breaks = {.at = 2}, .start = 2}, old = state;
     report("segments without room: 0", lbk_segments(&table, &state, "a\nb", 3, NULL, 0) == 0
         && same(state.breaks, old.breaks) && state.start == 2);
-    report("a segment of a part", lbk_segments(&table, &state, "a\nb", 3, &one, 1) == 1 && one.start == 2 && one.end == 3
+    report("a segment of a part", lbk_segments(&table, &state, "a\nb", 3, &one, 1) == 1 && one.start == 2
+        && one.end == 3
         && one.rule == LBK_RULE_3);
     report("no segment is left", lbk_segments(&table, &state, "a\nb", 3, &one, 1) == 0 && state.start == 3);
     state = (lbk_segment_state){.breaks = {.profile = 4}};
@@ -261,7 +262,7 @@ static void try_segments(void)
         && state.breaks.at == 2);
 }
 
-/* The examples of the Unicode Standard, section 3.9, tables 3-8 to 3-11, and what they leave out. */
+/* The examples of the Unicode Standard, section 3.9, tables 3-8 to 3-11, and cases that they leave out. */
 static void try_ill_formed(void)
 {
     report("non-shortest forms", has_breaks(0, "\xC0\xAF\xE0\x80\xBF\xF0\x81\x82\x41", 9,
@@ -311,7 +312,7 @@ static void try_faults(void)
     }
 }
 
-/* Files at their greatest sizes, and past them. */
+/* Files of the largest sizes, and larger ones. */
 static void try_sizes(void)
 {
     enum { MOST_BYTES = 8388608, MOST_ROWS = 65536 };
@@ -387,13 +388,14 @@ static void try_rule_texts(void)
     for (unsigned rule = 0; rule <= UINT8_MAX; rule++) {
         const lbk_text text = lbk_rule_text((uint8_t)rule);
         const char *end = memchr(text.text, 0, sizeof text.text);
-        report("a rule that has a label says something", (text.text[0] != 0) == (lbk_label((uint8_t)rule).text[0] != 0));
+        report("a rule that has a label says something",
+            (text.text[0] != 0) == (lbk_label((uint8_t)rule).text[0] != 0));
         report("zeros follow what it says", end != NULL && text.text[sizeof text.text - 1] == 0);
     }
 }
 
-/* Whether the packed bytes are refused so. A table that is refused as damaged is corrupt then, and another one
- * unchanged. */
+/* Whether the packed bytes are refused with this cause. After LBK_CAUSE_DAMAGED the table is corrupt, after another
+ * cause unchanged. */
 static int is_refused(const char *packed, size_t size, uint32_t cause)
 {
     static lbk_table other;
@@ -418,7 +420,8 @@ static void try_packing(void)
     report("just enough room", lbk_pack(&table, again, size) == size && memcmp(packed, again, size) == 0
         && again[size] == 1);
     for (size_t cut = 0; cut < size; cut += cut < 16 ? 1 : 977)
-        report("packed bytes that were cut", is_refused(packed, cut, cut < 4 ? LBK_CAUSE_NOT_PACKED : LBK_CAUSE_DAMAGED));
+        report("packed bytes that were cut", is_refused(packed, cut, cut < 4 ? LBK_CAUSE_NOT_PACKED
+            : LBK_CAUSE_DAMAGED));
     for (size_t at = 0; at < size; at += at < 16 ? 1 : 977) {
         packed[at] ^= 1;
         report("packed bytes that were changed",
@@ -449,8 +452,8 @@ static void try_classes(void)
     }
 }
 
-/* Whether the text has just these words, each as its start and its end, in the order of `places`,
- * which two zeros end. */
+/* Whether the text has exactly these words, each as its start and its end, in the order of `places`, which ends with
+ * two zeros. */
 static int has_words(const char *text, size_t size, const size_t *places)
 {
     lbk_word_state state = {0};

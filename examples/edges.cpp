@@ -1,5 +1,5 @@
-/* Tries lbk.hpp at its edges: what its types are, what does not compile, ranges and iterators that are copied, kept
- * and compared, and tables from bytes, from a folder and from a mapped file. It writes what did not hold.
+/* Tests lbk.hpp at its limits: its types, what must not compile, ranges and iterators that are copied, kept and
+ * compared, and tables from bytes, from a folder and from a mapped file. It prints what failed.
  *
  *     edges FOLDER [DATABASE]     an empty folder, for files of its own, and one with the files that Unicode published
  *
@@ -25,7 +25,7 @@ static_assert(sizeof(iterator) <= 256, "an iterator is small");
 static_assert(std::is_trivially_copyable_v<iterator> && std::is_trivially_copyable_v<lbk::breaks>);
 static_assert(std::is_nothrow_move_constructible_v<lbk::table> && !std::is_copy_constructible_v<lbk::table>);
 
-// A range is made of a table and a text that stay, and of no temporary.
+// A range needs a table and a text that outlive it: no temporaries.
 static_assert(std::is_constructible_v<lbk::breaks, lbk::table &, std::string_view>);
 static_assert(std::is_constructible_v<lbk::breaks, const lbk_table &, const char *, lbk::profile>);
 static_assert(std::is_constructible_v<lbk::breaks, lbk_table &, std::string &>);
@@ -107,13 +107,14 @@ static void try_ranges(const lbk_table &table)
                                               && std::distance(twice.begin(), twice.end()) == 1000);
     report("the breaks of UTF-16", unit_places(lbk::breaks_utf16(table, u"a \xD83D\xDE00\nb \xD83D ")) == these{2, 5, 7,
         9});
-    report("the breaks of UTF-32", unit_places(lbk::breaks_utf32(table, U"a \x1F600\nb \x110000 ")) == these{2, 4, 6, 8});
+    report("the breaks of UTF-32", unit_places(lbk::breaks_utf32(table, U"a \x1F600\nb \x110000 ")) == these{2, 4, 6,
+        8});
     report("profiles differ in UTF-16", unit_places(lbk::breaks_utf16(table, u"a \u00AB b", lbk::profile::first))
         == these{2, 4, 5}
                                           && unit_places(lbk::breaks_utf16(table, u"a \u00AB b", lbk::profile::second))
                                           == these{2, 5});
-    report("the breaks of wide characters", unit_places(lbk::breaks_wide(table, L"a \x1F600\nb \x110000 ")) == these{2, 4,
-        6, 8});
+    report("the breaks of wide characters", unit_places(lbk::breaks_wide(table, L"a \x1F600\nb \x110000 ")) == these{2,
+        4, 6, 8});
     report("no break of no units", unit_places(lbk::breaks_utf16(table, u"")).empty()
         && unit_places(lbk::breaks_utf32(table, U"")).empty());
     report("labels", lbk::label(LBK_RULE_8A) == "8a" && lbk::label(255).empty());
@@ -146,12 +147,12 @@ static void try_positions(const lbk_table &table)
     for (lbk_break one : lbk::positions(table, text))
         shown += std::to_string(one.at) + (one.kind == LBK_NO ? '-' : '+') + lbk::label(one.rule) + ' ';
     report("the positions of a text", shown == "0-2 1-28 2-7 3+18 5+3 ");
-    report("the positions of UTF-16", unit_places(lbk::positions_utf16(table, u"ab \xD83D\xDE00\xD83D")) == these{0, 1, 2,
-        3, 5, 6});
-    report("the positions of UTF-32", unit_places(lbk::positions_utf32(table, U"ab \x1F600\x110000")) == these{0, 1, 2, 3,
-        4, 5});
-    report("the positions of wide characters", unit_places(lbk::positions_wide(table, L"ab \x1F600\x110000")) == these{0,
-        1, 2, 3, 4, 5});
+    report("the positions of UTF-16", unit_places(lbk::positions_utf16(table, u"ab \xD83D\xDE00\xD83D")) == these{0, 1,
+        2, 3, 5, 6});
+    report("the positions of UTF-32", unit_places(lbk::positions_utf32(table, U"ab \x1F600\x110000")) == these{0, 1, 2,
+        3, 4, 5});
+    report("the positions of wide characters", unit_places(lbk::positions_wide(table, L"ab \x1F600\x110000"))
+        == these{0, 1, 2, 3, 4, 5});
     for (int k = 0; k < 200; k++)
         text += "a b\n \xE4\xB8\x80";
     for (lbk::profile rules : {lbk::profile::first, lbk::profile::second}) {
@@ -187,13 +188,14 @@ static void try_cuts(const lbk_table &table)
     report("no cut of no text", lbk::cut(table, "", 0) == 0 && lbk::cut_before(table, {}, 3) == 0);
 }
 
-/// A file that was cut is refused, and taken where that is asked for.
+/// A truncated file is refused, and accepted on request.
 static void try_cut_files(const lbk::table &table)
 {
     lbk::error why;
     const std::string head = "# LineBreak-15.0.0.txt\n", cut = head + LINE_BREAKS, whole = cut + "# EOF\r\n\n";
     auto is_same = [&](const std::optional<lbk::table> &made) { return made && made->bytes() == table.bytes(); };
-    report("a whole file is taken", is_same(lbk::table::try_read(whole, "# emoji-data.txt\n#EOF", CATEGORIES, "", why)));
+    report("a whole file is taken", is_same(lbk::table::try_read(whole, "# emoji-data.txt\n#EOF", CATEGORIES, "",
+        why)));
     report("a file that was cut is refused", !lbk::table::try_read(cut, "", CATEGORIES, "", why)
         && why.fault.file == LBK_LINE_BREAK
                                                && why.fault.cause == LBK_CAUSE_CUT
@@ -245,7 +247,7 @@ static void try_words()
     report("places among words", before->start == 0 && place->start == 4 && before != place && ++before == place);
 }
 
-// Each cutting of a text in UTF-16 into two pieces, also between the halves of a pair.
+// Each cutting of a text in UTF-16 into two pieces, also inside a surrogate pair.
 static void try_unit_streams(const lbk_table &table)
 {
     const std::u16string text = u"a \xD83D\xDE00 b\xD83D \xDE00\n c \u00BB d";
@@ -311,7 +313,8 @@ static void try_bytes(const lbk::table &table)
     const std::string packed = table.pack();
     std::optional<lbk::table> unpacked = lbk::table::try_unpack(packed, why);
     report("a packed table", packed.size() < 200 && unpacked && !why && unpacked->bytes() == table.bytes());
-    report("a packed table that was cut", !lbk::table::try_unpack(packed.substr(1), why) && refused(why, reason::refused)
+    report("a packed table that was cut", !lbk::table::try_unpack(packed.substr(1), why)
+        && refused(why, reason::refused)
                                             && why.message() == "these bytes are not a packed table");
 
     report("a table in its place", lbk::table_in(table.bytes()) == &table.get());
@@ -332,7 +335,8 @@ static void try_files(const lbk::table &table, const std::string &folder)
                                        && why.fault.file == LBK_LINE_BREAK && why.system == ENOENT);
     report("a folder of too long a name", !lbk::table::try_load(std::string(5000, 'a'), why)
         && why.system == ENAMETOOLONG);
-    report("files are written", write(folder + "/LineBreak.txt", LINE_BREAKS) && write(folder + "/EastAsianWidth.txt", "")
+    report("files are written", write(folder + "/LineBreak.txt", LINE_BREAKS) && write(folder + "/EastAsianWidth.txt",
+        "")
                                   && write(folder + "/emoji-data.txt", "") && write(folder + "/table", table.bytes())
                                   && write(folder + "/short", table.bytes().substr(8)));
     report("a folder without one of them", !lbk::table::try_load(folder, why) && why.fault.file == LBK_CATEGORY);
@@ -346,7 +350,8 @@ static void try_files(const lbk::table &table, const std::string &folder)
     lbk::table moved = std::move(*mapped);
     mapped.reset();
     report("a mapped table that moved", places(moved, "ab cd") == these{3, 5});
-    report("a file that is too short", !lbk::table::try_map(folder + "/short", why) && refused(why, reason::not_a_table));
+    report("a file that is too short", !lbk::table::try_map(folder + "/short", why)
+        && refused(why, reason::not_a_table));
     report("no file", !lbk::table::try_map(folder + "/none", why) && refused(why, reason::unreadable)
         && why.system == ENOENT);
     report("a folder", !lbk::table::try_map(folder, why) && why);
@@ -356,7 +361,7 @@ static void try_files(const lbk::table &table, const std::string &folder)
                                     && refused(why, reason::not_a_table));
 }
 
-/// Where tables are looked for, and what is said where none is there.
+/// Where tables are searched, and the error if there is none.
 static void try_not_found(const std::string &folder)
 {
     std::string why, none = folder + "/none";
@@ -375,7 +380,7 @@ static void try_not_found(const std::string &folder)
     report("a user's folder is an absolute one", lbk::detail::folders().size() == 2);
 }
 
-/// A table that is found is read once.
+/// A table is read once.
 static void try_found(const std::string &folder)
 {
     std::string why;

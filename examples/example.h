@@ -11,7 +11,7 @@ typedef struct bytes {
     size_t size;
 } bytes;
 
-/* All that a stream has; at is NULL where it cannot be read. */
+/* All that a stream has; at is NULL if it cannot be read. */
 static inline bytes read_all(FILE *file)
 {
     bytes all = {NULL, 0};
@@ -29,7 +29,7 @@ static inline bytes read_all(FILE *file)
     return ferror(file) ? (bytes){NULL, 0} : all;
 }
 
-/* The bytes of the file of this name. Ends the program where it cannot be read. */
+/* The bytes of the file with this name. Ends the program if it cannot be read. */
 static inline bytes load(const char *name)
 {
     FILE *file = fopen(name, "rb");
@@ -45,7 +45,7 @@ static inline bytes load(const char *name)
     return all;
 }
 
-/* Fills a table from the four files of these names. Ends the program where they are refused. */
+/* Fills a table from the four files with these names. Ends the program if they are refused. */
 static inline void read_table(lbk_table *table, char **names)
 {
     bytes files[4];

@@ -2,14 +2,13 @@
  *
  *     fuzz ROUNDS SEED LINE_BREAK EAST_ASIAN CATEGORY EMOJI
  *
- * What a call is given ends where memory ends that may be read or written, or begins where it begins, so that a byte
- * too far ends the program by a signal, also where no checker has seen the library's code. The last line is `N
- * passed, M failed`.
+ * The arguments of a call lie at guard pages, so an access out of bounds ends the program by a signal, even if no
+ * sanitizer instrumented the library's code. The last line is `N passed, M failed`.
  */
 #define _DEFAULT_SOURCE
 #include "harness.h"
 
-/* Most texts are short, so that there are many; some are longer than any block that the library could hold of them. */
+/* Most texts are short, so that there are many; some are longer than any block that the library could hold. */
 enum { MOST_LONG_TEXT = 20000, MOST_LONG_ROOM = 3000, LONG_EACH = 50 };
 
 static uint64_t digest(const void *of, size_t size)
@@ -21,7 +20,7 @@ static uint64_t digest(const void *of, size_t size)
     return sum;
 }
 
-/* Whether each break has a kind and a rule that there are, and stands behind the one before, none before `from`. */
+/* Whether each break has a valid kind and rule, and is after the one before it, none before `from`. */
 static int are_in_order(const lbk_break *block, size_t count, size_t from, size_t to)
 {
     for (size_t k = 0; k < count; from = block[k++].at + 1)
@@ -32,7 +31,7 @@ static int are_in_order(const lbk_break *block, size_t count, size_t from, size_
     return 1;
 }
 
-/* Whether each position has a kind and a rule that there are, and stands behind the one before, none before `from`. */
+/* Whether each position has a valid kind and rule, and is after the one before it, none before `from`. */
 static int are_positions(const lbk_break *block, size_t count, size_t from, size_t to)
 {
     for (size_t k = 0; k < count; from = block[k++].at + 1)
@@ -42,7 +41,7 @@ static int are_positions(const lbk_break *block, size_t count, size_t from, size
     return 1;
 }
 
-/* The same of positions: they rise, and the state goes on with them. */
+/* The same for positions: they rise, and the state goes on with them. */
 static void go_over_positions(const lbk_table *table, const char *text, size_t size, lbk_state *state, fenced blocks,
                               lbk_state from, size_t most_room)
 {
@@ -62,8 +61,8 @@ static void go_over_positions(const lbk_table *table, const char *text, size_t s
     }
 }
 
-/* The segments from a state on: each within the text, and by a kind and a rule, if the state's start is before its
- * place. */
+/* The segments from a state on: each is within the text, with a valid kind and rule, if the state's start is before
+ * its offset. */
 static void go_over_segments(const lbk_table *table, const char *text, size_t size, fenced blocks, lbk_state from, size_t most_room)
 {
     const size_t start = below(4) == 0 ? below(from.at + 1) : from.at;
@@ -86,7 +85,7 @@ static void go_over_segments(const lbk_table *table, const char *text, size_t si
     }
 }
 
-/* The first place at which a stream may give a break yet. */
+/* The first offset at which a stream may still return a break. */
 static size_t next_place(const lbk_stream *stream)
 {
     return stream->held_code == 0 ? stream->at : stream->held_at;
@@ -117,7 +116,7 @@ static void go_over_pieces(const lbk_table *table, const char *text, size_t size
     }
 }
 
-/* Cuts at a random place: they stand on the right side of it, within the text. */
+/* Cuts at a random offset: they are on the right side of it, within the text. */
 static void go_over_cuts(const lbk_table *table, const char *text, size_t size)
 {
     size_t at = below(size + 2), next = lbk_cut(table, text, size, at), last = lbk_cut_before(table, text, size, at);
@@ -128,7 +127,7 @@ static void go_over_cuts(const lbk_table *table, const char *text, size_t size)
         && safe >= lbk_cut_before(table, text, size, size - 1));
 }
 
-/* Asks for breaks until none comes, with rooms of all sizes. What holds of any table, state and text holds here. */
+/* Gets breaks until there are none, in blocks of all sizes. What holds for any table, state and text holds here. */
 static void go_over(const lbk_table *table, fenced texts, fenced states, fenced blocks, lbk_state from, int is_long)
 {
     static char made[MOST_LONG_TEXT];
@@ -182,7 +181,7 @@ static lbk_state random_state(void)
     return state;
 }
 
-/* By the real table: blocks of any rooms have the breaks that one great block has. */
+/* With the real table: blocks of any sizes have the breaks of one large block. */
 static void compare_rooms(const lbk_table *table)
 {
     char text[MOST_TEXT];
@@ -206,8 +205,7 @@ static void compare_rooms(const lbk_table *table)
     report("blocks of any rooms have the same breaks", same);
 }
 
-/* Asks for the words of a text, from any byte on, with rooms of all sizes: they rise, and are those
- * that one great block has. */
+/* Gets the words of a text, from any byte on, in blocks of all sizes: they rise, and are those of one large block. */
 static void go_over_words(fenced texts, fenced states, fenced blocks)
 {
     char made[MOST_TEXT];
@@ -226,7 +224,8 @@ static void go_over_words(fenced texts, fenced states, fenced blocks)
         lbk_word_state old = *state;
         size_t count = lbk_words(state, text, size, block, room);
         report("no more words than there is room for", count <= room && got + count <= all);
-        report("the place of words does not go back", state->at >= old.at && (state->at <= size || state->at == old.at));
+        report("the place of words does not go back", state->at >= old.at
+            && (state->at <= size || state->at == old.at));
         for (size_t k = 0; k < count && got < all; k++, got++) {
             report("blocks of any rooms have the same words", block[k].start == whole[got].start
                 && block[k].end == whole[got].end);
@@ -241,7 +240,8 @@ static void go_over_words(fenced texts, fenced states, fenced blocks)
     report("the text of words is as it was", memcmp(text, made, size) == 0);
 }
 
-/* Files with a few bytes changed: a fault leaves the table, and names a file, a line of it and a cause. */
+/* Files with a few bytes changed: after a fault the table is unchanged, and the fault has a file, a line and a
+ * cause. */
 static void read_changed(lbk_table *table, const bytes *files)
 {
     bytes changed[4];

@@ -1,5 +1,5 @@
-/* What the programs that run the library on random bytes share: random numbers and texts, and memory with guard
- * pages. */
+/* What the programs that test the library with random bytes share: random numbers and texts, and memory between
+ * guard pages. */
 #ifndef HARNESS_H
 #define HARNESS_H
 
@@ -39,7 +39,7 @@ static inline void fill_random(void *to, size_t size)
         byte[k] = (unsigned char)below(256);
 }
 
-/* Pages that may be used, between two that may not. */
+/* Pages that may be used, between two guard pages. */
 typedef struct fenced {
     unsigned char *from, *to;
 } fenced;
@@ -53,13 +53,13 @@ static inline fenced fence(size_t size)
     return (fenced){all + page, all + page + whole};
 }
 
-/* A place of so many bytes in the pages, that ends where they end or begins where they begin. */
+/* Room for so many bytes at the end or the start of the pages. */
 static inline void *place(fenced pages, size_t size)
 {
     return below(2) == 0 ? (void *)pages.from : (void *)(pages.to - size);
 }
 
-/* Bytes that look like text more or less, `longest` at most: random ones, scalars of each size, and cut ones. */
+/* Up to `longest` bytes that resemble text: random ones, scalars of each size, and truncated ones. */
 static inline size_t random_text_of(char *to, size_t longest)
 {
     static const char *const parts[] = {"a", " ", "\n", "\r\n", "(", "\"", "\xC2\xAB", "\xC2\xBB", "\xCC\x81",

@@ -1,4 +1,4 @@
-// What the programs that try lbk.hpp share: how cases are told, small files, and a table of them.
+// What the programs that test lbk.hpp share: reports of cases, small files, and a table of them.
 #ifndef LBK_HARNESS_HPP
 #define LBK_HARNESS_HPP
 
@@ -41,7 +41,7 @@ static bool write(const std::string &name, std::string_view bytes)
 
 using these = std::vector<std::size_t>;
 
-/* Says how many cases there were. Returns the status of the program. */
+/* Prints the number of cases. Returns the status of the program. */
 static int report_all()
 {
     std::printf("%u passed, %u failed\n", passed, failed);

@@ -1,10 +1,9 @@
-/* Tries lbk_marks against lbk_breaks: over texts and random bytes, in both profiles, of whole texts and of parts,
- * with random numbers of words, the bits that are set have to be those of the breaks, and no others. With tables and
- * states of random bytes no bit may be set behind those that are told of.
+/* Tests lbk_marks: over texts, parts and random bytes, in both profiles, with random numbers of words, exactly the
+ * bits of lbk_breaks must be set. With tables and states of random bytes no bit after the covered ones may be set.
  *
  *     marks ROUNDS SEED LINE_BREAK EAST_ASIAN CATEGORY EMOJI TEXT..
  *
- * Each text, state and block of words ends where memory ends that may be used, or begins where it begins. The last
+ * Each text, state and block of words lies at a guard page. The last
  * line is `N passed, M failed`.
  */
 #define _DEFAULT_SOURCE
@@ -29,8 +28,8 @@ static int are_clear(const uint64_t *words, size_t count, size_t from)
     return 1;
 }
 
-/* Whether some words have a bit for each wanted place from `from` on, and no other. None is wanted where there are
- * no places. */
+/* Whether some words have a bit for each wanted offset from `from` on, and no other. If `places` is null, none is
+ * wanted. */
 static int agree(const uint64_t *words, size_t count, size_t from, const unsigned char *wanted, size_t size)
 {
     for (size_t i = 0; i < 64 * count; i++)
@@ -39,7 +38,7 @@ static int agree(const uint64_t *words, size_t count, size_t from, const unsigne
     return 1;
 }
 
-/* Where a text has breaks from a state on: a byte for each place, and one for the end. */
+/* Where a text has breaks from a state on: a byte for each offset, and one for the end. */
 static unsigned char *breaks_of(const char *text, size_t size, lbk_state state)
 {
     unsigned char *wanted = calloc(size + 1, 1);
@@ -55,7 +54,7 @@ static unsigned char *breaks_of(const char *text, size_t size, lbk_state state)
     return wanted;
 }
 
-/* Where the scalars of a text begin from a byte on, and where it ends: a byte for each place. */
+/* Where the scalars of a text begin from a byte on, and where it ends: a byte for each offset. */
 static unsigned char *scalars_of(const char *text, size_t size, size_t start)
 {
     unsigned char *begins = calloc(size + 1, 1);
@@ -73,7 +72,7 @@ static unsigned char *scalars_of(const char *text, size_t size, size_t start)
     return begins;
 }
 
-/* Where the first scalar begins at or behind a byte, or the end. */
+/* Where the first scalar at or after a byte begins, or the end. */
 static size_t next_scalar(const unsigned char *begins, size_t size, size_t at)
 {
     while (at < size && !begins[at])
@@ -81,7 +80,7 @@ static size_t next_scalar(const unsigned char *begins, size_t size, size_t at)
     return at;
 }
 
-/* Asks for the bits of a text from a state on, by words of these numbers or of random ones where it is 0. */
+/* Gets the bits of a text from a state on, this many words a call, or a random number if it is 0. */
 static int has_its_breaks(const char *text, size_t size, lbk_state start, size_t many)
 {
     unsigned char *wanted = breaks_of(text, size, start), *begins = scalars_of(text, size, start.at);
@@ -123,7 +122,7 @@ static void try_random_text(size_t longest)
         has_its_breaks(text, size, start, below(3) == 0 ? 1 + below(MOST_WORDS) : 0));
 }
 
-/* Any table and any state: the call returns, and no bit is set behind those that are told of. */
+/* With any table and state the call returns, and sets no bit after the covered ones. */
 static void try_any_table(const lbk_table *any)
 {
     static char made[MOST_LONG];
@@ -151,7 +150,7 @@ static void try_any_table(const lbk_table *any)
          told_of != 0 || (state->at == old.at && state->row == old.row && state->ended == old.ended));
 }
 
-/* A whole text by words of different numbers, and its parts. */
+/* A whole text by different numbers of words, and its parts. */
 static void try_file(const char *name)
 {
     static const size_t many[] = {1, 7, MOST_WORDS};

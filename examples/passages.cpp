@@ -1,4 +1,4 @@
-/* Tries passages and chunks of lbk.hpp, and what its errors say of files. It writes what did not hold.
+/* Tests passages and chunks of lbk.hpp, and its messages about files. It prints what failed.
  *
  *     passages FOLDER     an empty folder, for files of its own
  *
@@ -81,7 +81,7 @@ static void try_chunks(const lbk_table &table)
     report("no chunk of no text", lbk::chunks(table, "").begin() == lbk::chunks(table, "").end());
 }
 
-/// Limits that are out of range are named.
+/// The message names the limit that is out of range.
 static void try_limits(const lbk_table &table)
 {
     lbk::limits none, least, overlap;
@@ -107,7 +107,7 @@ static void try_limits(const lbk_table &table)
     }
 }
 
-/// What a file of another version, or of none, says of itself.
+/// What a file of another version, or of no version, claims.
 static void try_claims(const std::string &folder)
 {
     const std::string names[] = {"LineBreak.txt", "EastAsianWidth.txt", "DerivedGeneralCategory.txt", "emoji-data.txt"};

@@ -1,9 +1,9 @@
-/* Writes each position of a text with what decides there:
+/* Writes each position of a text with its kind and rule:
  *
  *     positions TABLE PROFILE [breaks] < TEXT
  *
- * TABLE is a file that save_table wrote, PROFILE 1 or 2. A line has the place in bytes, the kind (0 no, 1 may, 2
- * must) and the rule. With `breaks` it writes the breaks alone, by lbk_breaks.
+ * TABLE is a file that save_table wrote, PROFILE 1 or 2. A line has the byte offset, the kind (0 no, 1 may, 2 must)
+ * and the rule. With `breaks` it writes only the breaks, by lbk_breaks.
  */
 #include "example.h"
 

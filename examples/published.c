@@ -1,6 +1,6 @@
-/* Tries lbk_read_published: it takes the files that Unicode 15.0.0 published, with LF or CR LF at the ends of their
- * lines, and makes the table that lbk_read makes; it refuses each file with one other bit, a row less, a byte more
- * or less, or another file in its place, and leaves the table. The arguments name the four published files. The last
+/* Tests lbk_read_published: it accepts the files that Unicode 15.0.0 published, with LF or CR LF at line ends, and
+ * fills the table as lbk_read does. It refuses each file with one bit changed, a row less, a byte more or less, or
+ * another file in its place, and leaves the table unchanged. The arguments name the four published files. The last
  * line is `N passed, M failed`.
  */
 #include "example.h"
@@ -26,14 +26,14 @@ static lbk_fault read_published(const bytes *files)
         files[2].size, files[3].at, files[3].size);
 }
 
-/* The files have to be taken. */
+/* The files must be accepted. */
 static void taken(const char *what, int file, const bytes *files)
 {
     memset(&table, 0, sizeof table);
     report(what, file, read_published(files).cause == LBK_CAUSE_NONE && memcmp(&table, &wanted, sizeof table) == 0);
 }
 
-/* They have to be refused at this file. */
+/* They must be refused at this file. */
 static void refused(const char *what, int file, const bytes *files)
 {
     table = wanted;
@@ -42,7 +42,7 @@ static void refused(const char *what, int file, const bytes *files)
     report("the table stays", file, memcmp(&table, &wanted, sizeof table) == 0);
 }
 
-/* A file with CR LF in the place of each LF. */
+/* A file with CR LF for each LF. */
 static bytes with_carriage_returns(bytes file)
 {
     bytes other = {malloc(2 * file.size), 0};

@@ -1,9 +1,9 @@
-/* Keeps a table in a file, so that other processes map it and need not read the four files again.
+/* Saves a table in a file, so that other processes can map it instead of reading the four files again.
  *
  *     save_table TABLE LINE_BREAK EAST_ASIAN CATEGORY EMOJI     writes the table of the four files into the file TABLE
  *     save_table TABLE < TEXT                                   maps the file TABLE, and writes how many breaks the text has
  *
- * The second checks that the mapped bytes are a whole table of this version, and refuses them otherwise.
+ * The second checks that the mapped bytes are an intact table of this version.
  */
 #define _POSIX_C_SOURCE 200809L
 #include "example.h"
@@ -25,7 +25,7 @@ static int save(const char *name, char **files)
     return 0;
 }
 
-/* The table of a file, mapped; NULL where the file is no whole table of this version. */
+/* The mapped table of a file; NULL if the file is not an intact table of this version. */
 static const lbk_table *map_table(const char *name)
 {
     struct stat status;

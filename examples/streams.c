@@ -1,10 +1,10 @@
-/* Tries lbk_feed: cuts texts and parts of texts into pieces in all ways and at random, and compares the breaks with
- * those of the whole.
+/* Tests lbk_feed: cuts texts and parts of texts into pieces in all ways and at random, and compares the breaks with
+ * those of the whole text.
  *
  *     streams ROUNDS SEED LINE_BREAK EAST_ASIAN CATEGORY EMOJI
  *
- * Each piece, block and stream ends where memory ends that may be used, or begins where it begins, so that a byte
- * too far ends the program by a signal. The last line is `N passed, M failed`.
+ * Each piece, block and stream lies at a guard page, so an access out of bounds ends the program by a signal. The
+ * last line is `N passed, M failed`.
  */
 #define _DEFAULT_SOURCE
 #include "harness.h"
@@ -21,7 +21,7 @@ typedef struct found {
     lbk_break at[MOST_BREAKS];
 } found;
 
-/* The breaks of the part of a text that begins at a byte of it, by a profile with LBK_GOES_ON or without. */
+/* The breaks of the part of a text from a byte on, in a profile with or without LBK_GOES_ON. */
 static found breaks_of_whole(uint8_t profile, const char *text, size_t start, size_t size)
 {
     found all;
@@ -42,7 +42,7 @@ static int same_breaks(const found *a, const found *b)
     return 1;
 }
 
-/* Whether these bytes are one scalar: its least form, no surrogate, and none past 10FFFF. */
+/* Whether these bytes are one scalar: its shortest form, no surrogate, not above 10FFFF. */
 static int is_scalar(const unsigned char *byte, size_t size)
 {
     static const uint32_t least[] = {0, 0, 0x80, 0x800, 0x10000};
@@ -59,7 +59,7 @@ static int is_scalar(const unsigned char *byte, size_t size)
     return code >= least[size] && code <= 0x10FFFF && (code < 0xD800 || code > 0xDFFF);
 }
 
-/* Whether more bytes can make one scalar of these, or these are none. */
+/* Whether more bytes can complete these to one scalar, or there are none. */
 static int is_open(const uint8_t *front, size_t size)
 {
     static const char *const ends[] = {"\x80", "\xA0", "\x90", "\x80\x80", "\xA0\x80", "\x90\x80", "\x80\x80\x80",
@@ -75,8 +75,8 @@ static int is_open(const uint8_t *front, size_t size)
     return size == 0;
 }
 
-/* What a stream says of itself where the block was not full: all bytes are seen, and no more is open than a scalar
- * and one position. */
+/* What a stream shows if the block was not full: all bytes were taken, and at most one scalar and one position are
+ * open. */
 static int is_settled(const lbk_stream *stream, uint64_t seen, const found *got, const found *all)
 {
     if (stream->at + stream->cut_size != seen || stream->cut_size > 3 || !is_open(stream->cut, stream->cut_size))
@@ -89,7 +89,8 @@ static int is_settled(const lbk_stream *stream, uint64_t seen, const found *got,
     return 1;
 }
 
-/* Hands a piece to the library until it is taken, in blocks of at most this room. Says whether all held that has to. */
+/* Passes a piece to the library until it is taken, in blocks of at most this size. Returns whether every condition
+ * held. */
 static int feed(lbk_stream *at, const char *piece, size_t size, bool last, size_t room, found *got)
 {
     char *copy = place(pieces, size);
@@ -114,7 +115,7 @@ static int feed(lbk_stream *at, const char *piece, size_t size, bool last, size_
     return holds;
 }
 
-/* After the end nothing comes, and the stream stays. */
+/* After the end nothing is returned, and the stream is unchanged. */
 static int is_over(lbk_stream *stream)
 {
     lbk_break one;
@@ -123,8 +124,7 @@ static int is_over(lbk_stream *stream)
     return fed.count == 0 && fed.taken == 3 && stream->ended != 0 && stream->at == old.at;
 }
 
-/* The part of a text that begins at a byte of it, in pieces that end at these places, of which the last is the
- * text's size. */
+/* The part of a text from a byte on, in pieces that end at these offsets; the last offset is the text's size. */
 static int agrees(uint8_t profile,
     const char *text, size_t start, const size_t *ends, size_t count, size_t room, const found *all)
 {
@@ -144,8 +144,8 @@ static int agrees(uint8_t profile,
     return holds && same_breaks(&got, all) && is_over(&stream);
 }
 
-/* All ways to cut a text into up to four pieces, empty ones among them, and `last` set with the last or after it;
- * where the text ends there, and where it goes on. */
+/* All ways to cut a text into up to four pieces, also empty ones, with `last` set at the last piece or after it, if
+ * the text ends there and if it goes on. */
 static void try_all_cuttings(const char *text, size_t size)
 {
     for (unsigned profile = 0; profile < PROFILES; profile++) {
@@ -155,8 +155,8 @@ static void try_all_cuttings(const char *text, size_t size)
                 for (size_t k = j; k <= size; k++)
                     for (size_t room = 1; room <= 3; room++) {
                         size_t ends[] = {i, j, k, size, size};
-                        report("a text in four pieces", agrees((uint8_t)profile, text, 0, ends, 4 + (i + j + k) % 2, room,
-                            &all));
+                        report("a text in four pieces", agrees((uint8_t)profile, text, 0, ends, 4 + (i + j + k) % 2,
+                            room, &all));
                     }
     }
 }
@@ -190,7 +190,7 @@ static size_t random_ends(size_t start, size_t size, size_t *ends)
     return count;
 }
 
-/* A random part of a random text in random pieces; and the stream that a piece left, gone on with over another text. */
+/* A random part of a random text in random pieces; and the stream that a piece left, continued over another text. */
 static void try_random_cutting(void)
 {
     char text[2 * MOST_TEXT];
@@ -213,8 +213,8 @@ static void try_random_cutting(void)
     report("a stream gone on with over another text", holds && same_breaks(&got, &all));
 }
 
-/* A text in parts that begin where lbk_cut says, each a stream in random pieces: their breaks, one after another,
- * are the text's. */
+/* A text in parts that begin at cuts of lbk_cut, each a stream in random pieces: their breaks, joined, are those of
+ * the text. */
 static void try_parts(void)
 {
     char text[MOST_TEXT];
@@ -247,7 +247,7 @@ static void try_bytes(void)
     report("a text a byte at a time", agrees(profile, text, 0, ends, size + 1, 1, &all));
 }
 
-/* Any bytes as a stream and as a table: calls return, and say no more than they did. */
+/* With any bytes as stream and table the calls return, and report no more than they took. */
 static void try_any_bytes(const lbk_table *any)
 {
     char text[MOST_TEXT];

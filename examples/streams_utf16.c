@@ -1,10 +1,10 @@
-/* Tries lbk_feed_utf16: cuts texts in UTF-16 into pieces in all ways and at random, also between the halves of a
- * surrogate pair, and compares the breaks with those of lbk_breaks_utf16 over the whole.
+/* Tests lbk_feed_utf16: cuts texts in UTF-16 into pieces in all ways and at random, also inside surrogate pairs, and
+ * compares the breaks with those of lbk_breaks_utf16 over the whole text.
  *
  *     streams_utf16 ROUNDS SEED LINE_BREAK EAST_ASIAN CATEGORY EMOJI
  *
- * Each piece, block and stream ends where memory ends that may be used, or begins where it begins, so that a unit
- * too far ends the program by a signal. The last line is `N passed, M failed`.
+ * Each piece, block and stream lies at a guard page, so an access out of bounds ends the program by a signal. The
+ * last line is `N passed, M failed`.
  */
 #define _DEFAULT_SOURCE
 #include "harness.h"
@@ -20,7 +20,7 @@ typedef struct found {
     lbk_break at[MOST_BREAKS];
 } found;
 
-/* The breaks of the part of a text that begins at a unit of it. */
+/* The breaks of the part of a text from a unit on. */
 static found breaks_of_whole(uint8_t profile, const uint16_t *text, size_t start, size_t size)
 {
     found all;
@@ -41,15 +41,15 @@ static int same_breaks(const found *a, const found *b)
     return 1;
 }
 
-/* What a stream says of itself where the block was not full: all units are seen, and at most the first half of a
- * pair waits. */
+/* What a stream shows if the block was not full: all units were taken, and at most the first half of a pair waits. */
 static int is_settled(const lbk_stream *stream, uint64_t seen)
 {
     return stream->at + stream->cut_size == seen
         && (stream->cut_size == 0 || (stream->cut_size == 1 && (stream->cut[1] & 0xFC) == 0xD8));
 }
 
-/* Hands a piece to the library until it is taken, in blocks of at most this room. Says whether all held that has to. */
+/* Passes a piece to the library until it is taken, in blocks of at most this size. Returns whether every condition
+ * held. */
 static int feed(lbk_stream *at, const uint16_t *piece, size_t size, bool last, size_t room, found *got)
 {
     uint16_t *copy = place(pieces, size * sizeof *copy);
@@ -74,7 +74,7 @@ static int feed(lbk_stream *at, const uint16_t *piece, size_t size, bool last, s
     return holds;
 }
 
-/* After the end nothing comes, and the stream stays. */
+/* After the end nothing is returned, and the stream is unchanged. */
 static int is_over(lbk_stream *stream)
 {
     static const uint16_t more[] = {'a', ' ', 'b'};
@@ -84,8 +84,7 @@ static int is_over(lbk_stream *stream)
     return fed.count == 0 && fed.taken == 3 && stream->ended != 0 && memcmp(stream, &old, sizeof old) == 0;
 }
 
-/* The part of a text that begins at a unit of it, in pieces that end at these places, of which the last is the
- * text's size. */
+/* The part of a text from a unit on, in pieces that end at these offsets; the last offset is the text's size. */
 static int agrees(uint8_t profile, const uint16_t *text, size_t start, const size_t *ends, size_t count, size_t room)
 {
     found all = breaks_of_whole(profile, text, start, ends[count - 1]), got;
@@ -104,7 +103,7 @@ static int agrees(uint8_t profile, const uint16_t *text, size_t start, const siz
     return holds && same_breaks(&got, &all) && is_over(&stream);
 }
 
-/* Every cutting of a short text, by a bit for each place between two units, and `last` set with the last piece or
+/* Every cutting of a short text, by a bit for each offset between two units, with `last` set at the last piece or
  * after it. */
 static void try_all_cuttings(const uint16_t *text, size_t size)
 {
@@ -123,7 +122,7 @@ static void try_all_cuttings(const uint16_t *text, size_t size)
         }
 }
 
-/* Letters, spaces, line ends, quotation marks, and halves of pairs alone, together and the wrong way round. */
+/* Letters, spaces, line ends, quotation marks, and surrogates: lone, paired, and in the wrong order. */
 static void try_short_texts(void)
 {
     static const uint16_t parts[] = {'a', ' ', '\r', '\n', 0xBB, 0x301, 0xD83D, 0xDE00, 0xDBFF, 0xDC00};
@@ -162,7 +161,7 @@ static void try_random_cutting(void)
         1 + below(MOST_FEED_ROOM)));
 }
 
-/* Any bytes as a stream and as a table: calls return, and say no more than they did. */
+/* With any bytes as stream and table the calls return, and report no more than they took. */
 static void try_any_stream(const lbk_table *any)
 {
     uint16_t text[2 * MOST_TEXT];

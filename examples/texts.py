@@ -8,22 +8,22 @@ from lbk import Break, Kind, Rule
 
 table = lbk.Table.load(sys.argv[1])
 
-# A str has its places in code points, and an object of bytes in bytes.
+# Offsets count code points of a str, and bytes of a bytes object.
 assert list(table.segments("naïve text")) == ["naïve ", "text"]
 first, last = table.breaks("naïve text")
 assert (first, last) == (Break(6, Kind.MAY, Rule.LB18), Break(10, Kind.MUST, Rule.LB3))
 assert [found.at for found in table.breaks("naïve text".encode())] == [7, 11]
 
-# All breaks at once, as numbers in memory that numpy and others take as it is.
+# All breaks at once, as columns of numbers that numpy takes without copying.
 places, kinds, rules = table.break_columns("one two\nthree")
 assert places.tolist() == [4, 8, 13]
 assert kinds.count(Kind.MUST) == 2
 
-# Many texts in one call: those of the second stand at offsets[1] to offsets[2].
+# Many texts in one call: the breaks of the second are at the indices offsets[1] to offsets[2].
 offsets, places, kinds, rules = table.break_list_columns(["one two", "a b c"])
 assert places[offsets[1] : offsets[2]].tolist() == [2, 4, 5]
 
-# A text that comes in pieces of any size, as from a socket.
+# A text that arrives in pieces of any size, for example from a socket.
 stream = lbk.Stream(table)
 assert stream.feed("one t") == [Break(4, Kind.MAY, Rule.LB18)]
 assert stream.finish("wo") == [Break(7, Kind.MUST, Rule.LB3)]

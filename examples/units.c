@@ -1,14 +1,12 @@
-/* Tries lbk_breaks_utf16 and lbk_breaks_utf32 against lbk_breaks, and lbk_positions_utf16 and lbk_positions_utf32
- * against lbk_positions: what they give of random units has to be what is given of the UTF-8 text of the same
- * scalars, at the units that spell the scalars before it, in blocks of any room, also where the text goes on. Tries
- * lbk_cut_utf16 and lbk_cut_before_utf16 at all places of a text, against where a line must end in it, and the parts
- * against the whole.
+/* Tests the calls for UTF-16 and UTF-32: compares their breaks and positions of random units with those of the UTF-8
+ * text of the same scalars, in blocks of any size, also if the text goes on. Tests lbk_cut_utf16 and
+ * lbk_cut_before_utf16 at each offset of a text: compares them with its required breaks, and the parts with the
+ * whole text.
  *
  *     units ROUNDS SEED LINE_BREAK EAST_ASIAN CATEGORY EMOJI [TEXT]
  *
- * TEXT is a file of UTF-8, each line of which is tried too. Each text and block ends where memory ends that may be
- * used, or begins where it begins, so that a unit too far ends the program by a signal. The last line is `N passed,
- * M failed`.
+ * TEXT is a file of UTF-8; each of its lines is tested, too. Each text and block lies at a guard page, so an access
+ * out of bounds ends the program by a signal. The last line is `N passed, M failed`.
  */
 #define _DEFAULT_SOURCE
 #include "harness.h"
@@ -18,7 +16,7 @@ enum { MOST_UNITS = 4096, MOST_UNIT_ROOM = 9 };
 static lbk_table table;
 static fenced texts, blocks;
 
-/* A text of scalars, and where each begins in each encoding: the place after the last one is the text's length. */
+/* A text of scalars, and where each begins in each encoding; the offset after the last one is the text's length. */
 typedef struct scalars {
     size_t count;
     uint32_t code[MOST_UNITS];
@@ -27,7 +25,7 @@ typedef struct scalars {
     unsigned char utf8[4 * MOST_UNITS];
 } scalars;
 
-/* Adds a scalar, or U+FFFD where the code is none, that takes so many units. */
+/* Adds a scalar of this many units, or U+FFFD if the code is not a scalar. */
 static void add(scalars *to, uint32_t code, size_t units)
 {
     if (code > 0x10FFFF || (code >= 0xD800 && code <= 0xDFFF))
@@ -74,7 +72,7 @@ static void read_utf32(scalars *to, const uint32_t *units, size_t size)
         add(to, units[k], 1);
 }
 
-/* The next breaks, or where `all` is set positions, of a text of units of either size. */
+/* The next breaks, or positions if `all` is set, of a text in units of either size. */
 static size_t next(int all, int wide, lbk_state *state, const void *units, size_t size, lbk_break *block, size_t room)
 {
     if (all)
@@ -84,8 +82,8 @@ static size_t next(int all, int wide, lbk_state *state, const void *units, size_
                 : lbk_breaks_utf16(&table, state, units, size, block, room);
 }
 
-/* What is given of the scalars as UTF-8. Of positions of a part after which the text goes on: all but the last one
- * of a text, and then the break at the end, if there is one. */
+/* The breaks or positions of the scalars as UTF-8. Positions of a part after which the text goes on are all except
+ * the last one, and then the break at the end, if there is one. */
 static size_t wanted_of(int all, uint8_t profile, const scalars *read, lbk_break *to)
 {
     lbk_state state = {0}, over = {0};
@@ -103,7 +101,7 @@ static size_t wanted_of(int all, uint8_t profile, const scalars *read, lbk_break
     return count;
 }
 
-/* What is given of units, in blocks of this room, has to be what is given of the scalars that are read in them. */
+/* The results for units, in blocks of this size, must be those for the scalars that are read in them. */
 static int agrees(int all, int wide, uint8_t profile, const void *units, size_t size, size_t room, const scalars *read)
 {
     static lbk_break wanted[4 * MOST_UNITS];
@@ -201,8 +199,8 @@ static size_t part_of(int all, uint8_t profile, const uint16_t *units, size_t fr
     return (all ? lbk_positions_utf16 : lbk_breaks_utf16)(&table, &state, units, size, to, MOST_UNITS);
 }
 
-/* Whether what is given of both parts, one after the other, is what is given of the whole. The second begins with a
- * position that the first has. */
+/* Whether the results for both parts, joined, are those for the whole text. The second part begins with a position
+ * that the first has, too. */
 static int joins(int all, uint8_t profile, const uint16_t *units, size_t size, size_t cut)
 {
     static lbk_break whole[MOST_UNITS], first[MOST_UNITS], second[MOST_UNITS];
@@ -217,7 +215,7 @@ static int joins(int all, uint8_t profile, const uint16_t *units, size_t size, s
     return holds;
 }
 
-/* Both cuts at each place, by where a line must end in the whole text. */
+/* Both cuts at each offset, compared with the required breaks of the whole text. */
 static void try_cuts(uint8_t profile, const uint16_t *units, size_t size)
 {
     static lbk_break whole[MOST_UNITS];
@@ -267,7 +265,7 @@ static void try_utf32(const uint32_t *units, size_t size, size_t room)
     }
 }
 
-/* Short lists of units that a wrong reader takes for something else, in blocks of each room. */
+/* Short lists of units that a wrong decoder would misread, in blocks of each size. */
 static void try_short_units(void)
 {
     static const uint16_t parts[] = {'a', ' ', '\n', 0xD83D, 0xDE00, 0xD7FF, 0xE000, 0xDBFF, 0xDC00, 0xBB};
@@ -301,7 +299,7 @@ static void try_bytes(void)
     try_utf32(wide, size / 4, 1 + below(MOST_UNIT_ROOM));
 }
 
-/* Any table and any state: calls return, and the breaks, or where `all` is set the positions, are in order. */
+/* With any table and state the calls return, and the breaks, or positions if `all` is set, are in order. */
 static void try_any_table(const lbk_table *any, int all)
 {
     uint16_t units[MOST_TEXT + 2];
@@ -327,7 +325,7 @@ static void try_any_table(const lbk_table *any, int all)
     report(all ? "positions of any table and any state" : "breaks of any table and any state", holds);
 }
 
-/* Each line of a text in UTF-8, which is well-formed. */
+/* Each line of a well-formed text in UTF-8. */
 static void try_lines(bytes text)
 {
     static uint16_t units[MOST_UNITS];

@@ -1,9 +1,8 @@
-/* Writes each break of a text in UTF-16: its place in units of 16 bits, its kind (1 may, 2 must) and its rule.
+/* Writes each break of a text in UTF-16: its offset in units of 16 bits, its kind (1 may, 2 must) and its rule.
  *
  *     iconv -f UTF-8 -t UTF-16LE TEXT | utf16 LINE_BREAK EAST_ASIAN CATEGORY EMOJI
  *
- * The units are in the machine's order of bytes, which is UTF-16LE on x86-64. The names are those of the four
- * property files.
+ * The units are in the machine's byte order, which is UTF-16LE on x86-64. The arguments name the four property files.
  */
 #include "example.h"
 

@@ -2,7 +2,7 @@
  *
  *     words [ROOM] < TEXT
  *
- * ROOM is how many words are asked for at a time, 256 at most.
+ * ROOM is the number of words for each call, at most 256.
  */
 #include "example.h"
 
