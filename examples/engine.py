@@ -36,7 +36,8 @@ def after_edit(table, old, breaks, at, removed, inserted):
     its breaks, and how many of them had to be asked for.
 
     Nothing changes up to the last Must before the edit; not one right at it, since a CR may stand there. Behind the
-    edit, nothing changes from the first place on that was a Must and is one again. """
+    edit, nothing changes from the first place on that was a Must and is one again.
+    """
     new = old[:at] + inserted + old[at + removed :]
     by = len(inserted) - removed
     kept = next((k + 1 for k in reversed(range(len(breaks))) if breaks[k].at < at and breaks[k].kind is Kind.MUST), 0)

@@ -1,7 +1,8 @@
 """Looks at the arguments of the program before it is built: what it would say of them, and which files they name.
 
 It reads arguments as the program does, and knows what the program says of the mistakes that are made most; of others it
-says nothing, so that the program itself does. scripts/check first-look compares both. """
+says nothing, so that the program itself does. scripts/check first-look compares both.
+"""
 import os
 from typing import NamedTuple
 

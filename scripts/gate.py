@@ -2,7 +2,8 @@
 
 The kit's own `rt`, read as a module, names the entry of a crate: by the kit, HANDLES, the crate's line and sources, and
 the libraries below as they were built. So an entry is found only where `rt ci` would say again that the crate is kept.
-Whatever else is met, as in a kit that keeps its entries in another way, counts as none. """
+Whatever else is met, as in a kit that keeps its entries in another way, counts as none.
+"""
 import contextlib
 import hashlib
 import importlib.machinery

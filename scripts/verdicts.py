@@ -10,7 +10,8 @@ crates/NAME/out/rlib for another library. Its lines:
 
 The sum of a crate's sources is that of its line in crates.txt, without a comment, and of what `sha256sum` writes of its
 files, sorted by name; the sum of a folder is that of what it writes of its files. A verdict fits where all of these are
-as it says. Times of files count for nothing. """
+as it says. Times of files count for nothing.
+"""
 import hashlib
 import os
 import re
