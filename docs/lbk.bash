@@ -1,4 +1,4 @@
-# Completes the words of lbk in bash. scripts/completion makes it of the program's help.
+# Completes the words of lbk in bash. scripts/completion makes it from the program's help.
 _lbk() {
     local word=${COMP_WORDS[COMP_CWORD]} before=${COMP_WORDS[COMP_CWORD - 1]} options=
     COMPREPLY=()

@@ -1,7 +1,7 @@
-"""Looks at the arguments of the program before it is built: what it would say of them, and which files they name.
+"""Reads the program's arguments before it is built: the messages for mistakes, and the files that they name.
 
-It reads arguments as the program does, and knows what the program says of the mistakes that are made most; of others it
-says nothing, so that the program itself does. scripts/check first-look compares both.
+It reads arguments as the program does, and has the program's messages for the most frequent mistakes; the program
+itself reports the others. scripts/check first-look compares both.
 """
 import os
 from typing import NamedTuple
@@ -36,7 +36,7 @@ Debian's package unicode-data installs them: --ucd /usr/share/unicode"""
 
 
 class Told(Exception):
-    """The program would write this, to standard output where the status is 0, and end so."""
+    """The program would write this, to standard output if the status is 0, and end with this status."""
 
     def __init__(self, status, text):
         super().__init__(text)
@@ -44,11 +44,11 @@ class Told(Exception):
 
 
 class Unsure(Exception):
-    """The program has to say what is wrong."""
+    """Only the program can say what is wrong."""
 
 
 class Order(NamedTuple):
-    """The subcommand, the values of the options by their names, and the operands; no subcommand stands for no
+    """The subcommand, the values of the options by their names, and the operands; an empty subcommand means no
     arguments."""
 
     task: str

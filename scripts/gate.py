@@ -1,8 +1,9 @@
-"""What `rt ci` proved of a program, by what it keeps beside the kit: for each crate the sums of the files that it made.
+"""What `rt ci` proved of a program, by the results that it keeps next to the kit: for each crate the digests of its
+files.
 
-The kit's own `rt`, read as a module, names the entry of a crate: by the kit, HANDLES, the crate's line and sources, and
-the libraries below as they were built. So an entry is found only where `rt ci` would say again that the crate is kept.
-Whatever else is met, as in a kit that keeps its entries in another way, counts as none.
+The kit's own `rt`, imported as a module, computes the name of a crate's entry from the kit, HANDLES, the crate's line
+and sources, and its dependencies as built. So an entry is found only if `rt ci` itself would accept it. Anything else,
+such as a kit with another format, counts as no entry.
 """
 import contextlib
 import hashlib
@@ -17,7 +18,7 @@ from types import SimpleNamespace
 
 
 def proved(top, name):
-    """The name of the entry of a program as its sources are now, and the SHA-256 of the program; or None."""
+    """The name of the entry for a program's present sources, and the SHA-256 digest of the program; or None."""
     try:
         with contextlib.redirect_stderr(io.StringIO()):
             return find(read_rt(), os.path.realpath(top), name)

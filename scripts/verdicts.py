@@ -1,7 +1,7 @@
 """What was proved: a verdict names the sources, the kit and the file that was made, each by its SHA-256.
 
-A verdict stands beside that file: `verdict` in crates/NAME/out for a program or a static library, in
-crates/NAME/out/rlib for another library. Its lines:
+A verdict is next to that file: `verdict` in crates/NAME/out for a program or a static library, in crates/NAME/out/rlib
+for another library. Its lines:
 
     kit rattle-kit-13f logic dac8208d650f15bf      what `rt version` prints
     proof logic=proved functions=25 ..             what `rt` said, where it said something
@@ -9,8 +9,8 @@ crates/NAME/out/rlib for another library. Its lines:
     sources SHA-256 lbk_values                     src/, specs/ and proofs/ of each crate below, lowest first, and of the crate
 
 The sum of a crate's sources is that of its line in crates.txt, without a comment, and of what `sha256sum` writes of its
-files, sorted by name; the sum of a folder is that of what it writes of its files. A verdict fits where all of these are
-as it says. Times of files count for nothing.
+files, sorted by name; the sum of a folder is that of what it writes of its files. A verdict is valid if all of these
+are as it says. File times do not matter.
 """
 import hashlib
 import os

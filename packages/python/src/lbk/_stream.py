@@ -21,6 +21,7 @@ class Stream:
     A stream keeps no earlier piece. Copy or pickle it to come back to an offset. Only one thread
     may feed it at a time.
 
+
     """
 
     __slots__ = ("_table", "_state", "_is_str", "_ended")
@@ -39,6 +40,7 @@ class Stream:
         quotation mark may wait for more.
 
         Raises TypeError if some pieces are `str` and others bytes, and ValueError after the end.
+
 
         """
         return self._take(piece, False)
