@@ -1,5 +1,5 @@
-/* An older library beside this one, for peers.c: its header is included here alone, and bench/run gives its calls
- * other names. */
+/* An older library, to compare with this one in peers.c: only this file includes its header, and bench/run renames
+ * its calls. */
 #include <lbk.h>
 #include <stddef.h>
 

@@ -1,4 +1,4 @@
-/* This library beside others that a program of C can link: ICU, libunibreak, and by a shim xi-unicode and
+/* Compares this library with others that a C program can link: ICU, libunibreak, and through a shim xi-unicode and
  * unicode-linebreak.
  *
  *     peers speed FILES.. TEXT..   millions of bytes a second of processor time, over the first million bytes of each text
@@ -31,7 +31,7 @@ int older_read(const char *const *at, const size_t *size);
 size_t older_count(uint8_t profile, const char *text, size_t size, size_t *total);
 #endif
 
-/* A text, in UTF-8 and UTF-16, and the pieces that it is cut into, each given to a call of its own. */
+/* A text, in UTF-8 and UTF-16, and the pieces that it is cut into, each for a separate call. */
 typedef struct cut_text {
     const char *text;
     const UChar *wide;

@@ -1,5 +1,5 @@
-/* The breaks of one text in UTF-8, UTF-16 and UTF-32, beside ICU's line iterator and libunibreak over the same units
- * of 16 bits.
+/* The breaks of one text in UTF-8, UTF-16 and UTF-32, compared with ICU's line iterator and libunibreak over the
+ * same units of 16 bits.
  *
  *     units FILES.. TEXT..
  *

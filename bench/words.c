@@ -1,5 +1,5 @@
-/* How fast lbk_words finds the words of a text, beside unicode-segmentation's `unicode_words` (shim/), ICU's word
- * iterator and, where OLDER is defined, an older lbk_words.
+/* How fast lbk_words finds the words of a text, compared with unicode-segmentation's `unicode_words` (shim/), ICU's
+ * word iterator and, where OLDER is defined, an older lbk_words.
  *
  *     words TEXT..
  *

@@ -35,7 +35,7 @@ DEFINED = (TOP / "crates/lbk_ucd/specs/Names.antt").read_text(encoding="utf-8")
 VALUES = [re.findall(r'\(codes "(\w+)"', part) for part in re.findall(r"^\w+_names =$(.*?)\[\]$", DEFINED,
     re.DOTALL | re.MULTILINE)]
 WITH_DEFAULTS = (0, 1)
-# The codes of which no row of `DECIDES` says anything.
+# The codes without a row in `DECIDES`.
 FREE = [code for code in range(0x80, 0x110000) if code not in (0xE31, 0x1F3FB, 0x1FAFF)]
 # The letters of names, by how many bytes each has.
 LETTERS = ("n", "é", "の", "😀")
@@ -97,7 +97,7 @@ class Drawn:
 
 
 def files(drawn):
-    """A file in whose last row what is shown is decided."""
+    """A file whose last row decides the result."""
     k = drawn.chance.randrange(4)
     front, last, *_ = DECIDES[k]
     size = drawn.size_of_file(len(front) + len(last) + 2)
@@ -199,7 +199,7 @@ def ranges(drawn):
 
 
 def pieces(drawn, sizes=None):
-    """Paragraphs of some numbers of pieces between word boundaries, none of which is a word, in one segment."""
+    """Paragraphs with some numbers of pieces between word boundaries, none of them a word, in one segment."""
     sizes = sizes or drawn.sizes_together(LIMIT - 1)
     text = b"".join(b"!" * size + b"\n" for size in sizes)
     drawn.run("numbers of pieces", sizes, drawn.words("segment", *GREATEST), text, 0,
@@ -237,7 +237,7 @@ def texts(drawn):
 
 
 def named(drawn, size):
-    """A path of so many bytes whose last part is a name, of letters of one length."""
+    """A path of so many bytes; its last part is a name, of letters of one length."""
     dots = (size - min(size, drawn.size(254))) // 2
     letter = drawn.chance.choice(LETTERS)
     letters, rest = divmod(size - 2 * dots, len(letter.encode()))

@@ -15,7 +15,7 @@ SOURCES = {
     "C++": "include/lbk.hpp",
     "JavaScript": "packages/javascript/found.js",
 }
-# What stands in a source for a folder of the user.
+# How a source spells a folder of the user.
 SIGNS = {"$XDG_DATA_HOME/unicode": "XDG_DATA_HOME", "~/.local/share/unicode": '.local/share"'}
 ADVICE = (
     "found no files of Unicode 15.0.0; install the package unicode-data (Debian 12), unpack UCD.zip from "

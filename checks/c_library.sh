@@ -27,7 +27,7 @@ report() {
     fi
 }
 
-# tried WHAT WORD..: runs a command, which has to end with status 0. Its last lines are shown where it does not.
+# tried WHAT WORD..: runs a command, which must end with status 0. If not, its last lines are shown.
 tried() {
     local what=$1
     shift
@@ -167,7 +167,7 @@ try_words() {
     done
 }
 
-# count WHAT PROGRAM WORD..: runs a program whose last line counts.
+# count WHAT PROGRAM WORD..: runs a program whose last line has counts.
 count() {
     local what=$1
     shift

@@ -80,7 +80,8 @@ BOUNDS = [
     ("letters of three bytes", "lbk_cut_before_utf16", 4),
     ("letters of three bytes", "lbk_marks-1", 0.1),
     ("letters of three bytes", "lbk_feed_utf16", 0.4),
-    # Without the loop of steps 0.033 was left, and of `lbk_feed` 0.029; with it 0.056 was the least, beside other load.
+    # Without the loop of steps it was 0.033, and `lbk_feed` 0.029; with it 0.056 at least, with other load on the
+    # machine.
     (HELD, "lbk_breaks-2", 0.045),
     (HELD, "lbk_feed", 0.17),
     # Chunks of at most 500 bytes, and with an overlap of 100.

@@ -76,7 +76,7 @@ def objects(lines):
 
 
 def in_packets(place, words, text, rng):
-    """What the program writes of a text that comes in pieces of these many bytes."""
+    """The program's output for a text in pieces of these sizes."""
     ours, theirs = socket.socketpair(socket.AF_UNIX, socket.SOCK_SEQPACKET)
     with ours, theirs:
         while text:
@@ -89,7 +89,7 @@ def in_packets(place, words, text, rng):
 
 
 def chunk_lines(place):
-    """Each text is cut whole, in pieces as they come, and in ranges of its bytes."""
+    """Each text is cut whole, in pieces, and in ranges of its bytes."""
     rng = random.Random(17)
     for _ in range(TEXTS):
         text = "".join(rng.choices(PARTS, k=rng.randint(0, 40))).encode()

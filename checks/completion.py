@@ -7,7 +7,7 @@ from pathlib import Path
 from checks.harness import TOP, has
 
 FILE = TOP / "docs/lbk.bash"
-# Words, of which the last is completed, and what comes.
+# Words, the last of which is completed, and the completions.
 ROWS = [
     ("", "mark show segment chunk replay help --help --version"),
     ("s", "show segment"),

@@ -9,7 +9,7 @@ import statistics
 import time
 from typing import NamedTuple
 
-# Line ends, what lies beside them, and ill-formed bytes.
+# Line ends, their neighbours, and ill-formed bytes.
 ENDS = [end.encode() for end in ("\n", "\r\n", "\r", "\x85", "\u2028", "\u2029", "\v", "\f", "\n\n", "\r\r\n", "\n\r")]
 ODD = [b"", b"", b" ", b"\xff", b"\xe4\xb8", b"\xf0\x9f\x98", b"\x80\x80", b"\xed\xa0\x80", b"\xc0\xaf",
     "\u200d".encode(), b"\0"]
@@ -61,7 +61,7 @@ class Maker:
 
 
 def make_corpus(folder, sources, size, blocksize, long):
-    """Three texts, of which the second has long paragraphs, and a fourth that is broken by both tables."""
+    """Three texts, the second with long paragraphs, and a fourth that both tables break."""
     folder.mkdir()
     texts = (("one.txt", 0.4, 0), ("two.txt", 0.3, long), ("three.txt", 0.2, 0), ("four.txt", 0.1, long // 8))
     for name, share, paragraph in texts:
@@ -105,7 +105,7 @@ class Report:
         """Prints the middle run of each way, and the speeds of the slowest and the fastest."""
         print("\n| Way | MB/s | slowest, fastest | MB/s of processor time | MB a worker | load |\n|---|---|---|---|---|---|")
         for name, runs in self.runs.items():
-            # (a copy, since `compare` goes by the order of the turns)
+            # (a copy, since `compare` depends on the order of the turns)
             ordered = sorted(runs)
             one = ordered[len(ordered) // 2]
             spent, ends = self.size / one.spent / 1e6, f"{self.speed(ordered[-1]):.0f}, {self.speed(ordered[0]):.0f}"

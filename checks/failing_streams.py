@@ -36,7 +36,7 @@ HAS_FULL = os.access("/dev/full", os.W_OK)
 
 
 class Runs:
-    """The program in a folder with what it is run over, and the files that it is run with."""
+    """The program in a folder with its texts and its property files."""
 
     def __init__(self, tally, room):
         self.tally, self.room = tally, Path(room)
@@ -143,7 +143,7 @@ def not_ready_input(runs, words, given):
 
 
 def bounded(words, **streams):
-    """How a run ended, or that it waits for what does not come."""
+    """How a run ended, or that it still waits."""
     try:
         ran = subprocess.run(words, check=False, timeout=SECONDS, **streams)
     except subprocess.TimeoutExpired:

@@ -63,7 +63,7 @@ def seconds_taken():
 
 
 class Clone:
-    """The files of the repository that ./lbk goes by, without anything built, and a stand-in for `rt`."""
+    """The files of the repository that ./lbk needs, with nothing built, and a stand-in for `rt`."""
 
     def __init__(self, room):
         self.top, self.bin, self.room = room / "clone", room / "bin", room
@@ -92,7 +92,7 @@ class Clone:
 
 
 def fill(place):
-    """Files of which no program is needed to see that they can be opened."""
+    """Unreadable files, which are reported without the program."""
     (place / "folder").mkdir(parents=True)
     for name in "LECM":
         (place / name).write_bytes(b"# no row\n")

@@ -59,7 +59,7 @@ class CannotRun(Exception):
 
 
 def shown(value):
-    """A value as it stands in a message: of long bytes only both ends."""
+    """A value as a message shows it: only both ends of long bytes."""
     if isinstance(value, bytes) and len(value) > 200:
         value = value[:100] + b" .. " + value[-100:]
     return repr(value)

@@ -54,7 +54,7 @@ def header_type(name):
 
 
 def numbers():
-    """Pairs of a name of the header and an expression: what specs/ say that it is."""
+    """Pairs of a name of the header and its value in specs/, as an expression."""
     for function, (file, named) in NUMBERS.items():
         found = re.findall(rf"^{function} (\w+) = ([\d *+]+)$", (TOP / "crates" / file).read_text(), re.M)
         for name, number in found:
@@ -62,7 +62,7 @@ def numbers():
 
 
 def field(name, kind, structs):
-    """The C declarations of a field, in which a struct that the header has no type for stands field by field."""
+    """The C declarations of a field; a struct without a type in the header is declared field by field."""
     lengths = ""
     while array := re.fullmatch(r"\[(.+); (\w+)\]", kind):
         kind, lengths = array[1], f"{lengths}[{array[2]}]"

@@ -126,7 +126,7 @@ def without_rows(contents):
 
 
 def folders(runs, folder):
-    """Folders one file of which is not the published one, or has other line ends."""
+    """Folders with one file that is not the published one, or has other line ends."""
     here = runs.room / "ucd"
     mark = lambda *more: runs.run(b"ab cd", "mark", "--ucd", here, *more)
     marked = runs.run(b"ab cd", "mark", "--ucd", folder).out
@@ -166,8 +166,8 @@ def one_file_less(runs, folder, here, mark, marked):
 
 
 def cut_files(runs, words, show):
-    """A file that an option names, and that was cut, is read with a warning. One of another first line may end as it
-    likes."""
+    """A truncated file that an option names is read with a warning. A file with another first line may have any last
+    line."""
     own = runs.room / "cut.txt"
     for k, option in enumerate(words[::2]):
         contents = Path(words[2 * k + 1]).read_bytes()

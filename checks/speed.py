@@ -102,7 +102,7 @@ def subcommands(tally, of_all):
 
 
 def written(words, text, into_pipe):
-    """The processor time of a run over a text, of which the output goes into a file or into a pipe that another program
+    """The processor time of a run over a text, with its output into a file or into a pipe that another program
     reads."""
     with tempfile.TemporaryFile() as given, tempfile.TemporaryFile() as kept:
         given.write(text)

@@ -160,7 +160,7 @@ def try_gate(tally, here):
 
 
 def try_kept_by_gate(tally, here, room):
-    """The program after a bare `rt ci`, by what that keeps beside the kit."""
+    """The program after a bare `rt ci`, by the results that it keeps next to the kit."""
     verdict = here.program.with_name("verdict")
     status, out, err = here.run("rt", "ci")
     if not tally.tell("the small repository passes rt ci", None if status == 0 else out + err):
@@ -202,7 +202,7 @@ def copied_kit(room, entry):
 
 
 def try_kits(tally, here, rt, verdict):
-    """A copy of the kit, whose kept work counts as the kit's does, and copies that differ."""
+    """A copy of the kit, with results that count like the kit's, and copies that differ."""
     here.path, path = f"{rt.parent}:{here.path}", here.path
     store, text = rt.parents[2] / "rattle-kept", rt.read_bytes()
     made = next(store.glob("proof-lbk-*")) / "made.json"

@@ -55,7 +55,7 @@ class Rules:
         self.pictographic = members_of(f"{folder}/emoji/emoji-data.txt", "Extended_Pictographic")
 
     def is_boundary(self, codes, at):
-        """Whether a boundary stands before codes[at], by the rules in their order (UAX #29, section 4.1.1)."""
+        """Whether a boundary is before codes[at], by the rules in their order (UAX #29, section 4.1.1)."""
         if at == 0 or at == len(codes):
             return True  # WB1, WB2
         last, value = self.value(codes[at - 1]), self.value(codes[at])

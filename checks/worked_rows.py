@@ -117,7 +117,7 @@ CUT = [
         )
         for sizes in ([1], [2], [])
     ],
-    # After a character that follows a passage, after a passage by itself, and after a line of a test file.
+    # After the character that follows a passage, after a passage alone, and after a line of a test file.
     ("show", b"a\nb", [], True, "× 0061 × 000A !\t# 2 6 5\n", IN_FAULT),
     ("show", b"a\n", [], True, "", IN_FAULT),
     ("chunk --most 2", b"a b\nc", [], True, "C 0 2 1 May 18\n", IN_FAULT),
@@ -285,7 +285,7 @@ def full_outputs(place):
                 stderr=subprocess.PIPE,
                 cwd=place.folder,
                 check=False,
-                # (the signal that comes with a file that is full is not to end the run)
+                # (the signal for a full file must not end the run)
                 restore_signals=False,
                 preexec_fn=lambda: resource.setrlimit(resource.RLIMIT_FSIZE, (5, resource.RLIM_INFINITY)),
             )

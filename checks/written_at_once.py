@@ -52,7 +52,7 @@ OF_A_RANGE = {
 
 
 def lines_of(out, count, seen):
-    """Waits until `count` more lines stand in what the program wrote, and returns whether they do."""
+    """Waits until the program wrote `count` more lines, and returns whether it did."""
     while count > 0:
         ready, _, _ = select.select([out], [], [], WAIT)
         if not ready:

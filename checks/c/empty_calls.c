@@ -1,5 +1,4 @@
-/* Ends the program that it is loaded before (LD_PRELOAD) with status 99 where it reads into no room or writes no
- * bytes. */
+/* Preloaded (LD_PRELOAD), ends the program with status 99 if a read has an empty buffer or a write has no bytes. */
 #define _GNU_SOURCE
 #include <dlfcn.h>
 #include <sys/types.h>

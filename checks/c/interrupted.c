@@ -1,4 +1,4 @@
-/* Interrupts one call of the program that it is loaded before (LD_PRELOAD): the read or the write, as INTERRUPT
+/* Preloaded (LD_PRELOAD), interrupts one call of the program: the read or the write, as INTERRUPT
  * says, with the number INTERRUPT_CALL, counted from 1. The call after it is made as ever. */
 #define _GNU_SOURCE
 #include <dlfcn.h>

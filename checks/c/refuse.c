@@ -1,4 +1,4 @@
-/* Refuses allocations of the program that it is loaded before (LD_PRELOAD).
+/* Preloaded (LD_PRELOAD), refuses allocations of the program.
  *
  * An allocation is a request to the C library for memory: malloc, calloc, realloc or one of their aligned kin. The
  * program tells where they are counted by asking for BEGIN bytes, and where no longer by asking for END; such a

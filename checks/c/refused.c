@@ -1,7 +1,7 @@
-/* Refuses each allocation of lbk_read in turn, alone and with all later ones. The call has to say that it is out of
- * memory, leave the table as it was and give back all that it took; it is called again with more room until none is
- * refused. The other calls must take no memory. Needs glibc. The words name the four files; the last line is `N
- * passed, M failed`.
+/* Refuses each allocation of lbk_read in turn, alone and with all later ones. The call must return out of memory,
+ * leave the table unchanged and free all that it allocated; it is called again until no allocation is refused. The
+ * other calls must not allocate. Needs glibc. The arguments name the four files; the last line is `N passed, M
+ * failed`.
  */
 #include "../../examples/example.h"
 #include <string.h>

@@ -207,7 +207,7 @@ static uint64_t go_words(const char *text, size_t size)
     return sum;
 }
 
-/* A call for each PIECE bytes, which has to find a cut near by and to read no more. */
+/* A call for each PIECE bytes, which must find a cut nearby and read no more. */
 static uint64_t go_cuts(const char *text, size_t size)
 {
     uint64_t sum = 0;

@@ -238,7 +238,7 @@ static size_t used_by(void *(*call)(void *))
     return stack_size - unused;
 }
 
-/* Makes the call, and says what it used beside what each thread does. */
+/* Makes the call, and returns how much stack it used, without what each thread uses. */
 static void run_in_thread(const char *what, void *(*call)(void *))
 {
     size_t used = used_by(call);

@@ -124,7 +124,7 @@ For more information, try '--help'.
 
 
 def all_at_once(place):
-    """All arguments at once; each option alone decides what comes out."""
+    """All arguments at once; each option alone decides the output."""
     quoted = "a\u2019\u0301,".encode()
     place.write("Q", LINE_BREAK + b"002C;IS\n0301;CM\n2019;QU\n")
     place.write("F", CATEGORY + b"2019;Pf\n")

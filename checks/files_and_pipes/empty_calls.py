@@ -1,5 +1,4 @@
-"""No read into no room and no write of no bytes: a library that is loaded before the program ends it where it makes
-one."""
+"""No read with an empty buffer and no write without bytes: a preloaded library ends the program if it makes one."""
 
 import os
 import sys

@@ -1,4 +1,4 @@
-"""Faults whose places have more than 16 bits, and more than 24."""
+"""Faults at offsets of more than 16 bits, and more than 24."""
 
 from checks.files_and_pipes.place import LIMIT, words_of
 

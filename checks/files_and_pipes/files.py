@@ -24,7 +24,7 @@ DECIDES = [
 ]
 
 
-# Names, and names of files beside these: parts of them or near to them, which say something else.
+# Names, and similar names of other files with other contents.
 NAMED = [
     ("a name that ends in a space", "name ", ["name"]),
     ("a name that begins with a space", " name", ["name"]),

@@ -1,4 +1,4 @@
-"""Property files that come from pipes, each opened once: what is read there cannot be read again."""
+"""Property files from pipes, each opened once, because a pipe cannot be read again."""
 
 import ctypes
 import os

@@ -1,4 +1,4 @@
-"""A folder with the program and the files that it is run on."""
+"""A folder with the program and its files."""
 
 import shutil
 from pathlib import Path
@@ -9,7 +9,7 @@ from checks.unicode_files import OPTIONS
 
 LIMIT = 16_777_216
 NAMES = ("L", "E", "C", "M")
-# What a subcommand requires beside the files.
+# What a subcommand requires in addition to the files.
 REQUIRED = {"chunk": ["--most", "1"]}
 
 LINE_BREAK = b"""\

@@ -71,7 +71,7 @@ def run(place):
 
 
 def whole_names(place):
-    """A text by its whole name, beside near ones, and such a name that is not there."""
+    """A text by its whole name, among similar ones, and a similar name without a file."""
     for kind, name, others in NAMED:
         for other in others:
             place.write(other, b"another\n")
@@ -121,7 +121,7 @@ def over_edges(place):
 
 
 def hints(place):
-    """What is said beside a fault is of that text, and not of one before it."""
+    """The details of a fault are those of its text, not of an earlier one."""
     place.write("little", b"\xff\xfea\0")
     place.write("big", b"\xfe\xff\0a")
     err = "".join(
@@ -150,7 +150,7 @@ def hints(place):
 
 
 def titled(place):
-    """With --names a line with its name stands before what is written of each text."""
+    """With --names a line with its name precedes the output of each text."""
     place.write("a\u202eb", b"ef\n")
     of_input = b"==> standard input <==\nin\n"
     for what, names, out, err in (

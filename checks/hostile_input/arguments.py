@@ -1,4 +1,4 @@
-"""Arguments, as many as a system hands over, and texts of which each is refused."""
+"""As many arguments as the system allows, and texts that are all refused."""
 
 from checks.hostile_input.bounds import TOO_SLOW, side_by_side
 from checks.program import Long

@@ -5,7 +5,7 @@ from pathlib import Path
 from checks.program import ANY, MIB, Long
 from checks.unicode_files import options
 
-# Four times the input takes at most so many times the time. Linear work comes to 4, quadratic work to 16.
+# The greatest ratio of times for four times the input. Linear work has 4, quadratic work 16.
 MOST_TIMES = 8.0
 TOO_SLOW = f"more than {MOST_TIMES:.0f} times the time"
 # A shorter time than this, in seconds, is taken as this.

@@ -10,7 +10,7 @@ CLASSES = (
 ).split()
 
 # The multipliers of two digests of a page that are the sum of its cells' numbers by the multiplier's powers, each with
-# the digest's bits and how many codes of a page are chosen so that the digest comes out the same.
+# the digest's bits and how many codes of a page are chosen so that the digest stays the same.
 DIGESTS = [(0x100000001B3, 64, 15), (0x2360ED051FC65DA44385DF649FCCF645, 128, 30)]
 
 ROWS = 65_536

@@ -5,7 +5,7 @@ DIVIDE = "÷".encode()
 AGREES = b"T 1 1 0 0\n"
 LENGTH = 25_000_000
 
-# A name, the parts of a line, of which one is repeated, the status, and what is written.
+# A name, the parts of a line, one of them repeated, the status, and the output.
 LINES = [
     ("a comment", [b"#"], 0, b"T 0 0 0 0\n"),
     ("white space", [b" "], 0, b"T 0 0 0 0\n"),

@@ -63,7 +63,7 @@ def streams(hostile):
     hostile.tally.tell(f"replay of {LONGEST_STREAM + 1} bytes LF: {ran.seconds:.2f} s", fault)
     # Scalars of four bytes, and two line ends, so that a part has 2^20 bytes.
     part = ("\U000e0100" * (MIB // 4 - 1) + "\r\n\r\n").encode()
-    # The last CR LF is not given, since no scalar after it stands within the greatest length.
+    # The last CR LF is not returned, because no scalar after it is within the greatest length.
     first, end = LONGEST_STREAM - MIB, LONGEST_STREAM - 2
     for task, last, size in (
         ("segment", b"P %d %d\nS %d %d Must 5\n" % (first, end, first, end), None),

@@ -1,4 +1,4 @@
-"""Streams, of which the program holds one line or one paragraph at a time."""
+"""Streams: the program holds one line or one paragraph at a time."""
 
 from checks.hostile_input.bounds import STREAM_MEMORY
 from checks.hostile_input.sizes import nothing
@@ -11,7 +11,8 @@ MARK = len("÷".encode())
 FROM = "1000000000"
 
 STREAMS = [
-    # task, name, line or paragraph, how often it comes at first, status, end of the output by how often it comes
+    # task, name, line or paragraph, how often it is repeated at first, status, end of the output by the number of
+    # repeats
     ("replay", "lines `#`", b"#\n", 1_000_000, 0, lambda n: b"T 0 0 0 0\n"),
     ("replay", "lines `#`", b"#\n", 4_000_000, 0, lambda n: b"T 0 0 0 0\n"),
     ("replay", "empty lines", b"\n", 8_000_000, 0, lambda n: b"T 0 0 0 0\n"),
@@ -34,7 +35,7 @@ def marked_bytes(line, count):
 
 
 def passed_over(hostile):
-    """Paragraphs before a range, of which nothing is written."""
+    """Paragraphs before a range, without output."""
     for name, line, often in (("empty paragraphs", b"\n", 4_000_000), ("paragraphs of 65,001 bytes", LONG_WORDS, 300)):
         of = lambda length, line=line: [(line, length)]
         words = hostile.words("mark", "--from", FROM)

@@ -76,7 +76,7 @@ class Trials:
         self.tally.tell(f"{name:<32} {count:5} allocations refused")
 
     def tell_idle(self):
-        """Fails each call that may be out of memory and of which no allocation was refused: then nothing was tried."""
+        """Fails each call that may be out of memory but had no refused allocation: then nothing was tried."""
         for call, count in self.of_calls.items():
             if count == 0 and wants.WANT.get(call, "") is not None:
                 self.tally.tell(call, "no allocation was refused")

@@ -1,4 +1,4 @@
-"""The runs of the program of which each allocation is refused, and their files."""
+"""The runs of the program in which each allocation is refused, and their files."""
 
 # The property files of the program's own runs.
 LINE_BREAK = """\
@@ -33,7 +33,7 @@ FOLDER = {
     "emoji/emoji-data.txt": "# emoji-data.txt\n# Used with Emoji Version 15.0 and so on\n" + EMOJI + "#EOF\n",
 }
 
-# What the program is run on: a name, what stands on standard input, and the arguments.
+# The runs of the program: a name, standard input, and the arguments.
 PROGRAM = [
     ("lbk", b"ab cd", []),
     ("lbk show", TEXT.encode(), ["show", *FILES]),

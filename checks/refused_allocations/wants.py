@@ -1,10 +1,10 @@
-"""What each call returns where an allocation was refused, and whether a run is as it has to be then."""
+"""What each call returns if an allocation was refused, and whether a run is then right."""
 
 import re
 
 TABLES = r"UcdFault \{ file: \w+, line: \d+, cause: Memory \}"
 
-# What each call returns where an allocation was refused. The names of rows begin with these.
+# What each call returns if an allocation was refused. The names of rows begin with these.
 WANT = {
     "sink": r"Err\(AllocError\)",
     "tables": rf"Err\({TABLES}\)",
@@ -35,14 +35,13 @@ WANT = {
 
 
 def row_wants(key, run):
-    """Whether a row returns that it is out of memory."""
+    """Whether a row returns out of memory."""
     answer = run.out.partition(b"\nwrote\n")[0].rstrip(b"\n")
     return WANT[key] is not None and re.fullmatch(WANT[key].encode(), answer) is not None
 
 
 def row_fits(key, ample, run):
-    """Whether a row, an allocation of which was refused, returns that it is out of memory, or what ample memory
-    gives."""
+    """Whether a row with a refused allocation returns out of memory, or the result with ample memory."""
     if WANT[key] is None:
         return False
     if run == ample:
@@ -54,12 +53,13 @@ def row_fits(key, ample, run):
 
 
 def calls_that_want(run):
-    """The lines of a row of `next` that say that it is out of memory."""
+    """The lines of a row of `next` that report out of memory."""
     return [k for k, line in enumerate(run.out.splitlines()) if line.startswith(b"Err(Memory)")]
 
 
 def next_fits(ample, run):
-    """Whether one call of `next` says that it is out of memory, and made again reads nothing and returns as ever."""
+    """Whether one call of `next` returns out of memory, and the same call again reads nothing and returns the usual
+    result."""
     lines = run.out.splitlines()
     wanted = calls_that_want(run)
     if run.status != 0 or run.err != b"" or len(wanted) != 1 or wanted[0] + 1 == len(lines):

@@ -22,6 +22,7 @@ class Stream:
     may feed it at a time.
 
 
+
     """
 
     __slots__ = ("_table", "_state", "_is_str", "_ended")
@@ -40,6 +41,7 @@ class Stream:
         quotation mark may wait for more.
 
         Raises TypeError if some pieces are `str` and others bytes, and ValueError after the end.
+
 
 
         """
