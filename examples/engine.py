@@ -39,6 +39,7 @@ def after_edit(table, old, breaks, at, removed, inserted):
     edit, nothing changes from the first place on that was a Must and is one again.
 
 
+
     """
     new = old[:at] + inserted + old[at + removed :]
     by = len(inserted) - removed

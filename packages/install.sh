@@ -11,12 +11,10 @@
 #     PREFIX/share/man/man1/lbk.1                 the program's manual page
 #     PREFIX/share/bash-completion/completions/lbk    the completion of its words
 #
-# LIBDIR is PREFIX/lib unless it is given. Both are taken as the places where the files will be used; DESTDIR, where it
-# is set, stands in front of them while they are copied. They may have spaces, and none of the signs that pkg-config or
-# CMake read as their own.
+# LIBDIR is PREFIX/lib by default. Both are the folders in which the files will be used; if DESTDIR is set, it precedes
+# them while files are copied. They may have spaces, but no characters that are special to pkg-config or CMake.
 #
-# Without DESTDIR this machine has to be one that the code is for; on x86-64 its processor needs SSE4.2, which nearly
-# all since 2009 have.
+# Without DESTDIR the code must be for this machine; on x86-64 the processor needs SSE4.2, as most since 2009 have.
 set -eu
 if [ $# = 0 ] || [ $# -gt 2 ] || [ -z "$1" ]; then
     echo "usage: ./install.sh PREFIX [LIBDIR]" >&2

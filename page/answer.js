@@ -4,7 +4,7 @@ import { CLASSES } from "./classes.js";
 import { element } from "./elements.js";
 import { SAYS, codeOf, hiddenName, signOf } from "./notation.js";
 
-/** After these classes a mark stands for itself (rule LB10). */
+/** After these classes a mark counts as a character of its own (rule LB10). */
 const HARD = ["BK", "CR", "LF", "NL", "SP", "ZW"];
 const MARKS = ["CM", "ZWJ"];
 

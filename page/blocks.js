@@ -1,4 +1,4 @@
-/** A column as a list of blocks, of which those that stay the same are kept with their lines. */
+/** A column as a list of blocks; unchanged blocks are kept with their lines. */
 
 export class Blocks {
   #root;

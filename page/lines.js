@@ -1,8 +1,6 @@
-/** Lines of given width of a text whose breaks are known. White space at the end of a line hangs: it counts for no
- * width. */
+/** Lines of a given width, for a text with known breaks. White space at the end of a line hangs: it has no width. */
 
-/** White space that hangs (CSS Text, section 4.1.3): spaces, tabs and other space separators, but for a no-break
- * space. */
+/** White space that hangs (CSS Text, section 4.1.3): spaces, tabs and other space separators, except no-break spaces. */
 const HANGING = /[\t\p{Zs}]*$/u;
 
 /** The end of a line: what has one of the classes CR, LF, NL and BK. */

@@ -1,4 +1,4 @@
-/** Where the signs between letters stand, read off the letters that the browser laid out, in either direction. */
+/** Where the signs between letters are, measured from the letters that the browser laid out, in either direction. */
 
 /** How many pixels boxes that touch may be apart. */
 const NEAR = 1;
@@ -27,7 +27,7 @@ function end(box, direction) {
   return direction === "ltr" ? box.right : box.left;
 }
 
-/** The edges at which a sign may stand, with the best first: one, or two where the direction changes. `y` is its top. */
+/** The edges at which a sign may be, the best first: one, or two where the direction changes. `y` is its top. */
 function edgesOf(boxes, base) {
   const direction = (k) => following(boxes[k - 1], boxes[k]) ?? following(boxes[k], boxes[k + 1]) ?? base;
   const edges = boxes.map((box, k) => {

@@ -85,7 +85,7 @@ export class PositionsView {
     return [first, past < 0 ? this.#pieces.length : past];
   }
 
-  /** Draws the pieces that come into view, and lets the others go. */
+  /** Draws the pieces in view, and removes the others. */
   #draw() {
     this.#countTops();
     const [first, past] = this.#inView();
@@ -105,7 +105,7 @@ export class PositionsView {
     for (const [it, found] of measured) it.putSigns(this.#decided.positionsIn(it.index, it.from, it.to), found);
     if (fresh.length === 0) return;
     if (this.#chosenAt !== undefined) this.#select(this.#chosenAt, this.#ofLetter);
-    // Where these are lower than was expected, others come into view.
+    // If these are lower than expected, others are in view, too.
     this.#draw();
   }
 

@@ -1,5 +1,5 @@
 /**
- * The lines of the page's column, beside a layout that is made here of the breaks and of measured widths: a segment
+ * The lines of the page's column, compared with a layout made here from the breaks and measured widths: a segment
  * goes to the next line where the line with it, without white space at its end, would be wider than the column.
  */
 import { change, equal, follow, openPage, say } from "./harness.js";
@@ -46,7 +46,7 @@ function shownLines(root) {
   return found;
 }
 
-/** A line as it is seen: without white space at its end, and with the hyphen for which a soft one stands there. */
+/** A line as it is seen: without white space at its end, and with a hyphen for a soft hyphen there. */
 function asLine(text) {
   let end = text.length;
   while (end > 0 && (LINE_END.test(text[end - 1]) || " \t\u2003\u3000".includes(text[end - 1]))) end--;

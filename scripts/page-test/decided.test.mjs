@@ -1,4 +1,4 @@
-// What the page decides of a text paragraph by paragraph, beside what is decided of the whole. LBK_PAGE is a folder
+// The page's results for a text paragraph by paragraph, compared with those for the whole text. LBK_PAGE is a folder
 // with the page's modules, LBK_PACKAGE one with the package, LBK_TABLE a table.
 import assert from "node:assert/strict";
 import test from "node:test";

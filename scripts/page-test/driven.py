@@ -53,7 +53,7 @@ const covered = seen.filter(([, box], k) => seen.some(([, other], n) => n < k &&
 const name = ([it, box]) => `${it.className}#${it.id} ${it.textContent.slice(0, 5)} ${box.width} x ${box.height}`;
 return [seen.length > 30, small.map(name).slice(0, 5), covered.map(name).slice(0, 5)];
 """
-# Whether the signs of each kind have a ground, but for the chosen one, which always has.
+# Whether the signs of each kind have a background, except the chosen one, which always has.
 GROUNDS = """
 const found = {};
 for (const it of document.querySelectorAll(".position:not([aria-selected=true])")) {

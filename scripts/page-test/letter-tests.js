@@ -13,7 +13,7 @@ function boxes(page, selector) {
     ({ it, at: Number(it.dataset.at), box: it.getBoundingClientRect() }));
 }
 
-/** The places of those that stand so near to another that pointing at one could meet the other. */
+/** The places of signs so near to another that pointing at one could hit the other. */
 function crowded(found) {
   const isNear = (one, other) => Math.abs(one.left - other.left) < 20 && Math.abs(one.top - other.top) < 20;
   return found.filter(({ box }, k) => found.some((other, n) => n < k && isNear(box, other.box))).map(({ at }) => at);
@@ -101,7 +101,7 @@ async function tryEdits(page) {
   }
 }
 
-/** The places of signs that stand at no edge of a letter. */
+/** The places of signs that are at no edge of a letter. */
 function astray(page) {
   const letters = boxes(page, ".letter").map(({ box }) => box);
   const isAt = (box, x) => Math.abs(box.left - x) < 1.5 || Math.abs(box.right - x) < 1.5;
@@ -110,7 +110,7 @@ function astray(page) {
   return boxes(page, ".position").filter((it) => !stands(it)).map(({ at }) => at);
 }
 
-/** Signs stand at the edges of letters in a page that opens with a text, whether or not its view scrolls, and after a
+/** Signs are at the edges of letters in a page that opens with a text, whether or not its view scrolls, and after a
  * resize. */
 async function tryEdges() {
   for (const count of [1, 3, 20]) {

@@ -84,7 +84,7 @@ function goWithIcu(text) {
   while (iterator.next() >= 0);
 }
 
-/** How fast columns are, beside the C library and the line iterator of ICU that Chromium has. Speeds are of UTF-8, in
+/** The speed of columns, compared with the C library and with Chromium's ICU line iterator. Speeds are of UTF-8, in
  * MB/s. */
 async function trySpeed(table) {
   for (const [name, file, whole, pieces] of await (await fetch("speed.json")).json()) {
@@ -115,7 +115,7 @@ async function tryStart() {
     isHeld && best > 100 ? "over 100 ms" : "");
 }
 
-/** The pages that docs/javascript.md shows write what stands below them. */
+/** The pages in docs/javascript.md show the output below them. */
 async function tryShown() {
   const wanted = await (await fetch("shown.json")).json();
   for (const [number, text] of wanted.entries()) {

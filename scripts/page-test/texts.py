@@ -10,7 +10,7 @@ from pathlib import Path
 SEED = 36
 SIZE = 1_000_000
 ROOM = 64
-# The letters of made-up texts of a million bytes, the most of them in a word, and what stands between words.
+# The letters of made-up texts of a million bytes, the most letters in a word, and what separates words.
 SCRIPTS = {
     "latin": ("abcdefghijklmnopqrstuvwxyzéöß", 9, [" ", " ", ", ", ". ", "-", " (", ") ", " « ", " » ", "\n",
         " 3,50 € "]),
@@ -52,14 +52,14 @@ def made_text(draw, letters, most, between, size):
 
 
 def random_bytes(draw, size):
-    """Bytes of which some are text, some ill-formed."""
+    """Bytes, partly text and partly ill-formed."""
     pieces = [b"word ", " « été » ".encode(), "日本語。".encode(), b"\xff\xfe", b"\xe2\x80", b"\xf0\x9f\x98", b"\r\n",
         "👩‍👧".encode()]
     return b"".join(draw.choice(pieces) if draw.random() < 0.9 else draw.randbytes(3) for _ in range(size // 5))
 
 
 def short_strings(draw, count):
-    """Strings of a few units, some of them surrogates that stand alone."""
+    """Strings of a few units, some of them lone surrogates."""
     pieces = ["a", " ", "«", "»", "\u0301", "日", "。", "-", "1", "\n", "\u200d", "😀", "\ud800", "\udc00", "\udfff\udbff"]
     return ["".join(draw.choices(pieces, k=draw.randint(0, 12))) for _ in range(count)]
 
@@ -121,7 +121,7 @@ def decide_strings(library, table, folder, to):
     read = ctypes.create_string_buffer(table.read_bytes())
     rows = []
     for text in [*test_lines(folder), *short_strings(random.Random(SEED), 5000)]:
-        # Two surrogates that stand side by side are a pair in a string of UTF-16.
+        # Two adjacent surrogates are a pair in a string of UTF-16.
         whole = text.encode("utf-16-le", "surrogatepass").decode("utf-16-le", "replace") if re.search("[\ud800-\udfff]",
             text) else text
         rows += [[text, profile, positions_of(called, read, profile, whole)] for profile in (1, 2)]

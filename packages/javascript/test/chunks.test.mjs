@@ -20,7 +20,7 @@ function below(bound) {
   return Number(seed >> 33n) % bound;
 }
 
-/** The breaks that stand within no word, with how many words are before each. */
+/** The breaks outside words, with how many words are before each. */
 function cutsOf(text, profile) {
   const { start, end } = words.wordColumns(text);
   const breaks = [...table.breaks(text, { profile })].filter(({ at }) => !start.some((from, k) => from < at

@@ -17,7 +17,7 @@ PIECES = [
 
 
 class Cut(typing.NamedTuple):
-    """A break that stands within no word, and how many words are before it."""
+    """A break outside words, and how many words are before it."""
 
     at: int
     words: int

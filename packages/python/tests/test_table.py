@@ -1,4 +1,4 @@
-"""Tables: where they come from, what is refused, and where they are kept."""
+"""Tables: their sources, what is refused, and where they are saved."""
 
 import copy
 import os

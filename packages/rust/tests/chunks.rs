@@ -27,7 +27,7 @@ fn table() -> Box<Table> {
     Table::read(FILES).expect("the small files have no fault")
 }
 
-/// A break that stands within no word, and how many words are before it.
+/// A break outside words, and how many words are before it.
 #[derive(Clone, Copy)]
 struct Cut {
     at: usize,
@@ -66,7 +66,7 @@ impl Asked {
         to.at - from.at <= self.most && (self.words == 0 || to.words - from.words <= self.words)
     }
 
-    /// The chunks of a text with these cuts: the start, the end, the words, and whether it stands alone.
+    /// The chunks of a text with these cuts: the start, the end, the words, and whether it is alone.
     fn defined(&self, cuts: &[Cut]) -> Vec<(usize, usize, usize, bool)> {
         let mut found = Vec::new();
         let mut start = Cut {

@@ -1,4 +1,4 @@
-//! Texts that come in pieces, and words.
+//! Texts that arrive in pieces, and words.
 
 use lbk::{Break, Files, Profile, Table};
 use std::io::{self, Read};

@@ -13,7 +13,7 @@ fn table() -> Box<Table> {
     Table::read(FILES).expect("the small files have no fault")
 }
 
-/// Each break as its place, kind and rule, the place by a function of the byte that it stands before.
+/// Each break as its offset, kind and rule; a function converts the byte offset.
 fn placed(
     breaks: impl Iterator<Item = Break>,
     place: impl Fn(usize) -> usize,

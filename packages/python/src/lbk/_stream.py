@@ -23,6 +23,7 @@ class Stream:
 
 
 
+
     """
 
     __slots__ = ("_table", "_state", "_is_str", "_ended")
@@ -41,6 +42,7 @@ class Stream:
         quotation mark may wait for more.
 
         Raises TypeError if some pieces are `str` and others bytes, and ValueError after the end.
+
 
 
 

@@ -59,6 +59,7 @@ class Table:
 
 
 
+
     """
 
     __slots__ = ("_memory", "_origin")
@@ -89,6 +90,7 @@ class Table:
         Raises OSError if a file cannot be read, FileNotFoundError with all places searched if no
         folder has the files, and Fault if a file is not the one that Unicode published for the
         version UNICODE_VERSION.
+
 
 
 
@@ -135,6 +137,7 @@ class Table:
 
         Raises OSError if the file cannot be read, and ValueError if it is not an intact table of
         this version.
+
 
 
 
@@ -214,6 +217,7 @@ class Table:
 
         The breaks of the parts are those of the text, if `break_columns` gets the `start` of each
         part, and `goes_on` for each except the last. Raises ValueError for a negative offset.
+
 
 
 
@@ -300,6 +304,7 @@ class Table:
         them, with `alone`. With `unit="bytes"` the limits count UTF-8 bytes of a `str`, too; its
         offsets do not. Raises ValueError for limits that are out of range: `most` and `words` have
         to be 1 or more, `least` at most `most`, and `overlap` at most half of it.
+
 
 
 

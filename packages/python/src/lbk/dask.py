@@ -118,6 +118,7 @@ def read_text(
 
 
 
+
     """
     parts = _plan(paths, table, blocksize, compression, storage_options)
     return _bag_of(parts, _paragraphs, _name_of(table), errors, on_fault)
@@ -178,6 +179,7 @@ def chunks(
 
 
 
+
     """
     _check_profile(profile)
     asked = (limits_of(most, words, least, overlap), unit, profile)
@@ -202,6 +204,7 @@ def save(bag: Bag, folder: Name, format: "Format | None" = None) -> Bag:
     partition as columns, those of a list at `offsets[k]` up to `offsets[k + 1]`. Kept faults go to
     a separate file of JSON lines. A file has the partition's number in its name, and is written
     completely or not at all.
+
 
 
 
