@@ -37,9 +37,6 @@ def after_edit(table, old, breaks, at, removed, inserted):
 
     Nothing changes up to the last Must before the edit; not one right at it, since a CR may stand there. Behind the
     edit, nothing changes from the first place on that was a Must and is one again.
-
-
-
     """
     new = old[:at] + inserted + old[at + removed :]
     by = len(inserted) - removed

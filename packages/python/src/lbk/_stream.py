@@ -20,10 +20,6 @@ class Stream:
     the start of the stream. The pieces are all `str`, or all bytes, and may end inside a character.
     A stream keeps no earlier piece. Copy or pickle it to come back to an offset. Only one thread
     may feed it at a time.
-
-
-
-
     """
 
     __slots__ = ("_table", "_state", "_is_str", "_ended")
@@ -42,10 +38,6 @@ class Stream:
         quotation mark may wait for more.
 
         Raises TypeError if some pieces are `str` and others bytes, and ValueError after the end.
-
-
-
-
         """
         return self._take(piece, False)
 

@@ -56,10 +56,6 @@ class Table:
     surrogate in a `str`. `profile` 1 has the rules of Unicode 15.0; 2 has LB15a and LB15b in place
     of LB15. The calls raise TypeError for what is not a text, and ValueError for an unknown
     profile.
-
-
-
-
     """
 
     __slots__ = ("_memory", "_origin")
@@ -90,10 +86,6 @@ class Table:
         Raises OSError if a file cannot be read, FileNotFoundError with all places searched if no
         folder has the files, and Fault if a file is not the one that Unicode published for the
         version UNICODE_VERSION.
-
-
-
-
         """
         memory, place = _find() if folder is None else (_read_folder(folder, f"; {_calls.remedy_text()}"),
             os.path.abspath(folder))
@@ -137,10 +129,6 @@ class Table:
 
         Raises OSError if the file cannot be read, and ValueError if it is not an intact table of
         this version.
-
-
-
-
         """
         path = os.path.abspath(os.fsdecode(name))
         with open(path, "rb") as file:
@@ -217,10 +205,6 @@ class Table:
 
         The breaks of the parts are those of the text, if `break_columns` gets the `start` of each
         part, and `goes_on` for each except the last. Raises ValueError for a negative offset.
-
-
-
-
         """
         return _calls.cut(self._memory, text, at)
 
@@ -304,10 +288,6 @@ class Table:
         them, with `alone`. With `unit="bytes"` the limits count UTF-8 bytes of a `str`, too; its
         offsets do not. Raises ValueError for limits that are out of range: `most` and `words` have
         to be 1 or more, `least` at most `most`, and `overlap` at most half of it.
-
-
-
-
         """
         columns = self.chunk_columns(text, most, words, least, overlap, unit=unit, profile=profile)
         return Chunks(columns, text)

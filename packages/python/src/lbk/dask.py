@@ -115,10 +115,6 @@ def read_text(
     A TextFault names the file and the byte, if a file cannot be read, changed since it was cut, or
     is ill-formed. The task raises it. With `on_fault="keep"` the bag has the fault in place of the
     part; the other calls pass it on, and `faults` finds it.
-
-
-
-
     """
     parts = _plan(paths, table, blocksize, compression, storage_options)
     return _bag_of(parts, _paragraphs, _name_of(table), errors, on_fault)
@@ -176,10 +172,6 @@ def chunks(
     item of the bag is a dict with its text at "text", its other entries are copied to each of its
     chunks. For a dataframe's column returns a dataframe with a row for each chunk, with the index
     of its text. None has no chunk.
-
-
-
-
     """
     _check_profile(profile)
     asked = (limits_of(most, words, least, overlap), unit, profile)
@@ -204,10 +196,6 @@ def save(bag: Bag, folder: Name, format: "Format | None" = None) -> Bag:
     partition as columns, those of a list at `offsets[k]` up to `offsets[k + 1]`. Kept faults go to
     a separate file of JSON lines. A file has the partition's number in its name, and is written
     completely or not at all.
-
-
-
-
     """
     if format not in (None, "parquet", "npz", "jsonl"):
         raise ValueError(f"format must be parquet, npz or jsonl, not {format!r}")
