@@ -1,6 +1,5 @@
 #!/usr/bin/env python3
-"""How a text engine asks for breaks: for lines of its own width, again after an edit, and of a text that comes in
-parts.
+"""How a text engine uses breaks: for lines of its own width, after an edit, and for a text that arrives in pieces.
 
     engine.py LINE_BREAK EAST_ASIAN CATEGORY EMOJI
 
@@ -15,7 +14,7 @@ from lbk import Break, Kind, Stream
 
 
 def lines(table, text, width):
-    """The text in lines of at most `width` code points, spaces at the end not counted, where a break allows it."""
+    """The text in lines of at most `width` code points, without spaces at the end, if the breaks allow it."""
     start = fits = 0
     for found in table.breaks(text):
         if fits > start and len(text[start : found.at].rstrip(" \n")) > width:
@@ -32,11 +31,11 @@ def moved(found, by):
 
 
 def after_edit(table, old, breaks, at, removed, inserted):
-    """The text `old`, of bytes, with its breaks, after `removed` bytes from `at` on gave way to others: the new text,
-    its breaks, and how many of them had to be asked for.
+    """The text `old`, of bytes, with its breaks, after `removed` bytes from `at` on were replaced: the new text, its
+    breaks, and how many of them had to be found again.
 
-    Nothing changes up to the last Must before the edit; not one right at it, since a CR may stand there. Behind the
-    edit, nothing changes from the first place on that was a Must and is one again.
+    Nothing changes up to the last required break before the edit, except one directly at it, because a CR may precede
+    it. After the edit, nothing changes from the first offset on that was a required break and is one again.
     """
     new = old[:at] + inserted + old[at + removed :]
     by = len(inserted) - removed

@@ -2,7 +2,7 @@
 """Breaks of texts in parts, for GNU parallel:
 
     parts.py plan TABLE BYTES FILE..        writes the range of each part, as lines `START END FILE`
-    parts.py count TABLE RANGE..            writes how many breaks the ranges have, each a line as above
+    parts.py count TABLE RANGE..            writes how many breaks the ranges have; each range is a line as above
 
 A part has so many BYTES and what is left of the paragraph there. TABLE is a file that Table.save made.
 """

@@ -1,5 +1,5 @@
 #!/usr/bin/env python3
-"""Breaks, segments, columns and words of texts: texts.py FOLDER, as /usr/share/unicode."""
+"""Breaks, segments, columns and words of texts: texts.py FOLDER, for example /usr/share/unicode."""
 
 import sys
 
