@@ -25,7 +25,9 @@ pub fn claim_text(which: Which, cause: ClaimCause) -> ArrayString<95>
         }
         ClaimCause::Version(version) => version_text(which, version),
         ClaimCause::Changed => {
-            let mut text = begun("the file was changed or truncated: it differs from Unicode 15.0.0's ");
+            let mut text = begun(
+                "the file was changed or truncated: it differs from Unicode 15.0.0's ",
+            );
             text.push_str(file_name(which));
             text
         }
