@@ -121,7 +121,7 @@ class Folders(unittest.TestCase):
         self.assertEqual(pickle.loads(data), Table.load(self.folder))
         file = self.folder / samples.PLACES[0]
         file.write_bytes(file.read_bytes() + b"\n")
-        self.assertRaisesRegex(ValueError, f"files in {self.folder} give another table", pickle.loads, data)
+        self.assertRaisesRegex(ValueError, f"files in {self.folder} now give a different table", pickle.loads, data)
         file.unlink()
         with self.assertRaises(FileNotFoundError) as caught:
             pickle.loads(data)
@@ -132,7 +132,7 @@ class Folders(unittest.TestCase):
         data = pickle.dumps(table)
         self.assertIn(table._digest.encode(), data)
         other = data.replace(table._digest.encode(), b"0123456789abcdef")
-        self.assertRaisesRegex(ValueError, f"files in {self.folder} give another table", pickle.loads, other)
+        self.assertRaisesRegex(ValueError, f"files in {self.folder} now give a different table", pickle.loads, other)
 
     def test_processes_share_the_work(self):
         for table in (Table.load(self.folder), samples.table()):
