@@ -208,7 +208,7 @@ fn the_first_fault_is_named() {
     );
     let text = fault.to_string();
     assert!(
-        text.starts_with("DerivedGeneralCategory.txt:3: no value"),
+        text.starts_with("DerivedGeneralCategory.txt:3: unknown property value"),
         "{}",
         text
     );
