@@ -99,7 +99,7 @@ test("where none is found the error says what to do, and where it looked", async
 test("what is no table's source is refused with what is wanted", async () => {
   assert.throws(() => new Table(), /^TypeError: make a Table by Table\.find, Table\.fromFiles or Table\.fromBytes$/);
   for (const files of [undefined, null, 3]) await assert.rejects(Table.fromFiles(files),
-    /^TypeError: the files are the path or URL of a folder/);
+    /^TypeError: pass the path or URL of a folder/);
   for (const bytes of [undefined, null, 3]) await assert.rejects(Table.fromBytes(bytes, new Uint8Array()),
     /^TypeError: bytes are required/);
   await assert.rejects(Table.fromFiles(pathToFileURL(join(room, "missing"))), /LineBreak\.txt/);

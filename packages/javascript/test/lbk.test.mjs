@@ -119,9 +119,9 @@ test("other property files are refused", async () => {
   const refused = (given) => Table.fromFiles(given).catch((error) => error.message);
   const of14 = edited(0, "# LineBreak-15.0.0.txt", "# LineBreak-14.0.0.txt").with(1, new Uint8Array(0));
   assert.match(await refused(of14),
-    /^LineBreak.txt: this is Unicode 14.0.0, and lbk needs 15.0.0; Debian 12's .*UCD.zip$/);
+    /^LineBreak.txt: this is Unicode 14.0.0, and lbk needs 15.0.0; get it from Debian 12's .*UCD.zip$/);
   assert.match(await refused(files.with(3, files[3].subarray(0, 99))),
-    /^emoji\/emoji-data.txt: this is not emoji-data.txt as Unicode 15.0/);
+    /^emoji\/emoji-data.txt: this is not emoji-data.txt of the Unicode Character Database/);
   assert.match(await refused(edited(0, "0028;OP", "0028;CL")), /one was changed or truncated/);
   assert.match(await refused(files.slice(1)), /^4 property files are required, not 3$/);
   await assert.rejects(Table.fromFiles("/absent"), { code: "ENOENT" });
