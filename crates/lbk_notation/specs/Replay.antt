@@ -1,6 +1,6 @@
 -- What a replay writes and returns, by what it read.
 use Rattle.std.specs.Prelude.{◌≡◌, ℕ, ◌+◌, ◌<◌, ◌≤◌, Bool, true, false, List, ◌++◌, length, take, Option, None, Some}
-use Rattle.std.specs.Prelude.{Result, Ok, Err}
+use Rattle.std.specs.Prelude.{Result, Ok, Err, IsErrOf, OnOk}
 use Rattle.std.specs.Io.KnownBytes.{Appends}
 use Rattle.lbk_rules.specs.declared.Cell.{Cell}
 use Rattle.lbk_values.specs.declared.profile.Profile.{Profile}
@@ -12,7 +12,7 @@ use Rattle.lbk_notation.specs.declared.marks.Form.{Form}
 use Rattle.lbk_notation.specs.Findings.{AreFindings}
 use Rattle.lbk_notation.specs.ReplayText.{text_from, report_of, total_text}
 use Rattle.lbk_feed.specs.Devices.{Reads, count_up}
-use Rattle.lbk_feed.specs.Runs.{IsStopped}
+use Rattle.lbk_feed.specs.Runs.{HasFailed, IsStopped}
 use Rattle.lbk_notation.specs.Stream.{ended_lines, lines_of, longest_stream}
 
 -- the output for the lines that an LF ends
@@ -54,6 +54,18 @@ failed_reads_with n _ = n
 abbrev pub failed_writes_with : ℕ → Option ReplayFault → ℕ
 failed_writes_with n (Some Write) = count_up n
 failed_writes_with n _ = n
+
+-- a call returned `Read`, or `Write`, exactly if its reader, or its writer, failed: in its last call, and in no other
+pub record TellsReads {X : Type 0} (old new : ℕ) (result : Result X ReplayFault) : Type 0 where
+  pub read : IsErrOf result Read → HasFailed old new
+  pub read_failed : old < new → result ≡ Err Read
+  pub failed_reads : new ≡ failed_reads_with old (fault_in result)
+
+pub record TellsWrites {X : Type 0} (old new : ℕ) (result : Result X ReplayFault) : Type 0 where
+  pub write : IsErrOf result Write → HasFailed old new
+  pub write_failed : old < new → result ≡ Err Write
+  pub failed_writes : new ≡ failed_writes_with old (fault_in result)
+  pub none_failed : OnOk result (new ≡ old)
 
 -- stopped: the output is a prefix of that of the lines that ended before some offset, or, once the end was reached, of
 -- the replay text

@@ -1,13 +1,12 @@
 //! Compares whole test files with the rules.
 
 ghost use Rattle.std.specs.Prelude.{◌≡◌, ◌+◌, ◌<◌, ◌≤◌, ◌⊎◌, ℕ, List, [], ◌∷◌, length, take, IsTrue, IfSome, IfOk};
-ghost use Rattle.std.specs.Prelude.{IfErr, OnOk, IsErrOf};
+ghost use Rattle.std.specs.Prelude.{IfErr, OnOk};
 ghost use Rattle.std.specs.Io.KnownBytes.{Appends, IsAtEnd};
 ghost use Rattle.lbk_notation.specs.ReplayState.{Ends, HasRead, Uses, is_read_fault_of};
-ghost use Rattle.lbk_notation.specs.Replay.{IsReplayRun, IsReplayed, failed_reads_with, failed_writes_with, fault_in};
-ghost use Rattle.lbk_notation.specs.Replay.{is_read_fault};
+ghost use Rattle.lbk_notation.specs.Replay.{IsReplayRun, IsReplayed, TellsReads, TellsWrites, is_read_fault};
 ghost use Rattle.lbk_notation.specs.Stream.{longest_stream};
-ghost use Rattle.lbk_feed.specs.Runs.{HasFailed, Ran};
+ghost use Rattle.lbk_feed.specs.Runs.{Ran};
 
 use super::findings::{ReplayFault, Report};
 use super::marks::Form;
@@ -59,16 +58,8 @@ pub fn replay<R: Source, W: Sink, C: CellSource>(
     ensures ended { OnOk result (IsTrue (R.has_ended reader.new) × IsAtEnd (R.unread reader.new)) }
 
     // When a device's fault is returned, and how much is read.
-    ensures read { IsErrOf result ReplayFault.Read
-        → HasFailed (R.failure_count reader.old) (R.failure_count reader.new) }
-    ensures read_failed { R.failure_count reader.old < R.failure_count reader.new → result ≡ Err ReplayFault.Read }
-    ensures failed_reads { R.failure_count reader.new
-        ≡ failed_reads_with (R.failure_count reader.old) (fault_in result) }
-    ensures write { IsErrOf result ReplayFault.Write
-        → HasFailed (W.failure_count writer.old) (W.failure_count writer.new) }
-    ensures write_failed { W.failure_count writer.old < W.failure_count writer.new → result ≡ Err ReplayFault.Write }
-    ensures failed_writes { W.failure_count writer.new
-        ≡ failed_writes_with (W.failure_count writer.old) (fault_in result) }
+    ensures reader { TellsReads (R.failure_count reader.old) (R.failure_count reader.new) result }
+    ensures writes { TellsWrites (W.failure_count writer.old) (W.failure_count writer.new) result }
     ensures reads { (R.reads_made reader.new).count ≤ (R.reads_made reader.old).count + (longest_stream + 1) }
 {
     let replayer = Replayer {
@@ -92,17 +83,8 @@ fn read_all<R: Source, W: Sink, C: CellSource>(
         (HasRead (C.cell_of replayer.now.cells.now) replayer.now.form replayer.now.profile
         (R.reads_made reader.old) (R.reads_made reader.new) result) }
     ensures ended { OnOk result (IsTrue (R.has_ended reader.new) × IsAtEnd (R.unread reader.new)) }
-    ensures read { IsErrOf result ReplayFault.Read
-        → HasFailed (R.failure_count reader.old) (R.failure_count reader.new) }
-    ensures read_failed { R.failure_count reader.old < R.failure_count reader.new → result ≡ Err ReplayFault.Read }
-    ensures failed_reads { R.failure_count reader.new
-        ≡ failed_reads_with (R.failure_count reader.old) (fault_in result) }
-    ensures write { IsErrOf result ReplayFault.Write
-        → HasFailed (W.failure_count writer.old) (W.failure_count writer.new) }
-    ensures write_failed { W.failure_count writer.old < W.failure_count writer.new → result ≡ Err ReplayFault.Write }
-    ensures failed_writes { W.failure_count writer.new
-        ≡ failed_writes_with (W.failure_count writer.old) (fault_in result) }
-    ensures none_failed { OnOk result (W.failure_count writer.new ≡ W.failure_count writer.old) }
+    ensures reader { TellsReads (R.failure_count reader.old) (R.failure_count reader.new) result }
+    ensures writes { TellsWrites (W.failure_count writer.old) (W.failure_count writer.new) result }
     ensures reads { (R.reads_made reader.new).count ≤ (R.reads_made reader.old).count + (longest_stream + 1) }
 {
     let mut progress = ReplayState::new(alloc);
@@ -136,12 +118,7 @@ fn take_all<W: Sink, C: CellSource>(
         bytes.now (W.written writer.old) (W.written writer.new) result }
     ensures taken { OnOk result (progress.new.taken ≡ progress.old.taken + length bytes.now) }
     ensures only { IfErr result (λ fault. (fault ≡ ReplayFault.Memory) ⊎ (fault ≡ ReplayFault.Write)) }
-    ensures write { IsErrOf result ReplayFault.Write
-        → HasFailed (W.failure_count writer.old) (W.failure_count writer.new) }
-    ensures write_failed { W.failure_count writer.old < W.failure_count writer.new → result ≡ Err ReplayFault.Write }
-    ensures failed_writes { W.failure_count writer.new
-        ≡ failed_writes_with (W.failure_count writer.old) (fault_in result) }
-    ensures none_failed { OnOk result (W.failure_count writer.new ≡ W.failure_count writer.old) }
+    ensures writes { TellsWrites (W.failure_count writer.old) (W.failure_count writer.new) result }
 {
     for byte in bytes {
         take(alloc, writer, replayer, progress, *byte)?;
@@ -163,12 +140,7 @@ fn take<W: Sink, C: CellSource>(
         (byte ∷ []) (W.written writer.old) (W.written writer.new) result }
     ensures taken { progress.new.taken ≡ progress.old.taken + 1 }
     ensures only { IfErr result (λ fault. (fault ≡ ReplayFault.Memory) ⊎ (fault ≡ ReplayFault.Write)) }
-    ensures write { IsErrOf result ReplayFault.Write
-        → HasFailed (W.failure_count writer.old) (W.failure_count writer.new) }
-    ensures write_failed { W.failure_count writer.old < W.failure_count writer.new → result ≡ Err ReplayFault.Write }
-    ensures failed_writes { W.failure_count writer.new
-        ≡ failed_writes_with (W.failure_count writer.old) (fault_in result) }
-    ensures none_failed { OnOk result (W.failure_count writer.new ≡ W.failure_count writer.old) }
+    ensures writes { TellsWrites (W.failure_count writer.old) (W.failure_count writer.new) result }
 {
     if byte != b'\n' {
         progress.add(byte)?;
@@ -188,12 +160,7 @@ fn finish<W: Sink, C: CellSource>(
     ensures ends { Ends (C.cell_of replayer.now.cells.now) replayer.now.form replayer.now.profile progress
         (W.written writer.old) (W.written writer.new) result }
     ensures only { IfErr result (λ fault. (fault ≡ ReplayFault.Memory) ⊎ (fault ≡ ReplayFault.Write)) }
-    ensures write { IsErrOf result ReplayFault.Write
-        → HasFailed (W.failure_count writer.old) (W.failure_count writer.new) }
-    ensures write_failed { W.failure_count writer.old < W.failure_count writer.new → result ≡ Err ReplayFault.Write }
-    ensures failed_writes { W.failure_count writer.new
-        ≡ failed_writes_with (W.failure_count writer.old) (fault_in result) }
-    ensures none_failed { OnOk result (W.failure_count writer.new ≡ W.failure_count writer.old) }
+    ensures writes { TellsWrites (W.failure_count writer.old) (W.failure_count writer.new) result }
 {
     let mut progress = progress;
     progress.end_last(alloc, replayer)?;
@@ -208,12 +175,7 @@ fn put<W: Sink>(writer: &mut W, bytes: &[u8]) -> Result<(), ReplayFault>
     ensures ok { OnOk result (Appends (W.written writer.old) (W.written writer.new) bytes.now) }
     ensures front { (n : ℕ) × Appends (W.written writer.old) (W.written writer.new) (take n bytes.now) }
     ensures only { IfErr result (λ fault. fault ≡ ReplayFault.Write) }
-    ensures write { IsErrOf result ReplayFault.Write
-        → HasFailed (W.failure_count writer.old) (W.failure_count writer.new) }
-    ensures write_failed { W.failure_count writer.old < W.failure_count writer.new → result ≡ Err ReplayFault.Write }
-    ensures failed_writes { W.failure_count writer.new
-        ≡ failed_writes_with (W.failure_count writer.old) (fault_in result) }
-    ensures none_failed { OnOk result (W.failure_count writer.new ≡ W.failure_count writer.old) }
+    ensures writes { TellsWrites (W.failure_count writer.old) (W.failure_count writer.new) result }
 {
     match write_all(writer, bytes) {
         Ok(()) => Ok(()),

@@ -1,12 +1,12 @@
 //! The state of a replay: the unfinished line, the output of the last one, and the counts.
 
 ghost use Rattle.std.specs.Prelude.{◌≡◌, ◌≢◌, ◌⊎◌, ℕ, ◌+◌, ◌<◌, ◌≤◌, List, [], ◌∷◌, ◌++◌, length, true, false, OnOk};
-ghost use Rattle.std.specs.Prelude.{IfOk, IfErr};
+ghost use Rattle.std.specs.Prelude.{IfOk, OnErr};
 ghost use Rattle.std.specs.Bool.{OnTrue, OnFalse};
 ghost use Rattle.lbk_notation.specs.Fault.{longest};
 ghost use Rattle.lbk_notation.specs.Stream.{longest_stream};
 
-use super::findings::{Finding, ReplayFault, Report, STREAM_MAX};
+use super::findings::{Finding, Report, STREAM_MAX};
 use super::line_reading::LONGEST;
 use super::replay_lines::{push_finding, push_total};
 use super::replayer::Replayer;
@@ -120,14 +120,13 @@ impl ReplayState {
         &mut self,
         alloc: Global,
         replayer: &Replayer<C>,
-    ) -> Result<(), ReplayFault>
+    ) -> Result<(), AllocError>
         requires { self.old.taken < longest_stream }
         ensures stands { (used out : List ℕ)
             → Stands (C.cell_of replayer.now.cells.now) replayer.now.form replayer.now.profile self.old used out
             → OnOk result (Stands (C.cell_of replayer.now.cells.now) replayer.now.form replayer.now.profile
             self.new (used ++ 10 ∷ []) (out ++ self.new.text.items)) }
         ensures taken { self.new.taken ≡ self.old.taken + 1 }
-        ensures only { IfErr result (λ fault. fault ≡ ReplayFault.Memory) }
     {
         self.taken += 1;
         self.settle(alloc, replayer)
@@ -138,12 +137,11 @@ impl ReplayState {
         &mut self,
         alloc: Global,
         replayer: &Replayer<C>,
-    ) -> Result<(), ReplayFault>
+    ) -> Result<(), AllocError>
         ensures stands { (used out : List ℕ)
             → Stands (C.cell_of replayer.now.cells.now) replayer.now.form replayer.now.profile self.old used out
             → OnOk result (StandsAtEnd (C.cell_of replayer.now.cells.now) replayer.now.form replayer.now.profile
             self.new used (out ++ self.new.text.items)) }
-        ensures only { IfErr result (λ fault. fault ≡ ReplayFault.Memory) }
     {
         if !self.holds_line() {
             self.text.clear();
@@ -165,10 +163,9 @@ impl ReplayState {
     }
 
     /// Sets `text` to the line of the counts.
-    pub fn total(&mut self) -> Result<(), ReplayFault>
+    pub fn total(&mut self) -> Result<(), AllocError>
         ensures text { OnOk result (self.new.text.items ≡ total_text self.old.report) }
         ensures report { self.new.report ≡ self.old.report }
-        ensures only { IfErr result (λ fault. fault ≡ ReplayFault.Memory) }
     {
         self.text.clear();
         push_total(&mut self.text, self.report)?;
@@ -180,12 +177,11 @@ impl ReplayState {
         &mut self,
         alloc: Global,
         replayer: &Replayer<C>,
-    ) -> Result<(), ReplayFault>
+    ) -> Result<(), AllocError>
         requires { self.old.number < self.old.taken }
         ensures settles { OnOk result (Settles (C.cell_of replayer.now.cells.now) replayer.now.form
             replayer.now.profile self.old self.new) }
         ensures taken { self.new.taken ≡ self.old.taken }
-        ensures only { IfErr result (λ fault. fault ≡ ReplayFault.Memory) }
     {
         let finding = self.finding(alloc, replayer)?;
         self.number += 1;
@@ -202,11 +198,10 @@ impl ReplayState {
         &self,
         alloc: Global,
         replayer: &Replayer<C>,
-    ) -> Result<Finding, ReplayFault>
+    ) -> Result<Finding, AllocError>
         ensures finding { IfOk result (λ finding. (rest : List ℕ) → Holds rest self.now.line.items self.now.is_long
             → IsFinding (C.cell_of replayer.now.cells.now) replayer.now.form replayer.now.profile rest finding) }
-        ensures only { IfErr result (λ fault. fault ≡ ReplayFault.Memory) }
-        ensures memory { IfErr result (λ fault. HasMarks replayer.now.form self.now.line.items) }
+        ensures memory { OnErr result (HasMarks replayer.now.form self.now.line.items) }
     {
         if self.is_long {
             return Ok(Finding::Long);

@@ -1,16 +1,16 @@
 //! The result of a line of a test file.
 
-ghost use Rattle.std.specs.Prelude.{◌≡◌, IfOk, IfErr};
+ghost use Rattle.std.specs.Prelude.{IfOk, OnErr};
 ghost use Rattle.lbk_notation.specs.Fault.{HasMarks};
 ghost use Rattle.lbk_notation.specs.Findings.{IsFinding};
 
 use super::faults::LineFault;
-use super::findings::{Finding, ReplayFault};
+use super::findings::Finding;
 use super::line_reading::read_line;
 use super::marks::Form;
 use super::outcome::replay_line;
 use lbk_rules::{CellSource, Profile};
-use std::alloc::Global;
+use std::alloc::{AllocError, Global};
 
 /// The rules and the form for comparing the lines of a file.
 #[derive(Drop)]
@@ -21,12 +21,11 @@ pub struct Replayer<'a, C: CellSource> {
 }
 
 impl<C: CellSource> Replayer<'_, C> {
-    /// The result of a line without its line end. `Memory` is returned only for a line with marks.
-    pub fn finding(&self, alloc: Global, line: &[u8]) -> Result<Finding, ReplayFault>
+    /// The result of a line without its line end. An error comes only for a line with marks.
+    pub fn finding(&self, alloc: Global, line: &[u8]) -> Result<Finding, AllocError>
         ensures finding { IfOk result
             (IsFinding (C.cell_of self.now.cells.now) self.now.form self.now.profile line.now) }
-        ensures only { IfErr result (λ fault. fault ≡ ReplayFault.Memory) }
-        ensures memory { IfErr result (λ fault. HasMarks self.now.form line.now) }
+        ensures memory { OnErr result (HasMarks self.now.form line.now) }
     {
         match read_line(alloc, line, self.form) {
             Ok(None) => Ok(Finding::NoLine),
@@ -38,7 +37,7 @@ impl<C: CellSource> Replayer<'_, C> {
             ))),
             Err(LineFault::LineTooLong) => Ok(Finding::Long),
             Err(LineFault::Bad { at }) => Ok(Finding::Bad { at }),
-            Err(LineFault::Memory) => Err(ReplayFault::Memory),
+            Err(LineFault::Memory) => Err(AllocError),
         }
     }
 }

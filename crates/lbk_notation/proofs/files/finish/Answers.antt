@@ -6,7 +6,7 @@ use Rattle.lbk_notation.proofs.files.finish.Goals as goal
 pub returns-in_err-end_last-clause-ends : goal.returns-in_err-end_last-clause-ends
 returns-in_err-end_last-clause-ends g c =
     let p = err_from_is_err_and c.from_residual.result c.from_residual.ensures.1 in
-    rw p.1 (Ends-refused _ _ _ c.args.progress (g.W.Sink.written c.args.writer.now) p.0 (p.2 ∙ c.in_err-end_last.ensures.only))
+    rw p.1 (Ends-refused _ _ _ c.args.progress (g.W.Sink.written c.args.writer.now) p.0 p.2)
 
 pub returns-in_err-put-clause-ends : goal.returns-in_err-put-clause-ends
 returns-in_err-put-clause-ends g c =
@@ -20,7 +20,7 @@ pub returns-in_err-total-clause-ends : goal.returns-in_err-total-clause-ends
 returns-in_err-total-clause-ends g c =
     let p = err_from_is_err_and c.from_residual-in_err-total.result c.from_residual-in_err-total.ensures.1 in
     let put = rw c.text.ensures at c.in_ok-put.ensures.ok in
-    rw p.1 (Ends-uncounted _ _ _ c.args.progress c.end_last.new.self c.end_last.new.self.text.items _ _ p.0 (p.2 ∙ c.in_err-total.ensures.only)
+    rw p.1 (Ends-uncounted _ _ _ c.args.progress c.end_last.new.self c.end_last.new.self.text.items _ _ p.0 p.2
     put c.in_ok-end_last.ensures.stands)
 
 pub returns-in_err-put-2-clause-ends : goal.returns-in_err-put-2-clause-ends

@@ -55,7 +55,7 @@ loop-count-preserved g c =
           c.loop-count.invariant.reads (rw same c.in-Ok.ensures.bytes.0) c.in_ok-take_all.ensures.uses;
       few = omega (arith, c.in-Ok.ensures.reads, c.in_ok-take_all.ensures.taken, c.loop-count.invariant.few);
       none_failed_to_read = c.in-Ok.ensures.failures ∙ c.loop-count.invariant.none_failed_to_read;
-      none_failed_to_write = c.in_ok-take_all.ensures.none_failed ∙ c.loop-count.invariant.none_failed_to_write;
+      none_failed_to_write = c.in_ok-take_all.ensures.writes.none_failed ∙ c.loop-count.invariant.none_failed_to_write;
     }
 
 pub returns-in_default-clause-run : goal.returns-in_default-clause-run

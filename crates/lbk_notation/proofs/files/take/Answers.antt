@@ -1,4 +1,4 @@
-use Rattle.std.proofs.Common.{[], ◌∷◌, ◌∙◌}
+use Rattle.std.proofs.Common.{[], ◌∷◌}
 use Rattle.std.proofs.lemmas.Result.{err_from_is_err_and}
 use Rattle.lbk_notation.proofs.RunLemmas.{Uses-put, Uses-refused}
 use Rattle.lbk_notation.proofs.files.take.Goals as goal
@@ -11,8 +11,7 @@ returns-in_err-add-clause-uses g c =
 pub returns-in_err-end_line-clause-uses : goal.returns-in_err-end_line-clause-uses
 returns-in_err-end_line-clause-uses g c =
     let p = err_from_is_err_and c.from_residual-in_err-end_line.result c.from_residual-in_err-end_line.ensures.1 in
-    rw p.1 (Uses-refused _ _ _ c.args.progress.now c.end_line.new.self (c.args.byte ∷ []) (g.W.Sink.written c.args.writer.now) p.0
-    (p.2 ∙ c.in_err-end_line.ensures.only))
+    rw p.1 (Uses-refused _ _ _ c.args.progress.now c.end_line.new.self (c.args.byte ∷ []) (g.W.Sink.written c.args.writer.now) p.0 p.2)
 
 pub returns-clause-uses : goal.returns-clause-uses
 returns-clause-uses g c =
