@@ -12,7 +12,7 @@ use Rattle.lbk_chunks.specs.declared.cut_block.Mark.{Mark}
 use Rattle.lbk_chunks.specs.declared.window.Window.{Window}
 use Rattle.lbk_chunks.specs.declared.chunk.Here.{Here}
 use Rattle.lbk_chunks.specs.Chunks.{AreChunks, AreTold, after, are_limits, chunk_to, cuts_past, end_of, fits}
-use Rattle.lbk_chunks.specs.Coming.{AreCutsPast, AreGiven, AreKept, ChunksCome, IsAhead, IsGiven, IsMark, IsStanding, Knows, here_of}
+use Rattle.lbk_chunks.specs.Coming.{AreCutsPast, AreGiven, AreKept, ChunksCome, IsAhead, IsGiven, IsMark, IsStanding, KeepsCuts, Knows, here_of}
 use Rattle.lbk_chunks.proofs.CutLemmas.{cut-one}
 
 -- the elements in front, and one more
@@ -148,3 +148,30 @@ knows-first cell table text limits state to_come window come same are =
       home = (let at = ap (λ (m : Mark). m.at) same in omega (arith, at));
       told = s.told;
     }
+
+-- what is kept twice is kept, and where a search begins doesn't matter to it
+pub keeps-more : (table : FlatTable) (text : List ℕ) (first next last : Window) → KeepsCuts table text first next → KeepsCuts table text next last
+    → KeepsCuts table text first last
+keeps-more table text first next last keeps more = record {
+  kept = more.kept;
+  home = more.home ∙ keeps.home;
+  are = λ cell cuts rising are. more.are cell cuts rising (keeps.are cell cuts rising are);
+}
+
+pub keeps-from : (table : FlatTable) (text : List ℕ) (old new : Window) (next : ℕ) → KeepsCuts table text old new
+    → KeepsCuts table text old (record new { next = next })
+keeps-from table text old new next keeps = record {
+  kept = record { older = keeps.kept.older; newer = keeps.kept.newer; words = keeps.kept.words };
+  home = keeps.home;
+  are = λ cell cuts rising were. (let k = keeps.are cell cuts rising were in record { older = k.older; newer = k.newer; home = k.home });
+}
+
+-- and the start of a chunk stays behind the place from which cuts can be read again
+pub keeps-behind : (table : FlatTable) (text : List ℕ) (old new : Window) (at : ℕ) → KeepsCuts table text old new → old.home.at ≤ at → new.home.at ≤ at
+keeps-behind table text old new at keeps before = home-same old new at keeps.home before
+
+pub knows-still : (cell : ℕ → Cell) (table : FlatTable) (text : List ℕ) (cuts : List Cut) (old new : Window) (here : Here) → KeepsCuts table text old new
+    → Knows cell table text cuts old here → Knows cell table text cuts new here
+knows-still cell table text cuts old new here keeps knows =
+    knows-on cell table text cuts old new here here knows (keeps.are cell cuts knows.rising knows.kept) (keeps-behind table text old new here.start keeps knows.home)
+    knows.told

@@ -92,6 +92,12 @@ pub record AreRead (text : List ℕ) (block : WordBlock) : Type 0 where
   pub some : 0 < block.room
   pub most : block.room ≤ 64
 
+-- the words from a byte on are in a block, or there are none
+pub record IsLoaded (text : List ℕ) (at : ℕ) (block : WordBlock) : Type 0 where
+  pub read : AreRead text block
+  pub from : block.from ≡ at
+  pub none : block.next ≡ block.count → words_on text at ≡ []
+
 -- the first word from a byte on
 pub record IsFirstWord (text : List ℕ) (from : ℕ) (word : Word) : Type 0 where
   pub joined : words_on text from ≡ word ∷ words_on text word.end
@@ -174,6 +180,13 @@ pub record AreKept (cell : ℕ → Cell) (table : FlatTable) (text : List ℕ) (
   pub older : IsBlock cell table text cuts window.older
   pub newer : IsBlock cell table text cuts window.newer
   pub home : IsMark cell table text cuts window.home
+
+-- what a window has of the cuts of a text, and the place from which it can read them again, it keeps
+pub record KeepsCuts (table : FlatTable) (text : List ℕ) (old new : Window) : Type 0 where
+  pub kept : IsKept text new
+  pub home : new.home ≡ old.home
+  pub are : (cell : ℕ → Cell) (cuts : List Cut) → AreCutsPast 0 cuts → AreKept cell table text cuts old
+      → AreKept cell table text cuts new
 
 -- the window has the cuts of a text from the start of a chunk on
 pub record Knows (cell : ℕ → Cell) (table : FlatTable) (text : List ℕ) (cuts : List Cut) (window : Window) (here : Here) : Type 0 where

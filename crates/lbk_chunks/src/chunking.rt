@@ -10,9 +10,9 @@ ghost use Rattle.lbk_chunks.specs.declared.cut.Cut.{Cut};
 ghost use Rattle.lbk_rules.specs.declared.flat_table.FlatTable.{FlatTable};
 ghost use Rattle.lbk_chunks.specs.Chunks.{AreChunks, AreTold, after, are_limits, cuts_past, is_early};
 ghost use Rattle.lbk_chunks.specs.Chunks.{may_start, start_at, text_start};
-ghost use Rattle.lbk_chunks.specs.Coming.{AreGiven, AreKept, ArePlaced, ChunksCome, IsCutOf, IsEnd, IsEnding};
-ghost use Rattle.lbk_chunks.specs.Coming.{IsGiven, IsKept, IsStanding, Knows, state_start};
-ghost use Rattle.lbk_chunks.specs.Cuts.{AreCutsPast, cuts_of};
+ghost use Rattle.lbk_chunks.specs.Coming.{AreGiven, ArePlaced, ChunksCome, IsCutOf, IsEnd, IsEnding};
+ghost use Rattle.lbk_chunks.specs.Coming.{IsGiven, IsKept, IsStanding, KeepsCuts, Knows, state_start};
+ghost use Rattle.lbk_chunks.specs.Cuts.{cuts_of};
 
 use crate::choosing::{are_limits, fits, is_early, may_start};
 use crate::chunk::{Chunk, ChunkState, Here, Limits};
@@ -129,10 +129,7 @@ fn next_chunk(
     window: &mut Window,
 ) -> Option<Given>
     requires { IsKept text.now window.old }
-    ensures kept { IsKept text.now window.new }
-    ensures home { window.new.home ≡ window.old.home }
-    ensures are { (cell : ℕ → Cell) (cuts : List Cut) → AreCutsPast 0 cuts
-        → AreKept cell table.now text.now cuts window.old → AreKept cell table.now text.now cuts window.new }
+    ensures keeps { KeepsCuts table.now text.now window.old window.new }
     ensures given { (cell : ℕ → Cell) (cuts : List Cut) → Knows cell table.now text.now cuts window.old here.now
         → MatchOption result (cuts_past here.now.told cuts ≡ []) (IsGiven limits.now cuts here.now) }
     ensures places { IfSome result (λ given. (given.chunk.start ≡ here.now.start)
@@ -179,10 +176,7 @@ fn chunk_end(
     window: &mut Window,
 ) -> Option<Cut>
     requires { IsKept text.now window.old }
-    ensures kept { IsKept text.now window.new }
-    ensures home { window.new.home ≡ window.old.home }
-    ensures are { (cell : ℕ → Cell) (cuts : List Cut) → AreCutsPast 0 cuts
-        → AreKept cell table.now text.now cuts window.old → AreKept cell table.now text.now cuts window.new }
+    ensures keeps { KeepsCuts table.now text.now window.old window.new }
     ensures end { (cell : ℕ → Cell) (cuts : List Cut) → Knows cell table.now text.now cuts window.old here.now
         → MatchOption result (cuts_past here.now.told cuts ≡ [])
         (λ end. IsEnd limits.now cuts here.now end × IsCutOf cuts end) }
@@ -304,10 +298,7 @@ fn next_start(
     window: &mut Window,
 ) -> Here
     requires { IsKept text.now window.old }
-    ensures kept { IsKept text.now window.new }
-    ensures home { window.new.home ≡ window.old.home }
-    ensures are { (cell : ℕ → Cell) (cuts : List Cut) → AreCutsPast 0 cuts
-        → AreKept cell table.now text.now cuts window.old → AreKept cell table.now text.now cuts window.new }
+    ensures keeps { KeepsCuts table.now text.now window.old window.new }
     ensures next { (cell : ℕ → Cell) (cuts : List Cut) → Knows cell table.now text.now cuts window.old here.now
         → here.now.told < end.now.at → IsCutOf cuts end.now
         → (result ≡ after limits.now cuts here.now end.now) × IsStanding cuts result.start result.words }

@@ -4,7 +4,8 @@ ghost use Rattle.std.specs.Prelude.{◌≡◌, ◌⊎◌, ℕ, ◌<◌, ◌≤�
 ghost use Rattle.lbk_rules.specs.declared.Cell.{Cell};
 ghost use Rattle.lbk_chunks.specs.declared.cut.Cut.{Cut};
 ghost use Rattle.lbk_chunks.specs.Chunks.{cuts_past};
-ghost use Rattle.lbk_chunks.specs.Coming.{AreKept, IsAhead, IsBlock, IsKept, IsMark, IsSafe, IsStanding, breaks_left};
+ghost use Rattle.lbk_chunks.specs.Coming.{AreKept, IsAhead, IsBlock, IsKept, IsMark, IsSafe, IsStanding, KeepsCuts};
+ghost use Rattle.lbk_chunks.specs.Coming.{breaks_left};
 ghost use Rattle.lbk_chunks.specs.Cuts.{AreCutsPast};
 
 use crate::cursor::fill_cuts;
@@ -55,10 +56,7 @@ impl Window {
     #[inline(always)]
     pub(crate) fn first_past(&mut self, table: &FlatTable, text: &[u8], at: usize) -> Option<Cut>
         requires { IsKept text.now self.old }
-        ensures kept { IsKept text.now self.new }
-        ensures home { self.new.home ≡ self.old.home }
-        ensures are { (cell : ℕ → Cell) (cuts : List Cut) → AreCutsPast 0 cuts
-            → AreKept cell table.now text.now cuts self.old → AreKept cell table.now text.now cuts self.new }
+        ensures keeps { KeepsCuts table.now text.now self.old self.new }
         ensures first { (cell : ℕ → Cell) (cuts : List Cut) → AreCutsPast 0 cuts
             → AreKept cell table.now text.now cuts self.old → self.old.home.at ≤ at
             → MatchOption result (cuts_past at cuts ≡ []) (λ cut. cuts_past at cuts ≡ cut ∷ cuts_past cut.at cuts) }
@@ -98,10 +96,7 @@ impl Window {
     /// Reads the cuts again from the place that is kept, if the newer ones are past a byte.
     fn reread(&mut self, table: &FlatTable, text: &[u8], at: usize)
         requires { IsKept text.now self.old }
-        ensures kept { IsKept text.now self.new }
-        ensures home { self.new.home ≡ self.old.home }
-        ensures are { (cell : ℕ → Cell) (cuts : List Cut) → AreCutsPast 0 cuts
-            → AreKept cell table.now text.now cuts self.old → AreKept cell table.now text.now cuts self.new }
+        ensures keeps { KeepsCuts table.now text.now self.old self.new }
         ensures before { self.old.home.at ≤ at → self.new.newer.before.at ≤ at }
     {
         if self.newer.before.at <= at {
@@ -115,10 +110,7 @@ impl Window {
     fn read_on(&mut self, table: &FlatTable, text: &[u8])
         requires kept { IsKept text.now self.old }
         requires full { self.old.newer.count ≡ self.old.newer.room }
-        ensures kept { IsKept text.now self.new }
-        ensures home { self.new.home ≡ self.old.home }
-        ensures are { (cell : ℕ → Cell) (cuts : List Cut) → AreCutsPast 0 cuts
-            → AreKept cell table.now text.now cuts self.old → AreKept cell table.now text.now cuts self.new }
+        ensures keeps { KeepsCuts table.now text.now self.old self.new }
         ensures before { self.new.newer.before ≡ self.old.newer.behind }
         ensures shorter { (self.new.newer.count ≡ 0)
             ⊎ (breaks_left text.now self.new.newer.behind.place.breaks < breaks_left text.now
@@ -136,10 +128,7 @@ impl Window {
     #[inline(never)]
     fn read_past(&mut self, table: &FlatTable, text: &[u8], at: usize) -> bool
         requires { IsKept text.now self.old }
-        ensures kept { IsKept text.now self.new }
-        ensures home { self.new.home ≡ self.old.home }
-        ensures are { (cell : ℕ → Cell) (cuts : List Cut) → AreCutsPast 0 cuts
-            → AreKept cell table.now text.now cuts self.old → AreKept cell table.now text.now cuts self.new }
+        ensures keeps { KeepsCuts table.now text.now self.old self.new }
         ensures reaches { result ≡ true → (self.new.newer.before.at ≤ at) × (at < self.new.newer.behind.at) }
         ensures none { (cell : ℕ → Cell) (cuts : List Cut) → AreCutsPast 0 cuts
             → AreKept cell table.now text.now cuts self.old → self.old.home.at ≤ at

@@ -2,7 +2,7 @@
 
 ghost use Rattle.std.specs.Prelude.{◌≡◌, ℕ, ◌-◌, ◌<◌, List, [], IfSome, MatchOption};
 ghost use Rattle.lbk_words.specs.Words.{words_on};
-ghost use Rattle.lbk_chunks.specs.Coming.{AreRead, IsFirstWord};
+ghost use Rattle.lbk_chunks.specs.Coming.{AreRead, IsFirstWord, IsLoaded};
 
 use lbk_words::{Word, fill};
 
@@ -48,9 +48,7 @@ impl WordBlock {
     #[inline(always)]
     fn load(&mut self, text: &[u8], from: usize)
         requires { AreRead text.now self.old }
-        ensures read { AreRead text.now self.new }
-        ensures from { self.new.from ≡ from }
-        ensures none { self.new.next ≡ self.new.count → words_on text.now from ≡ [] }
+        ensures { IsLoaded text.now from self.new }
     {
         if self.from == from && self.next < self.count {
             return;
@@ -65,9 +63,7 @@ impl WordBlock {
     #[inline(never)]
     fn read(&mut self, text: &[u8], from: usize)
         requires { AreRead text.now self.old }
-        ensures read { AreRead text.now self.new }
-        ensures from { self.new.from ≡ from }
-        ensures none { self.new.next ≡ self.new.count → words_on text.now from ≡ [] }
+        ensures { IsLoaded text.now from self.new }
     {
         let filled = fill::<true>(text, from, &mut self.words[..self.room]);
         self.from = from;

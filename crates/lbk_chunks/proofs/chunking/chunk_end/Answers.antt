@@ -3,7 +3,7 @@ use Rattle.std.specs.Option.{unwrap_or}
 use Rattle.lbk_chunks.specs.Chunks.{is_early}
 use Rattle.lbk_chunks.proofs.CutLemmas.{cut-past}
 use Rattle.lbk_chunks.proofs.EndLemmas.{end-alone, end-begins, end-full, end-goes, end-whole, placed-on}
-use Rattle.lbk_chunks.proofs.GivenLemmas.{home-same, knows-on}
+use Rattle.lbk_chunks.proofs.GivenLemmas.{keeps-behind, keeps-from, keeps-more, knows-still}
 use Rattle.lbk_chunks.proofs.chunking.chunk_end.Goals as goal
 
 pub returns-then-not-fits-clause-end : goal.returns-then-not-fits-clause-end
@@ -25,18 +25,15 @@ loop-next-init c =
     let u = c.fit_up_to-begun in
     let on = c.fit_on-so_far.ensures in
     record {
-      kept = record { older = f.kept.older; newer = f.kept.newer; words = f.kept.words };
-      home = f.home;
-      are = λ cell cuts rising kept. (let k = f.are cell cuts rising kept in record { older = k.older; newer = k.newer; home = k.home });
+      keeps = keeps-from c.args.table.now c.args.text.now c.args.window.now c.first_past.new.self c.fit_on-so_far.result.next f.keeps;
       ending = λ cell cuts knows. (
           let joined = f.first cell cuts knows.rising knows.kept (omega (arith, knows.home, knows.told)) in
           on.ending cell c.args.table.now c.args.text.now cuts
-          (knows-on cell c.args.table.now c.args.text.now cuts c.args.window.now c.first_past.new.self here here knows (f.are cell cuts knows.rising knows.kept)
-          (home-same c.args.window.now c.first_past.new.self here.start f.home knows.home) knows.told)
-          f.kept
+          (knows-still cell c.args.table.now c.args.text.now cuts c.args.window.now c.first_past.new.self here f.keeps knows)
+          f.keeps.kept
           (end-begins c.args.limits.now cuts here first u.result.last u.result.early joined (cut-past cuts here.told first _ knows.rising joined)
           (sym (c.fits.ensures first refl refl) ∙ c.if-not-fits.false) u.ensures.last u.ensures.early));
-      placed = on.placed c.args.text.now f.kept
+      placed = on.placed c.args.text.now f.keeps.kept
           (placed-on here.told _ (is_early c.args.limits.now here first) first u.result.last None u.result.early (f.places.0, f.places.1)
           (λ g no. absurd (let wrong : ⊥ = cc in wrong)) u.ensures.last u.ensures.early);
     }
@@ -51,22 +48,19 @@ loop-next-preserved c =
     let u = c.fit_up_to-begun-in-Some-first_past in
     let on = c.fit_on-so_far-in-Some-first_past.ensures in
     let window = c.first_past-in-loop-next.new.self in
+    let keeps = keeps-more c.args.table.now c.args.text.now c.args.window.now c.loop-next.window window i.keeps f.keeps in
     record {
-      kept = record { older = f.kept.older; newer = f.kept.newer; words = f.kept.words };
-      home = f.home ∙ i.home;
-      are = λ cell cuts rising kept. (let k = f.are cell cuts rising (i.are cell cuts rising kept) in record { older = k.older; newer = k.newer; home = k.home });
+      keeps = keeps-from c.args.table.now c.args.text.now c.args.window.now window c.fit_on-so_far-in-Some-first_past.result.next keeps;
       ending = λ cell cuts knows. (
-          let were = i.are cell cuts knows.rising knows.kept in
-          let joined = f.first cell cuts knows.rising were
-          (home-same c.args.window.now c.loop-next.window last.at i.home (omega (arith, knows.home, knows.told, i.placed.0.0))) in
+          let joined = f.first cell cuts knows.rising (i.keeps.are cell cuts knows.rising knows.kept)
+          (keeps-behind c.args.table.now c.args.text.now c.args.window.now c.loop-next.window last.at i.keeps (omega (arith, knows.home, knows.told, i.placed.0.0))) in
           on.ending cell c.args.table.now c.args.text.now cuts
-          (knows-on cell c.args.table.now c.args.text.now cuts c.args.window.now window here here knows (f.are cell cuts knows.rising were)
-          (home-same c.args.window.now window here.start (f.home ∙ i.home) knows.home) knows.told)
-          f.kept
+          (knows-still cell c.args.table.now c.args.text.now cuts c.args.window.now window here keeps knows)
+          f.keeps.kept
           (end-goes c.args.limits.now cuts here last next u.result.last c.loop-next.so_far.early u.result.early (i.ending cell cuts knows) joined
           (cut-past cuts last.at next _ knows.rising joined)
           (sym (c.fits-in-Some-first_past.ensures next refl refl) ∙ c.if-not-fits-2.false) u.ensures.last u.ensures.early));
-      placed = on.placed c.args.text.now f.kept
+      placed = on.placed c.args.text.now f.keeps.kept
           (placed-on here.told _ (is_early c.args.limits.now here next) next u.result.last c.loop-next.so_far.early u.result.early (omega (arith, i.placed.0.0, f.places.0), f.places.1)
           i.placed.1 u.ensures.last u.ensures.early);
     }
@@ -76,8 +70,8 @@ returns-in-Some-early-clause-end c = λ cell cuts knows.
     let last = c.loop-next.so_far.last in
     let next = c.in-Some-first_past.next in
     let i = c.loop-next.invariant in
-    let joined = c.in-Some-first_past.ensures.first cell cuts knows.rising (i.are cell cuts knows.rising knows.kept)
-    (home-same c.args.window.now c.loop-next.window last.at i.home (omega (arith, knows.home, knows.told, i.placed.0.0))) in
+    let joined = c.in-Some-first_past.ensures.first cell cuts knows.rising (i.keeps.are cell cuts knows.rising knows.kept)
+    (keeps-behind c.args.table.now c.args.text.now c.args.window.now c.loop-next.window last.at i.keeps (omega (arith, knows.home, knows.told, i.placed.0.0))) in
     end-full c.args.limits.now cuts c.args.here.now last next _ c.loop-next.so_far.early (i.ending cell cuts knows) joined
     (sym (c.fits-in-Some-first_past.ensures next refl refl) ∙ c.if-not-fits-2.true) (ap (λ e. unwrap_or e last) c.in-Some-early.is)
 
@@ -86,15 +80,10 @@ returns-then-not-fits-2-clause-end c = λ cell cuts knows.
     let last = c.loop-next.so_far.last in
     let next = c.in-Some-first_past.next in
     let i = c.loop-next.invariant in
-    let joined = c.in-Some-first_past.ensures.first cell cuts knows.rising (i.are cell cuts knows.rising knows.kept)
-    (home-same c.args.window.now c.loop-next.window last.at i.home (omega (arith, knows.home, knows.told, i.placed.0.0))) in
+    let joined = c.in-Some-first_past.ensures.first cell cuts knows.rising (i.keeps.are cell cuts knows.rising knows.kept)
+    (keeps-behind c.args.table.now c.args.text.now c.args.window.now c.loop-next.window last.at i.keeps (omega (arith, knows.home, knows.told, i.placed.0.0))) in
     end-full c.args.limits.now cuts c.args.here.now last next _ c.loop-next.so_far.early (i.ending cell cuts knows) joined
     (sym (c.fits-in-Some-first_past.ensures next refl refl) ∙ c.if-not-fits-2.true) (ap (λ e. unwrap_or e last) c.in_default-early.is)
-
-pub returns-in-Some-early-clause-are : goal.returns-in-Some-early-clause-are
-returns-in-Some-early-clause-are c = λ cell cuts rising kept.
-    let k = c.in-Some-first_past.ensures.are cell cuts rising (c.loop-next.invariant.are cell cuts rising kept) in
-    record { older = k.older; newer = k.newer; home = k.home }
 
 pub returns-clause-end : goal.returns-clause-end
 returns-clause-end c = λ cell cuts knows.
@@ -102,13 +91,23 @@ returns-clause-end c = λ cell cuts knows.
     let i = c.loop-next.invariant in
     let e = i.ending cell cuts knows in (
       end-whole c.args.limits.now cuts c.args.here.now last c.loop-next.so_far.early e
-          (c.in_default-first_past.ensures.first cell cuts knows.rising (i.are cell cuts knows.rising knows.kept)
-          (home-same c.args.window.now c.loop-next.window last.at i.home (omega (arith, knows.home, knows.told, i.placed.0.0)))),
+          (c.in_default-first_past.ensures.first cell cuts knows.rising (i.keeps.are cell cuts knows.rising knows.kept)
+          (keeps-behind c.args.table.now c.args.text.now c.args.window.now c.loop-next.window last.at i.keeps (omega (arith, knows.home, knows.told, i.placed.0.0)))),
       e.cut,
     )
 
-pub returns-then-not-fits-2-clause-are : goal.returns-then-not-fits-2-clause-are
-returns-then-not-fits-2-clause-are c = λ cell cuts rising kept. c.in-Some-first_past.ensures.are cell cuts rising (c.loop-next.invariant.are cell cuts rising kept)
+pub returns-in-Some-early-clause-keeps : goal.returns-in-Some-early-clause-keeps
+returns-in-Some-early-clause-keeps c =
+    let window = c.first_past-in-loop-next.new.self in
+    keeps-from c.args.table.now c.args.text.now c.args.window.now window c.loop-next.so_far.next_early
+    (keeps-more c.args.table.now c.args.text.now c.args.window.now c.loop-next.window window c.loop-next.invariant.keeps c.in-Some-first_past.ensures.keeps)
 
-pub returns-clause-are : goal.returns-clause-are
-returns-clause-are c = λ cell cuts rising kept. c.in_default-first_past.ensures.are cell cuts rising (c.loop-next.invariant.are cell cuts rising kept)
+pub returns-then-not-fits-2-clause-keeps : goal.returns-then-not-fits-2-clause-keeps
+returns-then-not-fits-2-clause-keeps c =
+    keeps-more c.args.table.now c.args.text.now c.args.window.now c.loop-next.window c.first_past-in-loop-next.new.self
+    c.loop-next.invariant.keeps c.in-Some-first_past.ensures.keeps
+
+pub returns-clause-keeps : goal.returns-clause-keeps
+returns-clause-keeps c =
+    keeps-more c.args.table.now c.args.text.now c.args.window.now c.loop-next.window c.first_past-in-loop-next.new.self
+    c.loop-next.invariant.keeps c.in_default-first_past.ensures.keeps

@@ -1,14 +1,12 @@
-use Rattle.std.proofs.Common.{ℕ, ◌≡◌, ◌-◌, List, length}
+use Rattle.std.proofs.Common.{ℕ, ◌-◌, List, length}
 use Rattle.lbk_rules.specs.declared.Cell.{Cell}
 use Rattle.lbk_chunks.specs.declared.cut.Cut.{Cut}
-use Rattle.lbk_chunks.specs.Coming.{AreCutsPast, AreKept, ArePlaced, IsEnding, IsKept, Knows}
+use Rattle.lbk_chunks.specs.Coming.{ArePlaced, IsEnding, KeepsCuts, Knows}
 use Rattle.lbk_chunks.proofs.chunking.chunk_end.Given as goal
 
 abbrev pub invariant-loop-next : goal.invariant-loop-next
 invariant-loop-next l = record {
-  kept : IsKept l.text l.window;
-  home : l.window.home ≡ l.fn.window.home;
-  are : (cell : ℕ → Cell) (cuts : List Cut) → AreCutsPast 0 cuts → AreKept cell l.table l.text cuts l.fn.window → AreKept cell l.table l.text cuts l.window;
+  keeps : KeepsCuts l.table l.text l.fn.window l.window;
   ending : (cell : ℕ → Cell) (cuts : List Cut) → Knows cell l.table l.text cuts l.fn.window l.here → IsEnding l.limits cuts l.here l.so_far.last l.so_far.early;
   placed : ArePlaced l.here.told (length l.text) l.so_far;
 }

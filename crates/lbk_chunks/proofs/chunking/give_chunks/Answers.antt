@@ -3,7 +3,7 @@ use Rattle.std.proofs.lemmas.List.{take_more_set}
 use Rattle.std.proofs.Math.ListN.{length-set}
 use Rattle.lbk_chunks.specs.declared.chunk.Chunk.{Chunk}
 use Rattle.lbk_chunks.specs.Chunks.{AreTold}
-use Rattle.lbk_chunks.proofs.GivenLemmas.{give-more, give-none, home-same, knows-on, none-more, told-more}
+use Rattle.lbk_chunks.proofs.GivenLemmas.{give-more, give-none, keeps-behind, knows-on, knows-still, none-more, told-more}
 use Rattle.lbk_chunks.proofs.chunking.give_chunks.Goals as goal
 
 pub loop-count-init : goal.loop-count-init
@@ -25,7 +25,7 @@ loop-count-preserved c =
     let text = c.args.text.now in
     let more = take_more_set c.loop-count.out count given.chunk c.loop-count-test.true in
     record {
-      kept = c.settle.ensures.kept text g.kept;
+      kept = c.settle.ensures.kept text g.keeps.kept;
       room = omega (arith, length-set {A = Chunk}, c.loop-count-test.true);
       told = subst (AreTold c.args.here.now.told given.next.told (length text)) (sym more)
           (subst (λ n. AreTold c.args.here.now.told n (length text) (take count c.loop-count.out ++ given.chunk ∷ [])) (sym places.3)
@@ -38,8 +38,8 @@ loop-count-preserved c =
           let now = g.given cell cuts k in
           let onward = g.onward i.order in
           let on = knows-on cell c.args.table.now text cuts c.loop-count.window c.settle.new.self c.loop-count.here given.next k
-          (c.settle.ensures.are cell c.args.table.now text cuts (g.are cell cuts k.rising k.kept))
-          (c.settle.ensures.home (home-same c.loop-count.window c.next_chunk.new.window given.next.start g.home (omega (arith, k.home, onward)))) places.4 in
+          (c.settle.ensures.are cell c.args.table.now text cuts (g.keeps.are cell cuts k.rising k.kept))
+          (c.settle.ensures.home (keeps-behind c.args.table.now text c.loop-count.window c.next_chunk.new.window given.next.start g.keeps (omega (arith, k.home, onward)))) places.4 in
           give-more cell c.args.table.now text c.args.limits.now cuts to_come count c.loop-count.out _ c.loop-count.window c.settle.new.self c.loop-count.here given were now more on);
     }
 
@@ -55,8 +55,7 @@ returns-in_default-clause-given c = λ cell cuts to_come knows are.
         few = were.few;
         front = were.front;
         rest = were.rest;
-        knows = knows-on cell c.args.table.now c.args.text.now cuts c.loop-count.window c.next_chunk.new.window c.loop-count.here c.loop-count.here k (g.are cell cuts k.rising k.kept)
-            (home-same c.loop-count.window c.next_chunk.new.window c.loop-count.here.start g.home k.home) k.told;
+        knows = knows-still cell c.args.table.now c.args.text.now cuts c.loop-count.window c.next_chunk.new.window c.loop-count.here g.keeps k;
         stands = were.stands;
       },
       omega (arith, none, i.room, c.loop-count.auto.out),

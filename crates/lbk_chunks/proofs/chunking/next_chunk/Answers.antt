@@ -1,13 +1,12 @@
 use Rattle.std.proofs.Common.{ap, not, refl, arith}
-use Rattle.lbk_chunks.proofs.GivenLemmas.{chunk-same, home-same, knows-on}
+use Rattle.lbk_chunks.proofs.GivenLemmas.{chunk-same, keeps-more, knows-still}
 use Rattle.lbk_chunks.proofs.chunking.next_chunk.Goals as goal
 
 pub returns-clause-given : goal.returns-clause-given
 returns-clause-given c = λ cell cuts knows.
     let e = c.in-Some.ensures in
     let end = e.end cell cuts knows in
-    let on = knows-on cell c.args.table.now c.args.text.now cuts c.args.window.now c.chunk_end.new.window c.args.here.now c.args.here.now knows (e.are cell cuts knows.rising knows.kept)
-    (home-same c.args.window.now c.chunk_end.new.window c.args.here.now.start e.home knows.home) knows.told in
+    let on = knows-still cell c.args.table.now c.args.text.now cuts c.args.window.now c.chunk_end.new.window c.args.here.now e.keeps knows in
     let next = c.next_start.ensures.next cell cuts on e.places.0 end.1 in
     record {
       end = c.in-Some.end;
@@ -17,5 +16,6 @@ returns-clause-given c = λ cell cuts knows.
       stands = next.1;
     }
 
-pub returns-clause-are : goal.returns-clause-are
-returns-clause-are c = λ cell cuts rising kept. c.next_start.ensures.are cell cuts rising (c.in-Some.ensures.are cell cuts rising kept)
+pub returns-clause-keeps : goal.returns-clause-keeps
+returns-clause-keeps c =
+    keeps-more c.args.table.now c.args.text.now c.args.window.now c.chunk_end.new.window c.next_start.new.window c.in-Some.ensures.keeps c.next_start.ensures.keeps

@@ -2,7 +2,7 @@ use Rattle.std.proofs.Common.{Some, None, ap, refl, sym, ◌∙◌, arith}
 use Rattle.std.specs.Prelude.{find}
 use Rattle.lbk_chunks.specs.Chunks.{cuts_past, may_start}
 use Rattle.lbk_chunks.proofs.CutLemmas.{cut-past, past-rising}
-use Rattle.lbk_chunks.proofs.GivenLemmas.{home-same}
+use Rattle.lbk_chunks.proofs.GivenLemmas.{keeps-behind, keeps-more}
 use Rattle.lbk_chunks.proofs.StartLemmas.{after-apart, after-found, after-last, find-all_past, find-here, find-later, find-on, stands}
 use Rattle.lbk_chunks.proofs.chunking.next_start.Goals as goal
 
@@ -21,9 +21,7 @@ returns-in_default-clause-next c = λ cell cuts knows told cut.
 
 pub loop-found-init : goal.loop-found-init
 loop-found-init c = record {
-  kept = c.in-Some.ensures.kept;
-  home = c.in-Some.ensures.home;
-  are = c.in-Some.ensures.are;
+  keeps = c.in-Some.ensures.keeps;
   onward = c.start_from-at.ensures.start;
   find = λ cell cuts knows told.
       find-later (may_start c.args.limits.now c.args.here.now c.args.end.now c.in-Some.next) c.args.here.now.start c.start_from-at.result cuts
@@ -41,13 +39,11 @@ loop-found-preserved c =
     let i = c.loop-found.invariant in
     let again = c.start_at-again.ensures in
     record {
-      kept = f.kept;
-      home = f.home ∙ i.home;
-      are = λ cell cuts rising kept. f.are cell cuts rising (i.are cell cuts rising kept);
+      keeps = keeps-more c.args.table.now c.args.text.now c.args.window.now c.loop-found.window c.first_past-in-loop-found.new.self i.keeps f.keeps;
       onward = omega (arith, i.onward, f.places.0);
       find = λ cell cuts knows told. (
-          let joined = f.first cell cuts knows.rising (i.are cell cuts knows.rising knows.kept)
-          (home-same c.args.window.now c.loop-found.window c.loop-found.at i.home (omega (arith, knows.home, i.onward))) in
+          let joined = f.first cell cuts knows.rising (i.keeps.are cell cuts knows.rising knows.kept)
+          (keeps-behind c.args.table.now c.args.text.now c.args.window.now c.loop-found.window c.loop-found.at i.keeps (omega (arith, knows.home, i.onward))) in
           let may = c.may_start.ensures end next found again refl refl in
           find-on c.args.limits.now h end next found (cuts_past found.at cuts) (cuts_past c.args.here.now.start cuts) (sym may ∙ c.if-may_start.false)
           (i.find cell cuts knows told ∙ ap (find (may_start c.args.limits.now h end next)) joined));
@@ -61,8 +57,8 @@ returns-then-end-found-clause-next c = λ cell cuts knows told cut.
     let found = c.in-Some-first_past.found in
     let i = c.loop-found.invariant in
     let n = c.in-Some.ensures.first cell cuts knows.rising knows.kept (omega (arith, knows.home, knows.told, told)) in
-    let joined = c.in-Some-first_past.ensures.first cell cuts knows.rising (i.are cell cuts knows.rising knows.kept)
-    (home-same c.args.window.now c.loop-found.window c.loop-found.at i.home (omega (arith, knows.home, i.onward))) in
+    let joined = c.in-Some-first_past.ensures.first cell cuts knows.rising (i.keeps.are cell cuts knows.rising knows.kept)
+    (keeps-behind c.args.table.now c.args.text.now c.args.window.now c.loop-found.window c.loop-found.at i.keeps (omega (arith, knows.home, i.onward))) in
     let none = i.find cell cuts knows told ∙ find-all_past c.args.limits.now h end next c.loop-found.at (cuts_past c.loop-found.at cuts) found (cuts_past found.at cuts)
     (past-rising 0 c.loop-found.at cuts knows.rising) joined c.if-end-found.true in
     let s = stands cuts c.start_at-fresh.result end end.at c.start_at-fresh.ensures cut in
@@ -76,8 +72,8 @@ returns-then-may_start-clause-next c = λ cell cuts knows told cut.
     let found = c.in-Some-first_past.found in
     let i = c.loop-found.invariant in
     let n = c.in-Some.ensures.first cell cuts knows.rising knows.kept (omega (arith, knows.home, knows.told, told)) in
-    let joined = c.in-Some-first_past.ensures.first cell cuts knows.rising (i.are cell cuts knows.rising knows.kept)
-    (home-same c.args.window.now c.loop-found.window c.loop-found.at i.home (omega (arith, knows.home, i.onward))) in
+    let joined = c.in-Some-first_past.ensures.first cell cuts knows.rising (i.keeps.are cell cuts knows.rising knows.kept)
+    (keeps-behind c.args.table.now c.args.text.now c.args.window.now c.loop-found.window c.loop-found.at i.keeps (omega (arith, knows.home, i.onward))) in
     let again = c.start_at-again.ensures in
     let may = c.may_start.ensures end next found again refl refl in
     let here = i.find cell cuts knows told ∙ ap (find (may_start c.args.limits.now h end next)) joined
@@ -93,16 +89,19 @@ returns-clause-next c = λ cell cuts knows told cut.
     let i = c.loop-found.invariant in
     let n = c.in-Some.ensures.first cell cuts knows.rising knows.kept (omega (arith, knows.home, knows.told, told)) in
     let none = i.find cell cuts knows told ∙ ap (find (may_start c.args.limits.now h end next))
-    (c.in_default-first_past.ensures.first cell cuts knows.rising (i.are cell cuts knows.rising knows.kept)
-    (home-same c.args.window.now c.loop-found.window c.loop-found.at i.home (omega (arith, knows.home, i.onward)))) in
+    (c.in_default-first_past.ensures.first cell cuts knows.rising (i.keeps.are cell cuts knows.rising knows.kept)
+    (keeps-behind c.args.table.now c.args.text.now c.args.window.now c.loop-found.window c.loop-found.at i.keeps (omega (arith, knows.home, i.onward)))) in
     let s = stands cuts c.start_at-fresh.result end end.at c.start_at-fresh.ensures cut in
     (c.start_at-fresh.ensures ∙ sym (after-found c.args.limits.now cuts (cuts_past next.at cuts) h end next None n none), s)
 
-pub returns-then-end-found-clause-are : goal.returns-then-end-found-clause-are
-returns-then-end-found-clause-are c = λ cell cuts rising kept. c.in-Some-first_past.ensures.are cell cuts rising (c.loop-found.invariant.are cell cuts rising kept)
+pub returns-then-end-found-clause-keeps : goal.returns-then-end-found-clause-keeps
+returns-then-end-found-clause-keeps c =
+    keeps-more c.args.table.now c.args.text.now c.args.window.now c.loop-found.window c.first_past-in-loop-found.new.self c.loop-found.invariant.keeps c.in-Some-first_past.ensures.keeps
 
-pub returns-then-may_start-clause-are : goal.returns-then-may_start-clause-are
-returns-then-may_start-clause-are c = λ cell cuts rising kept. c.in-Some-first_past.ensures.are cell cuts rising (c.loop-found.invariant.are cell cuts rising kept)
+pub returns-then-may_start-clause-keeps : goal.returns-then-may_start-clause-keeps
+returns-then-may_start-clause-keeps c =
+    keeps-more c.args.table.now c.args.text.now c.args.window.now c.loop-found.window c.first_past-in-loop-found.new.self c.loop-found.invariant.keeps c.in-Some-first_past.ensures.keeps
 
-pub returns-clause-are : goal.returns-clause-are
-returns-clause-are c = λ cell cuts rising kept. c.in_default-first_past.ensures.are cell cuts rising (c.loop-found.invariant.are cell cuts rising kept)
+pub returns-clause-keeps : goal.returns-clause-keeps
+returns-clause-keeps c =
+    keeps-more c.args.table.now c.args.text.now c.args.window.now c.loop-found.window c.first_past-in-loop-found.new.self c.loop-found.invariant.keeps c.in_default-first_past.ensures.keeps

@@ -3,14 +3,12 @@ use Rattle.std.specs.Prelude.{find}
 use Rattle.lbk_rules.specs.declared.Cell.{Cell}
 use Rattle.lbk_chunks.specs.declared.cut.Cut.{Cut}
 use Rattle.lbk_chunks.specs.Chunks.{cuts_past, may_start}
-use Rattle.lbk_chunks.specs.Coming.{AreCutsPast, AreKept, IsKept, Knows}
+use Rattle.lbk_chunks.specs.Coming.{KeepsCuts, Knows}
 use Rattle.lbk_chunks.proofs.chunking.next_start.Given as goal
 
 abbrev pub invariant-loop-found : goal.invariant-loop-found
 invariant-loop-found l = record {
-  kept : IsKept l.text l.window;
-  home : l.window.home ≡ l.fn.window.home;
-  are : (cell : ℕ → Cell) (cuts : List Cut) → AreCutsPast 0 cuts → AreKept cell l.table l.text cuts l.fn.window → AreKept cell l.table l.text cuts l.window;
+  keeps : KeepsCuts l.table l.text l.fn.window l.window;
   onward : l.here.start ≤ l.at;
   find : (cell : ℕ → Cell) (cuts : List Cut) → Knows cell l.table l.text cuts l.fn.window l.here → l.here.told < l.end.at
       → find (may_start l.limits l.here l.end l.next) (cuts_past l.here.start cuts)

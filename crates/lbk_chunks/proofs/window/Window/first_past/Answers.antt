@@ -1,5 +1,6 @@
-use Rattle.std.proofs.Common.{sym, ◌∙◌}
+use Rattle.std.proofs.Common.{◌+◌, sym, ◌∙◌}
 use Rattle.lbk_chunks.proofs.BlockLemmas.{block-first, reach-le}
+use Rattle.lbk_chunks.proofs.GivenLemmas.{keeps-from}
 use Rattle.lbk_chunks.proofs.window.Window.first_past.Goals as goal
 
 pub returns-then-reaches-clause-first : goal.returns-then-reaches-clause-first
@@ -24,10 +25,9 @@ returns-clause-first c = λ cell cuts rising kept home.
     let k = c.first_past-k-2 in
     let read = c.read_past.ensures in
     let within = read.reaches c.if-not-read_past.false in
-    block-first cell c.args.table.now c.args.text.now cuts rising c.read_past.new.self.newer k.result c.args.at (read.are cell cuts rising kept).newer read.kept.newer
+    block-first cell c.args.table.now c.args.text.now cuts rising c.read_past.new.self.newer k.result c.args.at (read.keeps.are cell cuts rising kept).newer read.keeps.kept.newer
     k.ensures.few within.0 k.ensures.past k.ensures.first
 
-pub returns-clause-are : goal.returns-clause-are
-returns-clause-are c = λ cell cuts rising kept.
-    let are = c.read_past.ensures.are cell cuts rising kept in
-    record { older = are.older; newer = are.newer; home = are.home }
+pub returns-clause-keeps : goal.returns-clause-keeps
+returns-clause-keeps c =
+    keeps-from c.args.table.now c.args.text.now c.args.self.now c.read_past.new.self (c.first_past-k-2.result + 1) c.read_past.ensures.keeps

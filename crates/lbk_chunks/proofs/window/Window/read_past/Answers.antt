@@ -1,30 +1,29 @@
-use Rattle.std.proofs.Common.{◌≤◌, ◌<◌, arith, ap, ◌∙◌}
+use Rattle.std.proofs.Common.{◌≤◌, ◌<◌, arith, ap}
 use Rattle.std.proofs.lemmas.Bool.Decides.{nat_tests}
 use Rattle.lbk_chunks.specs.declared.cut_block.Mark.{Mark}
 use Rattle.lbk_chunks.proofs.BlockLemmas.{block-none}
+use Rattle.lbk_chunks.proofs.GivenLemmas.{keeps-more}
 use Rattle.lbk_chunks.proofs.window.Window.read_past.Goals as goal
 
 pub loop-self-init : goal.loop-self-init
 loop-self-init c =
     let r = c.reread.ensures in
-    record { kept = r.kept; home = r.home; are = r.are; before = r.before }
+    record { keeps = r.keeps; before = r.before }
 
 pub loop-self-preserved : goal.loop-self-preserved
 loop-self-preserved c =
     let r = c.read_on.ensures in
     let i = c.loop-self.invariant in
     record {
-      kept = r.kept;
-      home = r.home ∙ i.home;
-      are = λ cell cuts rising kept. r.are cell cuts rising (i.are cell cuts rising kept);
+      keeps = keeps-more c.args.table.now c.args.text.now c.args.self.now c.loop-self.self c.read_on.new.self i.keeps r.keeps;
       before = λ _. (let same = ap (λ (m : Mark). m.at) r.before in omega (arith, same, c.loop-self-test.true));
     }
 
 pub returns-then-self-clause-none : goal.returns-then-self-clause-none
 returns-then-self-clause-none c = λ cell cuts rising kept home no.
     let i = c.loop-self.invariant in
-    let are = i.are cell cuts rising kept in
-    block-none cell c.args.table.now c.args.text.now cuts rising c.loop-self.self.newer c.args.at are.newer i.kept.newer c.if-self.true c.loop-self-test.true
+    let are = i.keeps.are cell cuts rising kept in
+    block-none cell c.args.table.now c.args.text.now cuts rising c.loop-self.self.newer c.args.at are.newer i.keeps.kept.newer c.if-self.true c.loop-self-test.true
 
 pub returns-clause-reaches : goal.returns-clause-reaches
 returns-clause-reaches c = λ yes.
