@@ -13,6 +13,7 @@ pub mod Ranges
 pub mod Chunk
 pub mod Titles
 pub mod Acts
+pub mod Taking
 pub mod Headline
 pub mod Broken
 pub mod Owned
@@ -23,7 +24,9 @@ pub mod Deciding
 pub mod Gathering
 pub mod Signing
 pub mod ReadBack
+pub mod Adding
 pub mod Placing
 pub mod Waiting
 pub mod Objects
 pub mod Chunking
+pub mod Writing

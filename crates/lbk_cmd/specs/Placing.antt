@@ -1,11 +1,16 @@
 -- A text that is written to a buffer with room for it.
-use Rattle.std.specs.Prelude.{◌≡◌, ℕ, ◌+◌, ◌/◌, ◌%◌, List, [], ◌∷◌, ◌++◌, length, take}
+use Rattle.std.specs.Prelude.{◌≡◌, ℕ, ◌+◌, ◌≤◌, ◌/◌, ◌%◌, List, [], ◌∷◌, ◌++◌, length, take}
 
 -- `new` has the text after the first `at` bytes of `old`, up to `end`; what follows may be anything
 pub record Placed (old new : List ℕ) (at : ℕ) (text : List ℕ) (end : ℕ) : Type 0 where
   pub bytes : take end new ≡ take at old ++ text
   pub moved : end ≡ at + length text
   pub len : length new ≡ length old
+
+-- the same, and the text has at most so many bytes
+pub record PlacedIn (old new : List ℕ) (at most : ℕ) (text : List ℕ) (end : ℕ) : Type 0 where
+  pub placed : Placed old new at text end
+  pub short : end ≤ at + most
 
 -- the two digits of a number below 100, with a leading zero
 abbrev pub two_digits : ℕ → List ℕ

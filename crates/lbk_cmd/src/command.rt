@@ -1,6 +1,6 @@
 //! A run of the program, from its arguments to its ending.
 
-ghost use Rattle.std.specs.Prelude.{◌≡◌, ◌≢◌, ◌+◌, ◌<◌, ◌≤◌, ◌⊎◌, Bool, [], Some, map};
+ghost use Rattle.std.specs.Prelude.{◌≡◌, ◌≢◌, ◌⊎◌, [], Some, map};
 ghost use Rattle.lbk_args.specs.Accepted.{AreAccepted};
 ghost use Rattle.lbk_args.specs.Task.{Task, task_by, task_of};
 ghost use Rattle.lbk_args.specs.PlainWords.{IsPlainFor};
@@ -8,10 +8,10 @@ ghost use Rattle.lbk_files.specs.FileFault.{counts_of};
 ghost use Rattle.lbk_files.specs.Ready.{IsStoppedByWords};
 ghost use Rattle.lbk_cmd.specs.Devices.{devices_of};
 ghost use Rattle.lbk_cmd.specs.Ending.{ending_of_text};
-ghost use Rattle.lbk_cmd.specs.declared.ending.RunFault.TheVariants.{Memory};
 ghost use Rattle.lbk_cmd.specs.declared.ending.Ending.TheVariants.{Done};
 ghost use Rattle.lbk_cmd.specs.Acts.{Performs, PerformsAlone, ShowsSamples, StopsBefore};
 ghost use Rattle.lbk_cmd.specs.Operands.{standing};
+ghost use Rattle.lbk_cmd.specs.Taking.{TakesFiles};
 
 use super::ending::Ending;
 use super::engine::show;
@@ -60,9 +60,7 @@ pub fn run<'a, S: Store, R: Source, W: Sink>(
         (devices_of R.Source W.Sink reader.old writer.old) (devices_of R.Source W.Sink reader.new writer.new) result }
     ensures unloaded { (words.entry.now ≡ []) ⊎ (¬ (AreAccepted (map (λ w. w.now) words.entry.now)))
         → S.load_count store.new ≡ S.load_count store.old }
-    ensures refused { S.refusal_count store.old < S.refusal_count store.new → result ≡ Ending.Refused Memory }
-    ensures loads { S.load_count store.new ≤ S.load_count store.old + 4 }
-    ensures files { S.file store.new ≡ S.file store.old }
+    ensures takes { TakesFiles S.Store store.old store.new result }
 {
     run_over_texts(alloc, words, store, &mut NoTexts, reader, writer)
 }
@@ -106,9 +104,7 @@ pub fn run_over_texts<'a, S: Store, T: Texts<'a>, R: Source, W: Sink>(
     ensures texts { T.contents texts.new ≡ T.contents texts.old }
     ensures unloaded { (words.entry.now ≡ []) ⊎ (¬ (AreAccepted (map (λ w. w.now) words.entry.now)))
         → S.load_count store.new ≡ S.load_count store.old }
-    ensures refused { S.refusal_count store.old < S.refusal_count store.new → result ≡ Ending.Refused Memory }
-    ensures loads { S.load_count store.new ≤ S.load_count store.old + 4 }
-    ensures files { S.file store.new ≡ S.file store.old }
+    ensures takes { TakesFiles S.Store store.old store.new result }
 {
     if words.is_empty() {
         return show_samples(alloc, reader, writer);
@@ -138,9 +134,7 @@ fn perform_order<'a, S: Store, T: Texts<'a>, R: Source, W: Sink>(
         (standing (devices_of R.Source W.Sink reader.old writer.old) (T.refused texts.old) Done)
         (standing (devices_of R.Source W.Sink reader.new writer.new) (T.refused texts.new) result) }
     ensures texts { T.contents texts.new ≡ T.contents texts.old }
-    ensures refused { S.refusal_count store.old < S.refusal_count store.new → result ≡ Ending.Refused Memory }
-    ensures loads { S.load_count store.new ≤ S.load_count store.old + 4 }
-    ensures files { S.file store.new ≡ S.file store.old }
+    ensures takes { TakesFiles S.Store store.old store.new result }
 {
     match prepare(alloc, order, store) {
         Ok(ready) => perform(alloc, &ready, texts, reader, writer),

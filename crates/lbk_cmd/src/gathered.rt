@@ -1,9 +1,7 @@
 //! Lines that are buffered until the next read.
 
 ghost use Rattle.std.specs.Prelude.{ℕ, ◌≡◌, ◌≤◌, ◌<◌, ◌⊎◌, ◌^◌, ◌++◌, List, [], length, take, true, vec_len, Err};
-ghost use Rattle.std.specs.Prelude.{OnOk, OnErr};
-ghost use Rattle.std.specs.Io.KnownBytes.{Appends};
-ghost use Rattle.lbk_feed.specs.Devices.{failures_after};
+ghost use Rattle.std.specs.Prelude.{OnOk};
 ghost use Rattle.lbk_rules.specs.declared.Cell.{Cell};
 ghost use Rattle.lbk_values.specs.declared.profile.Profile as specs;
 ghost use Rattle.lbk_passage.specs.Marks.{Marked};
@@ -15,8 +13,9 @@ ghost use Rattle.lbk_passage.specs.declared.passage.Passage.{Passage};
 ghost use Rattle.lbk_passage.specs.declared.faults.PassageFault.{PassageFault};
 ghost use Rattle.lbk_cmd.specs.Engines.{engine_of, lines_of};
 ghost use Rattle.lbk_cmd.specs.declared.engine.Lines.TheVariants as kinds;
-ghost use Rattle.lbk_cmd.specs.Gathering.{HasWritten, PutsNext, end_of};
+ghost use Rattle.lbk_cmd.specs.Gathering.{PutsNext, end_of};
 ghost use Rattle.lbk_cmd.specs.Ranges.{within};
+ghost use Rattle.lbk_cmd.specs.Writing.{WritesDue, WritesOut};
 
 use super::engine::Lines;
 use super::faults::CmdFault;
@@ -72,16 +71,9 @@ impl Gathered {
         segmenter: &mut Segmenter<'_, C>,
         writer: &mut W,
     ) -> Result<(), Failed>
-        ensures state { state_of C.cell_of segmenter.new
-            ≡ record (state_of C.cell_of segmenter.old) { is_settled = (state_of C.cell_of segmenter.new).is_settled } }
-        ensures due { OnOk result (HasWritten (W.written writer.old) (W.written writer.new) self.old.lines.items
-            self.new.lines.items
-            ⊎ ((self.new.lines.items ≡ self.old.lines.items) × (writer.new ≡ writer.old)
-            × ((state_of C.cell_of segmenter.new).is_settled ≡ true))) }
+        ensures writes { WritesDue W.Sink writer.old writer.new (state_of C.cell_of segmenter.old)
+            (state_of C.cell_of segmenter.new) self.old.lines.items self.new.lines.items result }
         ensures few { OnOk result (vec_len self.new.lines < 2 ^ 16) }
-        ensures front { OnErr result
-            ((n : ℕ) × Appends (W.written writer.old) (W.written writer.new) (take n self.old.lines.items)) }
-        ensures failures { W.failure_count writer.new ≡ failures_after (W.failure_count writer.old) result }
         ensures at { self.new.at ≡ self.old.at }
     {
         if segmenter.look_ahead() && self.lines.len() < WAITING {
@@ -92,13 +84,8 @@ impl Gathered {
 
     /// Writes the lines.
     pub fn write<W: Sink>(&mut self, writer: &mut W) -> Result<(), Failed>
-        ensures written { OnOk result
-            (HasWritten (W.written writer.old) (W.written writer.new) self.old.lines.items self.new.lines.items) }
+        ensures out { WritesOut W.Sink writer.old writer.new self.old.lines.items self.new.lines.items result }
         ensures few { OnOk result (vec_len self.new.lines ≡ 0) }
-        ensures front { OnErr result
-            ((n : ℕ) × Appends (W.written writer.old) (W.written writer.new) (take n self.old.lines.items)) }
-        ensures failures { W.failure_count writer.new ≡ failures_after (W.failure_count writer.old) result }
-        ensures nothing { self.old.lines.items ≡ [] → (result ≡ Ok tt) × (writer.new ≡ writer.old) }
         ensures at { self.new.at ≡ self.old.at }
     {
         write_all(writer, &self.lines)?;

@@ -1,7 +1,7 @@
 //! Offsets as decimal text. Most share all digits except the last four with the previous one.
 
 ghost use Rattle.std.specs.Prelude.{◌≡◌, ◌+◌, ◌/◌, ◌%◌, ◌<◌, ◌≤◌, ◌^◌, decimal, length, take};
-ghost use Rattle.lbk_cmd.specs.Placing.{Placed};
+ghost use Rattle.lbk_cmd.specs.Placing.{PlacedIn};
 
 use super::placing::{place_four, place_front};
 use itoa::write_digits;
@@ -60,8 +60,7 @@ impl Offsets {
     #[inline(always)]
     pub fn place(&mut self, buf: &mut [u8], at: usize, offset: u64) -> usize
         requires { (offset < 2 ^ 63) × (at + 20 ≤ length buf.old) }
-        ensures placed { Placed buf.old buf.new at (decimal offset) result }
-        ensures short { result ≤ at + 20 }
+        ensures { PlacedIn buf.old buf.new at 20 (decimal offset) result }
     {
         if offset.wrapping_sub(self.base) < RANGE {
             return self.place_known(buf, at, offset);
@@ -74,8 +73,7 @@ impl Offsets {
     fn place_known(&self, buf: &mut [u8], at: usize, offset: u64) -> usize
         requires known { (self.now.base ≤ offset) × (offset < self.now.base + 10000) }
         requires room { at + 20 ≤ length buf.old }
-        ensures placed { Placed buf.old buf.new at (decimal offset) result }
-        ensures short { result ≤ at + 20 }
+        ensures { PlacedIn buf.old buf.new at 20 (decimal offset) result }
     {
         let next = place_front(buf, at, self.digits.bytes, self.digits.len);
         place_four(buf, next, offset - self.base)
@@ -86,8 +84,7 @@ impl Offsets {
     #[inline(never)]
     fn place_other(&mut self, buf: &mut [u8], at: usize, offset: u64) -> usize
         requires { (offset < 2 ^ 63) × (at + 20 ≤ length buf.old) }
-        ensures placed { Placed buf.old buf.new at (decimal offset) result }
-        ensures short { result ≤ at + 20 }
+        ensures { PlacedIn buf.old buf.new at 20 (decimal offset) result }
     {
         let high = offset / RANGE;
         if high == 0 {

@@ -1,9 +1,10 @@
 //! The lines that `segment` writes for a passage.
 
-ghost use Rattle.std.specs.Prelude.{◌≡◌, ◌+◌, ◌*◌, ◌<◌, ◌≤◌, ◌^◌, ◌++◌, ◌∷◌, [], length, take, OnOk, OnErr};
+ghost use Rattle.std.specs.Prelude.{◌≡◌, ℕ, ◌+◌, ◌*◌, ◌<◌, ◌≤◌, ◌^◌, List, ◌++◌, ◌∷◌, [], length, take, OnOk, OnErr};
 ghost use Rattle.std.specs.List.{flat_map};
 ghost use Rattle.lbk_rules.specs.Labels.{label_of};
-ghost use Rattle.lbk_cmd.specs.Placing.{Placed};
+ghost use Rattle.lbk_cmd.specs.Adding.{Adds};
+ghost use Rattle.lbk_cmd.specs.Placing.{Placed, PlacedIn};
 ghost use Rattle.lbk_cmd.specs.Segment.{kind_name, part, passage_lines, segment_line, word_line};
 
 use super::offsets::Offsets;
@@ -30,14 +31,13 @@ pub fn push_segmented(
 ) -> Result<(), AllocError>
     requires start { passage.now.start ≤ 2 ^ 62 }
     requires few { length passage.now.text.now < 2 ^ 32 }
-    ensures lines { OnOk result (out.new.items ≡ out.old.items ++ passage_lines passage.now.start
-        (length passage.now.text.now) passage.now.segments.now passage.now.pieces.now) }
-    ensures kept { take (length out.old.items) out.new.items ≡ out.old.items }
+    ensures { Adds out.old.items out.new.items (passage_lines passage.now.start (length passage.now.text.now)
+        passage.now.segments.now passage.now.pieces.now) result }
 {
     let start = passage.start;
     push_passage(out, offsets, start, start + passage.text.len() as u64)?;
-    push_segments(out, offsets, start, passage.segments)?;
-    push_words(out, offsets, start, passage.pieces)
+    push_lines(out, offsets, start, passage.segments)?;
+    push_lines(out, offsets, start, passage.pieces)
 }
 
 /// Appends the line `P` of a passage to `out`.
@@ -58,147 +58,95 @@ fn push_passage(
     Ok(())
 }
 
-fn push_segments(
+/// Appends the lines of some parts of a passage to `out`.
+fn push_lines<T: HasLine>(
     out: &mut Vec<u8>,
     offsets: &mut Offsets,
     start: u64,
-    segments: &[Segment],
+    parts: &[T],
 ) -> Result<(), AllocError>
     requires { start ≤ 2 ^ 62 }
-    ensures lines { OnOk result (out.new.items ≡ out.old.items ++ flat_map (segment_line start) segments.now) }
-    ensures kept { take (length out.old.items) out.new.items ≡ out.old.items }
+    ensures { Adds out.old.items out.new.items (flat_map (T.line start) parts.now) result }
 {
-    for some in segments.chunks(PARTS) {
-        push_some_segments(out, offsets, start, some)?;
+    for some in parts.chunks(PARTS) {
+        push_few(out, offsets, start, some)?;
     }
     Ok(())
 }
 
-/// Appends the lines of a few segments to `out`.
-fn push_some_segments(
+/// Appends the lines of a few parts to `out`.
+fn push_few<T: HasLine>(
     out: &mut Vec<u8>,
     offsets: &mut Offsets,
     start: u64,
-    segments: &[Segment],
+    parts: &[T],
 ) -> Result<(), AllocError>
     requires start { start ≤ 2 ^ 62 }
-    requires few { length segments.now ≤ 64 }
-    ensures lines { OnOk result (out.new.items ≡ out.old.items ++ flat_map (segment_line start) segments.now) }
+    requires few { length parts.now ≤ 64 }
+    ensures lines { OnOk result (out.new.items ≡ out.old.items ++ flat_map (T.line start) parts.now) }
     ensures kept { OnErr result (out.new.items ≡ out.old.items) }
 {
     let at = out.len();
-    out.extend_from_slice(&ROOM[..LINE * segments.len()])?;
-    let behind = place_segments(out.as_mut_slice(), at, offsets, start, segments);
+    out.extend_from_slice(&ROOM[..LINE * parts.len()])?;
+    let behind = place_lines(out.as_mut_slice(), at, offsets, start, parts);
     out.truncate(behind);
     Ok(())
 }
 
-/// Writes the lines of some segments.
-fn place_segments(
+/// Writes the lines of some parts.
+fn place_lines<T: HasLine>(
     buf: &mut [u8],
     at: usize,
     offsets: &mut Offsets,
     start: u64,
-    segments: &[Segment],
+    parts: &[T],
 ) -> usize
     requires start { start ≤ 2 ^ 62 }
-    requires room { at + 64 * length segments.now ≤ length buf.old }
-    ensures { Placed buf.old buf.new at (flat_map (segment_line start) segments.now) result }
+    requires room { at + 64 * length parts.now ≤ length buf.old }
+    ensures { Placed buf.old buf.new at (flat_map (T.line start) parts.now) result }
 {
     let mut behind = at;
-    for segment in segments {
-        behind = place_segment(buf, behind, offsets, start, segment);
+    for part in parts {
+        behind = part.place_line(buf, behind, offsets, start);
     }
     behind
 }
 
-fn push_words(
-    out: &mut Vec<u8>,
-    offsets: &mut Offsets,
-    start: u64,
-    pieces: &[Piece],
-) -> Result<(), AllocError>
-    requires { start ≤ 2 ^ 62 }
-    ensures lines { OnOk result (out.new.items ≡ out.old.items ++ flat_map (word_line start) pieces.now) }
-    ensures kept { take (length out.old.items) out.new.items ≡ out.old.items }
-{
-    for some in pieces.chunks(PARTS) {
-        push_some_words(out, offsets, start, some)?;
+/// A part of a passage, which has a line or none.
+trait HasLine {
+    ghost line: { ℕ → Self → List ℕ };
+
+    /// Writes its line, if it has one. Its passage starts at this byte of the text.
+    fn place_line(&self, buf: &mut [u8], at: usize, offsets: &mut Offsets, start: u64) -> usize
+        requires { (start ≤ 2 ^ 62) × (at + 64 ≤ length buf.old) }
+        ensures { PlacedIn buf.old buf.new at 64 (line start self.now) result };
+}
+
+impl HasLine for Piece {
+    ghost line = { word_line };
+
+    #[inline(always)]
+    fn place_line(&self, buf: &mut [u8], at: usize, offsets: &mut Offsets, start: u64) -> usize {
+        if !self.word {
+            return at;
+        }
+        let from = start + u64::from(self.start);
+        place_line(buf, at, offsets, b'W', from, start + u64::from(self.end))
     }
-    Ok(())
 }
 
-/// Appends the lines of the words among a few pieces to `out`.
-fn push_some_words(
-    out: &mut Vec<u8>,
-    offsets: &mut Offsets,
-    start: u64,
-    pieces: &[Piece],
-) -> Result<(), AllocError>
-    requires start { start ≤ 2 ^ 62 }
-    requires few { length pieces.now ≤ 64 }
-    ensures lines { OnOk result (out.new.items ≡ out.old.items ++ flat_map (word_line start) pieces.now) }
-    ensures kept { OnErr result (out.new.items ≡ out.old.items) }
-{
-    let at = out.len();
-    out.extend_from_slice(&ROOM[..LINE * pieces.len()])?;
-    let behind = place_words(out.as_mut_slice(), at, offsets, start, pieces);
-    out.truncate(behind);
-    Ok(())
-}
+impl HasLine for Segment {
+    ghost line = { segment_line };
 
-/// Writes the lines of the words among some pieces.
-fn place_words(
-    buf: &mut [u8],
-    at: usize,
-    offsets: &mut Offsets,
-    start: u64,
-    pieces: &[Piece],
-) -> usize
-    requires start { start ≤ 2 ^ 62 }
-    requires room { at + 64 * length pieces.now ≤ length buf.old }
-    ensures { Placed buf.old buf.new at (flat_map (word_line start) pieces.now) result }
-{
-    let mut behind = at;
-    for piece in pieces {
-        behind = place_word(buf, behind, offsets, start, piece);
+    #[inline(always)]
+    fn place_line(&self, buf: &mut [u8], at: usize, offsets: &mut Offsets, start: u64) -> usize {
+        let from = start + u64::from(self.start);
+        let to = start + u64::from(self.end);
+        let next = place_part(buf, at, offsets, b'S', from, to);
+        let next = place_kind(buf, next, self.kind);
+        let end = line_end_of(self.rule);
+        place_front(buf, next, end.bytes, end.len)
     }
-    behind
-}
-
-/// Writes the line of a piece, if it is a word.
-#[inline(always)]
-fn place_word(line: &mut [u8], at: usize, offsets: &mut Offsets, start: u64, piece: &Piece) -> usize
-    requires { (start ≤ 2 ^ 62) × (at + 64 ≤ length line.old) }
-    ensures placed { Placed line.old line.new at (word_line start piece.now) result }
-    ensures short { result ≤ at + 64 }
-{
-    if !piece.word {
-        return at;
-    }
-    let from = start + u64::from(piece.start);
-    place_line(line, at, offsets, b'W', from, start + u64::from(piece.end))
-}
-
-/// Writes the line of a segment.
-#[inline(always)]
-fn place_segment(
-    line: &mut [u8],
-    at: usize,
-    offsets: &mut Offsets,
-    start: u64,
-    segment: &Segment,
-) -> usize
-    requires { (start ≤ 2 ^ 62) × (at + 64 ≤ length line.old) }
-    ensures placed { Placed line.old line.new at (segment_line start segment.now) result }
-    ensures short { result ≤ at + 64 }
-{
-    let from = start + u64::from(segment.start);
-    let to = start + u64::from(segment.end);
-    let next = place_part(line, at, offsets, b'S', from, to);
-    let next = place_kind(line, next, segment.kind);
-    let end = line_end_of(segment.rule);
-    place_front(line, next, end.bytes, end.len)
 }
 
 /// Writes a line of a letter and two offsets.
@@ -212,8 +160,7 @@ fn place_line(
     end: u64,
 ) -> usize
     requires { (start < 2 ^ 63) × (end < 2 ^ 63) × (at + 64 ≤ length line.old) }
-    ensures placed { Placed line.old line.new at (part (letter ∷ []) start end ++ 10 ∷ []) result }
-    ensures short { result ≤ at + 64 }
+    ensures { PlacedIn line.old line.new at 64 (part (letter ∷ []) start end ++ 10 ∷ []) result }
 {
     let next = place_part(line, at, offsets, letter, start, end);
     place_byte(line, next, b'\n')
@@ -230,8 +177,7 @@ fn place_part(
     end: u64,
 ) -> usize
     requires { (start < 2 ^ 63) × (end < 2 ^ 63) × (at + 43 ≤ length line.old) }
-    ensures placed { Placed line.old line.new at (part (letter ∷ []) start end) result }
-    ensures short { result ≤ at + 43 }
+    ensures { PlacedIn line.old line.new at 43 (part (letter ∷ []) start end) result }
 {
     let next = place_front(line, at, [letter, b' '], 2);
     let next = offsets.place(line, next, start);
@@ -243,8 +189,7 @@ fn place_part(
 #[inline(always)]
 pub(crate) fn place_kind(line: &mut [u8], at: usize, kind: Kind) -> usize
     requires { at + 8 ≤ length line.old }
-    ensures placed { Placed line.old line.new at (32 ∷ (kind_name kind ++ 32 ∷ [])) result }
-    ensures short { result ≤ at + 6 }
+    ensures { PlacedIn line.old line.new at 6 (32 ∷ (kind_name kind ++ 32 ∷ [])) result }
 {
     match kind {
         Kind::No => place_front(line, at, *b" No     ", 4),

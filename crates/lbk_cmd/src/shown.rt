@@ -1,6 +1,6 @@
 //! The line that `show` writes for a passage.
 
-ghost use Rattle.std.specs.Prelude.{◌≡◌, ◌+◌, ◌<◌, ◌≤◌, ◌^◌, ◌++◌, ◌∷◌, [], length, map, take, OnOk};
+ghost use Rattle.std.specs.Prelude.{◌≡◌, ◌+◌, ◌<◌, ◌^◌, ◌++◌, ◌∷◌, [], length, OnOk};
 ghost use Rattle.std.specs.Option.{ForSome};
 ghost use Rattle.std.specs.Str.{chars};
 ghost use Rattle.lbk_notation.specs.Shown.{passage_line, written_labels, passage_marks};
@@ -8,6 +8,7 @@ ghost use Rattle.lbk_notation.specs.Written.{written_line};
 ghost use Rattle.lbk_notation.specs.declared.marks.Form.TheVariants.{Kinds};
 ghost use Rattle.lbk_passage.specs.Marks.{marks, ended};
 ghost use Rattle.lbk_rules.specs.Answers.{written};
+ghost use Rattle.lbk_cmd.specs.Adding.{Adds};
 ghost use Rattle.lbk_cmd.specs.Show.{verdicts_of};
 ghost use Rattle.lbk_cmd.specs.Deciding.{placed};
 
@@ -67,9 +68,7 @@ fn now_or_none(now: Option<Verdict>) -> Verdict
 #[tactic(auto, using(crate::proofs::Places::front_append))]
 pub fn push_shown(out: &mut Vec<u8>, text: &str, verdicts: &[Verdict]) -> Result<(), AllocError>
     requires { length verdicts.now ≡ length (chars text.now) + 1 }
-    ensures line { OnOk result (out.new.items
-        ≡ out.old.items ++ (passage_line (chars text.now) verdicts.now ++ 10 ∷ [])) }
-    ensures kept { take (length out.old.items) out.new.items ≡ out.old.items }
+    ensures { Adds out.old.items out.new.items (passage_line (chars text.now) verdicts.now ++ 10 ∷ []) result }
 {
     push_marks(out, text, verdicts)?;
     out.extend_from_slice(b"\t#")?;
@@ -81,9 +80,8 @@ pub fn push_shown(out: &mut Vec<u8>, text: &str, verdicts: &[Verdict]) -> Result
 #[tactic(auto, using(crate::proofs::Places::front_append))]
 fn push_marks(out: &mut Vec<u8>, text: &str, verdicts: &[Verdict]) -> Result<(), AllocError>
     requires { length verdicts.now ≡ length (chars text.now) + 1 }
-    ensures line { OnOk result (out.new.items
-        ≡ out.old.items ++ written_line Kinds (passage_marks (chars text.now) verdicts.now)) }
-    ensures kept { take (length out.old.items) out.new.items ≡ out.old.items }
+    ensures { Adds out.old.items out.new.items (written_line Kinds (passage_marks (chars text.now) verdicts.now))
+        result }
 {
     push_mark(out, mark_of(verdicts[0].kind), Form::Kinds)?;
     let mut k = 1;
@@ -95,8 +93,7 @@ fn push_marks(out: &mut Vec<u8>, text: &str, verdicts: &[Verdict]) -> Result<(),
 }
 
 fn push_labels(out: &mut Vec<u8>, verdicts: &[Verdict]) -> Result<(), AllocError>
-    ensures labels { OnOk result (out.new.items ≡ out.old.items ++ written_labels verdicts.now) }
-    ensures kept { take (length out.old.items) out.new.items ≡ out.old.items }
+    ensures { Adds out.old.items out.new.items (written_labels verdicts.now) result }
 {
     for verdict in verdicts {
         out.push(b' ')?;

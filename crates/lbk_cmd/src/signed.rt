@@ -1,12 +1,13 @@
 //! The text that `mark` writes for a passage.
 
-ghost use Rattle.std.specs.Prelude.{◌≡◌, ◌<◌, ◌≤◌, ◌^◌, ◌++◌, [], List, drop, length, map, take, IfOk, IfSome, OnOk};
+ghost use Rattle.std.specs.Prelude.{◌≡◌, ◌<◌, ◌≤◌, ◌^◌, ◌++◌, [], List, drop, length, map, take, IfOk, IfSome};
 ghost use Rattle.std.specs.Prelude.{None, false};
 ghost use Rattle.std.specs.List.{last_or};
 ghost use Rattle.std.specs.Option.{option_map_or};
 ghost use Rattle.std.specs.Str.{chars};
 ghost use Rattle.lbk_rules.specs.Breaks.{breaks};
 ghost use Rattle.lbk_rules.specs.declared.Break.{Break};
+ghost use Rattle.lbk_cmd.specs.Adding.{Adds};
 ghost use Rattle.lbk_cmd.specs.Mark.{is_line_end, missing_line_end, sign};
 ghost use Rattle.lbk_cmd.specs.Signing.{IsCut, signed_from};
 
@@ -35,10 +36,9 @@ pub fn push_signed<C: CellSource>(
     text: &str,
     block: &mut [Break; BLOCK],
 ) -> Result<(), AllocError>
-    ensures text { OnOk result (out.new.items ≡ out.old.items
-        ++ (signed_from mark.now text.now 0 (breaks profile (C.cell_of cells.now) (chars text.now))
-        ++ missing_line_end (C.cell_of cells.now) (chars text.now))) }
-    ensures kept { take (length out.old.items) out.new.items ≡ out.old.items }
+    ensures { Adds out.old.items out.new.items
+        (signed_from mark.now text.now 0 (breaks profile (C.cell_of cells.now) (chars text.now))
+        ++ missing_line_end (C.cell_of cells.now) (chars text.now)) result }
 {
     push_text(out, mark, cells, profile, text, block)?;
     if !ends_in_line_end(cells, text) {
@@ -56,9 +56,8 @@ fn push_text<C: CellSource>(
     text: &str,
     block: &mut [Break; BLOCK],
 ) -> Result<(), AllocError>
-    ensures text { OnOk result (out.new.items
-        ≡ out.old.items ++ signed_from mark.now text.now 0 (breaks profile (C.cell_of cells.now) (chars text.now))) }
-    ensures kept { take (length out.old.items) out.new.items ≡ out.old.items }
+    ensures { Adds out.old.items out.new.items
+        (signed_from mark.now text.now 0 (breaks profile (C.cell_of cells.now) (chars text.now))) result }
 {
     let bytes = text.as_bytes();
     let mut breaks = Breaks::new(cells, text, profile);
@@ -75,8 +74,7 @@ fn push_text<C: CellSource>(
 /// Appends the text from byte `start` on to `out`.
 fn push_rest(out: &mut Vec<u8>, text: &[u8], start: usize) -> Result<(), AllocError>
     requires { start ≤ length text.now }
-    ensures text { OnOk result (out.new.items ≡ out.old.items ++ drop start text.now) }
-    ensures kept { take (length out.old.items) out.new.items ≡ out.old.items }
+    ensures { Adds out.old.items out.new.items (drop start text.now) result }
 {
     out.extend_from_slice(&text[start..])
 }

@@ -1,16 +1,13 @@
 //! The lines of chunks, in a buffer of fixed size: no memory grows for them.
 
-ghost use Rattle.std.specs.Prelude.{◌≡◌, ◌⊎◌, ℕ, ◌+◌, ◌≤◌, ◌++◌, ◌∷◌, [], length, take, decimal, true};
-ghost use Rattle.std.specs.Prelude.{OnErr, OnOk, option_map};
-ghost use Rattle.std.specs.Io.KnownBytes.{Appends};
-ghost use Rattle.lbk_feed.specs.Devices.{failures_after};
+ghost use Rattle.std.specs.Prelude.{◌≡◌, ◌+◌, ◌≤◌, [], length, decimal};
+ghost use Rattle.std.specs.Prelude.{OnOk, option_map};
 ghost use Rattle.lbk_passage.specs.Shown.{state_of};
 ghost use Rattle.lbk_chunk_reader.specs.Numbered.{numbered_chunk};
 ghost use Rattle.json.specs.Print.{escape};
 ghost use Rattle.lbk_cmd.specs.Chunk.{chunk_line, is_asked, line_in, object_line};
-ghost use Rattle.lbk_cmd.specs.Chunking.{Pushes};
-ghost use Rattle.lbk_cmd.specs.Gathering.{HasWritten};
-ghost use Rattle.lbk_cmd.specs.Placing.{Placed};
+ghost use Rattle.lbk_cmd.specs.Placing.{PlacedIn};
+ghost use Rattle.lbk_cmd.specs.Writing.{PutsBehind, WritesDue, WritesOut};
 
 use super::objects::{place_escaped, place_front_of_object};
 use super::placing::{place_byte, place_few, place_front};
@@ -54,13 +51,8 @@ impl Waiting {
 
     /// Writes the lines.
     pub fn write<W: Sink>(&mut self, writer: &mut W) -> Result<(), Failed>
-        ensures none { OnOk result (waiting_in self.new ≡ []) }
+        ensures out { WritesOut W.Sink writer.old writer.new (waiting_in self.old) (waiting_in self.new) result }
         ensures empty { OnOk result (self.new.len ≡ 0) }
-        ensures written { OnOk result (Appends (W.written writer.old) (W.written writer.new) (waiting_in self.old)) }
-        ensures front { OnErr result
-            ((n : ℕ) × Appends (W.written writer.old) (W.written writer.new) (take n (waiting_in self.old))) }
-        ensures failures { W.failure_count writer.new ≡ failures_after (W.failure_count writer.old) result }
-        ensures nothing { waiting_in self.old ≡ [] → (result ≡ Ok tt) × (writer.new ≡ writer.old) }
     {
         write_all(writer, &self.bytes[..self.len])?;
         self.len = 0;
@@ -73,15 +65,8 @@ impl Waiting {
         segmenter: &mut Segmenter<'_, C>,
         writer: &mut W,
     ) -> Result<(), Failed>
-        ensures state { state_of C.cell_of segmenter.new
-            ≡ record (state_of C.cell_of segmenter.old) { is_settled = (state_of C.cell_of segmenter.new).is_settled } }
-        ensures due { OnOk result (HasWritten (W.written writer.old) (W.written writer.new) (waiting_in self.old)
-            (waiting_in self.new)
-            ⊎ ((waiting_in self.new ≡ waiting_in self.old) × (writer.new ≡ writer.old)
-            × ((state_of C.cell_of segmenter.new).is_settled ≡ true))) }
-        ensures front { OnErr result
-            ((n : ℕ) × Appends (W.written writer.old) (W.written writer.new) (take n (waiting_in self.old))) }
-        ensures failures { W.failure_count writer.new ≡ failures_after (W.failure_count writer.old) result }
+        ensures { WritesDue W.Sink writer.old writer.new (state_of C.cell_of segmenter.old)
+            (state_of C.cell_of segmenter.new) (waiting_in self.old) (waiting_in self.new) result }
     {
         if segmenter.look_ahead() {
             return Ok(());
@@ -97,10 +82,8 @@ impl Waiting {
         text: Option<&[u8]>,
         writer: &mut W,
     ) -> Result<(), Failed>
-        ensures line { Pushes result (W.written writer.old) (W.written writer.new) (waiting_in self.old)
-            (waiting_in self.new)
-            (line_in range (option_map (λ bytes. bytes.now) text.entry) (numbered_chunk chunk.now)) }
-        ensures failures { W.failure_count writer.new ≡ failures_after (W.failure_count writer.old) result }
+        ensures { PutsBehind W.Sink writer.old writer.new (waiting_in self.old) (waiting_in self.new)
+            (line_in range (option_map (λ bytes. bytes.now) text.entry) (numbered_chunk chunk.now)) result }
     {
         if !is_asked(range, chunk.start) {
             return Ok(());
@@ -113,9 +96,8 @@ impl Waiting {
 
     /// Appends the line `C` of a chunk.
     fn push_place<W: Sink>(&mut self, chunk: &Chunk, writer: &mut W) -> Result<(), Failed>
-        ensures line { Pushes result (W.written writer.old) (W.written writer.new) (waiting_in self.old)
-            (waiting_in self.new) (chunk_line (numbered_chunk chunk.now)) }
-        ensures failures { W.failure_count writer.new ≡ failures_after (W.failure_count writer.old) result }
+        ensures { PutsBehind W.Sink writer.old writer.new (waiting_in self.old) (waiting_in self.new)
+            (chunk_line (numbered_chunk chunk.now)) result }
     {
         self.make_room(writer)?;
         self.len = place_chunk(&mut self.bytes, self.len, chunk);
@@ -129,9 +111,8 @@ impl Waiting {
         text: &[u8],
         writer: &mut W,
     ) -> Result<(), Failed>
-        ensures line { Pushes result (W.written writer.old) (W.written writer.new) (waiting_in self.old)
-            (waiting_in self.new) (object_line text.now (numbered_chunk chunk.now)) }
-        ensures failures { W.failure_count writer.new ≡ failures_after (W.failure_count writer.old) result }
+        ensures { PutsBehind W.Sink writer.old writer.new (waiting_in self.old) (waiting_in self.new)
+            (object_line text.now (numbered_chunk chunk.now)) result }
     {
         self.make_room(writer)?;
         self.len = place_front_of_object(&mut self.bytes, self.len, chunk);
@@ -143,9 +124,8 @@ impl Waiting {
 
     /// Appends a text as the content of a JSON string.
     fn push_escaped<W: Sink>(&mut self, text: &[u8], writer: &mut W) -> Result<(), Failed>
-        ensures line { Pushes result (W.written writer.old) (W.written writer.new) (waiting_in self.old)
-            (waiting_in self.new) (escape text.now) }
-        ensures failures { W.failure_count writer.new ≡ failures_after (W.failure_count writer.old) result }
+        ensures { PutsBehind W.Sink writer.old writer.new (waiting_in self.old) (waiting_in self.new)
+            (escape text.now) result }
     {
         let mut left = text;
         while let Some((byte, rest)) = left.split_first() {
@@ -158,10 +138,8 @@ impl Waiting {
 
     /// Writes the lines if there is no room for one more.
     fn make_room<W: Sink>(&mut self, writer: &mut W) -> Result<(), Failed>
-        ensures line { Pushes result (W.written writer.old) (W.written writer.new) (waiting_in self.old)
-            (waiting_in self.new) [] }
+        ensures puts { PutsBehind W.Sink writer.old writer.new (waiting_in self.old) (waiting_in self.new) [] result }
         ensures room { OnOk result (self.new.len + 128 ≤ 16384) }
-        ensures failures { W.failure_count writer.new ≡ failures_after (W.failure_count writer.old) result }
     {
         if self.len > ROOM - LINE {
             self.write(writer)?;
@@ -183,8 +161,7 @@ fn is_asked(range: Option<Part>, start: usize) -> bool
 /// Writes the line of a chunk.
 fn place_chunk(line: &mut [u8], at: usize, chunk: &Chunk) -> usize
     requires { at + 128 ≤ length line.old }
-    ensures placed { Placed line.old line.new at (chunk_line (numbered_chunk chunk.now)) result }
-    ensures short { result ≤ at + 128 }
+    ensures { PlacedIn line.old line.new at 128 (chunk_line (numbered_chunk chunk.now)) result }
 {
     let next = place_front(line, at, *b"C ", 2);
     let next = place_number(line, next, chunk.start);
@@ -200,8 +177,7 @@ fn place_chunk(line: &mut [u8], at: usize, chunk: &Chunk) -> usize
 /// Writes the digits of a number.
 pub(crate) fn place_number(line: &mut [u8], at: usize, number: usize) -> usize
     requires { at + 20 ≤ length line.old }
-    ensures placed { Placed line.old line.new at (decimal number) result }
-    ensures short { result ≤ at + 20 }
+    ensures { PlacedIn line.old line.new at 20 (decimal number) result }
 {
     let mut room = [0; DIGITS];
     let start = write_digits(number as u64, &mut room, DIGITS);

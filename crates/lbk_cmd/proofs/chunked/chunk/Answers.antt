@@ -251,8 +251,8 @@ returns-in_err-write-in-Err g c =
     l.window c.take_next.new.self) (c.in-Err.is) (c.take_next.ensures few) in
     let exit = err_from_is_err_and c.from_residual-in_err-write-in-Err.result c.from_residual-in_err-write-in-Err.ensures.1 in
     let is = exit.1 ∙ ap Err exit.2 in
-    let settled = waited (state_of g.C.CellSource.cell_of c.write_due.new.segmenter) (waiting_in c.write_due.new.self) d.wait c.write.result c.in_err-write-in-Err.field-0.0 c.in_err-write-in-Err.was (λ none. (c.write.ensures.nothing none).0) in
-    let front = c.in_err-write-in-Err.ensures.front in
+    let settled = waited (state_of g.C.CellSource.cell_of c.write_due.new.segmenter) (waiting_in c.write_due.new.self) d.wait c.write.result c.in_err-write-in-Err.field-0.0 c.in_err-write-in-Err.was (λ none. (c.write.ensures.out.nothing none).0) in
+    let front = c.in_err-write-in-Err.ensures.out.front in
     rw is (record {
       shown = tt;
       ended = tt;
@@ -260,7 +260,7 @@ returns-in_err-write-in-Err g c =
       reads = most _ _ _ _ _ _ _ _ _ _ _ _ _ _ _ _ _ _ _ _ _ _ d.cuts d.wait (Err c.in-Err.fault) n;
       limit = limit_kept c.args.limit c.new.result c.in_ok-segmenter.segmenter c.in_ok-segmenter.was c.new.ensures.limit (Err cmd.Write) (write-no-limit (Err cmd.Write) refl);
       failed_reads = still-failures _ _ _ _ _ _ _ _ _ _ _ _ _ _ _ _ _ _ _ _ _ _ d.cuts d.wait c.in-Err.fault n settled ∙ l.invariant.read_failures;
-      failed_writes = c.write.ensures.failures ∙ ap (failures_after (g.W.Sink.failure_count c.write_due.new.writer)) c.in_err-write-in-Err.was
+      failed_writes = c.write.ensures.out.failures ∙ ap (failures_after (g.W.Sink.failure_count c.write_due.new.writer)) c.in_err-write-in-Err.was
           ∙ ap count_up (c.write_due.ensures.failures ∙ ap (failures_after (g.W.Sink.failure_count l.writer)) c.in_ok-write_due.was ∙ l.invariant.write_failures);
     })
 
@@ -278,10 +278,10 @@ returns-in-Err g c =
     record {
       shown = tt;
       ended = tt;
-      run = refused _ _ _ _ _ _ _ _ _ _ _ _ _ _ _ _ _ _ _ _ _ _ d.cuts d.wait c.in-Err.fault n _ c.in_ok-write-in-Err.ensures.written;
+      run = refused _ _ _ _ _ _ _ _ _ _ _ _ _ _ _ _ _ _ _ _ _ _ d.cuts d.wait c.in-Err.fault n _ c.in_ok-write-in-Err.ensures.out.written.1;
       reads = most _ _ _ _ _ _ _ _ _ _ _ _ _ _ _ _ _ _ _ _ _ _ d.cuts d.wait (Err c.in-Err.fault) n;
       limit = limit_kept c.args.limit c.new.result c.in_ok-segmenter.segmenter c.in_ok-segmenter.was c.new.ensures.limit _ (λ same. no-limit _ _ _ _ _ _ _ _ _ _ _ _ _ _ _ _ _ _ _ _ _ _ d.cuts d.wait (Err (cmd.Passage c.in-Err.fault)) c.in-Err.fault refl n same);
       failed_reads = refused-failures _ _ _ _ _ _ _ _ _ _ _ _ _ _ _ _ _ _ _ _ _ _ d.cuts d.wait c.in-Err.fault n ∙ ap (λ k. failed_reads_with {X = Unit {0}} k (Err (cmd.Passage c.in-Err.fault))) l.invariant.read_failures;
-      failed_writes = c.write.ensures.failures ∙ ap (failures_after (g.W.Sink.failure_count c.write_due.new.writer)) c.in_ok-write-in-Err.was
+      failed_writes = c.write.ensures.out.failures ∙ ap (failures_after (g.W.Sink.failure_count c.write_due.new.writer)) c.in_ok-write-in-Err.was
           ∙ c.write_due.ensures.failures ∙ ap (failures_after (g.W.Sink.failure_count l.writer)) c.in_ok-write_due.was ∙ l.invariant.write_failures;
     }

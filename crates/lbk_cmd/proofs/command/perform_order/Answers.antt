@@ -20,24 +20,19 @@ returns-in-Ok-clause-texts g c = c.perform.ensures.contents
 pub returns-in-Err-clause-texts : goal.returns-in-Err-clause-texts
 returns-in-Err-clause-texts g c = refl
 
-pub returns-in-Ok-clause-refused : goal.returns-in-Ok-clause-refused
-returns-in-Ok-clause-refused g c more = let other = c.in-Ok.ensures.refused more in absurd (cc other)
+pub returns-in-Ok-clause-takes : goal.returns-in-Ok-clause-takes
+returns-in-Ok-clause-takes g c = record {
+  refused = λ more. let other = c.in-Ok.ensures.refused more in absurd (cc other);
+  loads = c.in-Ok.ensures.loads;
+  files = c.in-Ok.ensures.files;
+}
 
-pub returns-in-Err-clause-refused : goal.returns-in-Err-clause-refused
-returns-in-Err-clause-refused g c more =
-    c.of_files.ensures ∙ ap ending_of_files (same_fault _ _ _ refl (c.in-Err.ensures.refused more))
-
-pub returns-in-Ok-clause-loads : goal.returns-in-Ok-clause-loads
-returns-in-Ok-clause-loads g c = c.in-Ok.ensures.loads
-
-pub returns-in-Err-clause-loads : goal.returns-in-Err-clause-loads
-returns-in-Err-clause-loads g c = c.in-Err.ensures.loads
-
-pub returns-in-Ok-clause-files : goal.returns-in-Ok-clause-files
-returns-in-Ok-clause-files g c = c.in-Ok.ensures.files
-
-pub returns-in-Err-clause-files : goal.returns-in-Err-clause-files
-returns-in-Err-clause-files g c = c.in-Err.ensures.files
+pub returns-in-Err-clause-takes : goal.returns-in-Err-clause-takes
+returns-in-Err-clause-takes g c = record {
+  refused = λ more. c.of_files.ensures ∙ ap ending_of_files (same_fault _ _ _ refl (c.in-Err.ensures.refused more));
+  loads = c.in-Err.ensures.loads;
+  files = c.in-Err.ensures.files;
+}
 
 pub perform-requires : goal.perform-requires
 perform-requires g c κs = (refl, tt)

@@ -19,14 +19,8 @@ returns-clause-others g c some other = c.run_over_texts.ensures.others some othe
 pub returns-clause-unloaded : goal.returns-clause-unloaded
 returns-clause-unloaded g c refused = c.run_over_texts.ensures.unloaded refused
 
-pub returns-clause-refused : goal.returns-clause-refused
-returns-clause-refused g c more = c.run_over_texts.ensures.refused more
-
-pub returns-clause-loads : goal.returns-clause-loads
-returns-clause-loads g c = c.run_over_texts.ensures.loads
-
-pub returns-clause-files : goal.returns-clause-files
-returns-clause-files g c = c.run_over_texts.ensures.files
+pub returns-clause-takes : goal.returns-clause-takes
+returns-clause-takes g c = c.run_over_texts.ensures.takes
 
 pub run_over_texts-requires : goal.run_over_texts-requires
 run_over_texts-requires g c κs = (refl, tt)

@@ -57,35 +57,17 @@ returns-in-Ok-clause-unloaded g c (inr other) = absurd (c.in-Ok.ensures.others o
 pub returns-in-Err-clause-unloaded : goal.returns-in-Err-clause-unloaded
 returns-in-Err-clause-unloaded g c refused = refl
 
-pub returns-in-Err-clause-loads : goal.returns-in-Err-clause-loads
-returns-in-Err-clause-loads g c = omega arith
-
-pub returns-in-Err-clause-files : goal.returns-in-Err-clause-files
-returns-in-Err-clause-files g c = refl
-
-pub returns-in-Ok-clause-loads : goal.returns-in-Ok-clause-loads
-returns-in-Ok-clause-loads g c = c.perform_order.ensures.loads
-
-pub returns-in-Ok-clause-files : goal.returns-in-Ok-clause-files
-returns-in-Ok-clause-files g c = c.perform_order.ensures.files
-
 pub returns-then-is_empty-clause-unloaded : goal.returns-then-is_empty-clause-unloaded
 returns-then-is_empty-clause-unloaded g c refused = refl
 
-pub returns-then-is_empty-clause-loads : goal.returns-then-is_empty-clause-loads
-returns-then-is_empty-clause-loads g c = omega arith
+pub returns-then-is_empty-clause-takes : goal.returns-then-is_empty-clause-takes
+returns-then-is_empty-clause-takes g c = record { refused = λ more. absurd (omega arith); loads = omega arith; files = refl }
 
-pub returns-then-is_empty-clause-files : goal.returns-then-is_empty-clause-files
-returns-then-is_empty-clause-files g c = refl
+pub returns-in-Ok-clause-takes : goal.returns-in-Ok-clause-takes
+returns-in-Ok-clause-takes g c = c.perform_order.ensures.takes
 
-pub returns-then-is_empty-clause-refused : goal.returns-then-is_empty-clause-refused
-returns-then-is_empty-clause-refused g c more = absurd (omega arith)
-
-pub returns-in-Ok-clause-refused : goal.returns-in-Ok-clause-refused
-returns-in-Ok-clause-refused g c more = c.perform_order.ensures.refused more
-
-pub returns-in-Err-clause-refused : goal.returns-in-Err-clause-refused
-returns-in-Err-clause-refused g c more = absurd (omega arith)
+pub returns-in-Err-clause-takes : goal.returns-in-Err-clause-takes
+returns-in-Err-clause-takes g c = record { refused = λ more. absurd (omega arith); loads = omega arith; files = refl }
 
 pub returns-then-is_empty-clause-unopened : goal.returns-then-is_empty-clause-unopened
 returns-then-is_empty-clause-unopened g c refused = refl

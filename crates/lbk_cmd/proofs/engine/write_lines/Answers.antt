@@ -45,7 +45,7 @@ returns-in_err-write_due g c =
     let exit = err_from_is_err_and c.from_residual-in_err-write_due.result c.from_residual-in_err-write_due.ensures.1 in
     let is = exit.1 ∙ ap Err exit.2 in
     let l = c.loop-gathered in
-    let front = c.in_err-write_due.ensures.front in
+    let front = c.in_err-write_due.ensures.writes.front in
     rw is (record {
       shown = tt;
       ended = tt;
@@ -53,7 +53,7 @@ returns-in_err-write_due g c =
       reads = l.invariant.going.most;
       limit = limit_kept c.args.limit c.new.result c.in_ok-segmenter.segmenter c.in_ok-segmenter.was c.new.ensures.limit _ (λ same. cc);
       failed_reads = l.invariant.read_failures;
-      failed_writes = c.write_due.ensures.failures ∙ ap (failures_after (g.W.Sink.failure_count l.writer)) c.in_err-write_due.was ∙ ap count_up l.invariant.write_failures;
+      failed_writes = c.write_due.ensures.writes.failures ∙ ap (failures_after (g.W.Sink.failure_count l.writer)) c.in_err-write_due.was ∙ ap count_up l.invariant.write_failures;
     })
 
 pub returns-in_err-write : goal.returns-in_err-write
@@ -63,12 +63,12 @@ returns-in_err-write g c =
     let is = exit.1 ∙ ap Err exit.2 in
     let l = c.loop-gathered in
     let d = due (by_passage e) _ _ _ (state_of g.C.CellSource.cell_of l.segmenter) (state_of g.C.CellSource.cell_of c.write_due.new.segmenter) _ _ _ _ _ _ _ l.invariant.going
-    c.write_due.ensures.state (⊎_elim inl (λ k. inr (k.0, ap g.W.Sink.written k.1, k.2)) c.in_ok-write_due.ensures.due) in
+    c.write_due.ensures.writes.state (⊎_elim inl (λ k. inr (k.0, ap g.W.Sink.written k.1, k.2)) c.in_ok-write_due.ensures.writes.due) in
     let put = c.put_next-put.ensures.puts c.args.limit in
     let answer = sym c.end_of.ensures ∙ c.in-Some.is in
     let settled = waits e _ _ _ _ _ _ _ _ _ _ _ _ _ _ _ _ _ _ d.going d.wait put c.in-Some.answer answer c.write.result c.in_err-write.field-0.0 c.in_err-write.was
-    (λ none. (c.write.ensures.nothing none).0) in
-    let front = c.in_err-write.ensures.front in
+    (λ none. (c.write.ensures.out.nothing none).0) in
+    let front = c.in_err-write.ensures.out.front in
     rw is (record {
       shown = tt;
       ended = tt;
@@ -76,8 +76,8 @@ returns-in_err-write g c =
       reads = most e _ _ _ _ _ _ _ _ _ _ _ _ _ _ _ _ _ _ d.going d.wait put;
       limit = limit_kept c.args.limit c.new.result c.in_ok-segmenter.segmenter c.in_ok-segmenter.was c.new.ensures.limit _ (λ same. cc);
       failed_reads = ap g.R.Source.failure_count (c.put_next-put.ensures.settled settled) ∙ l.invariant.read_failures;
-      failed_writes = c.write.ensures.failures ∙ ap (failures_after (g.W.Sink.failure_count c.write_due.new.writer)) c.in_err-write.was
-          ∙ ap count_up (c.write_due.ensures.failures ∙ ap (failures_after (g.W.Sink.failure_count l.writer)) c.in_ok-write_due.was ∙ l.invariant.write_failures);
+      failed_writes = c.write.ensures.out.failures ∙ ap (failures_after (g.W.Sink.failure_count c.write_due.new.writer)) c.in_err-write.was
+          ∙ ap count_up (c.write_due.ensures.writes.failures ∙ ap (failures_after (g.W.Sink.failure_count l.writer)) c.in_ok-write_due.was ∙ l.invariant.write_failures);
     })
 
 pub returns-in-Some : goal.returns-in-Some
@@ -85,10 +85,10 @@ returns-in-Some g c =
     let e = engine_of c.args.lines (g.C.CellSource.cell_of c.args.cells.now) c.args.profile c.args.limit in
     let l = c.loop-gathered in
     let d = due (by_passage e) _ _ _ (state_of g.C.CellSource.cell_of l.segmenter) (state_of g.C.CellSource.cell_of c.write_due.new.segmenter) _ _ _ _ _ _ _ l.invariant.going
-    c.write_due.ensures.state (⊎_elim inl (λ k. inr (k.0, ap g.W.Sink.written k.1, k.2)) c.in_ok-write_due.ensures.due) in
+    c.write_due.ensures.writes.state (⊎_elim inl (λ k. inr (k.0, ap g.W.Sink.written k.1, k.2)) c.in_ok-write_due.ensures.writes.due) in
     let put = c.put_next-put.ensures.puts c.args.limit in
     let answer = sym c.end_of.ensures ∙ c.in-Some.is in
-    let run = whole_run (ends e _ _ _ _ _ _ _ _ _ _ _ _ _ _ _ _ _ _ d.going d.wait put c.in-Some.answer answer _ c.in_ok-write.ensures.written.1) in
+    let run = whole_run (ends e _ _ _ _ _ _ _ _ _ _ _ _ _ _ _ _ _ _ d.going d.wait put c.in-Some.answer answer _ c.in_ok-write.ensures.out.written.1) in
     let end = to_its_end e _ _ _ _ _ _ _ _ _ _ _ _ _ _ _ _ _ _ d.going d.wait put c.in-Some.answer answer in
     let n = g.R.Source.failure_count l.reader in
     record {
@@ -100,8 +100,8 @@ returns-in-Some g c =
           (no_limit e _ _ _ _ _ _ _ _ _ _ _ _ _ _ _ _ _ _ d.going d.wait put c.in-Some.answer answer);
       failed_reads = failed_reads e _ _ _ _ _ _ _ _ _ _ _ _ _ _ _ _ _ _ d.going d.wait put c.in-Some.answer answer
           ∙ ap (λ k. failed_reads_with k c.in-Some.answer) l.invariant.read_failures;
-      failed_writes = c.write.ensures.failures ∙ ap (failures_after (g.W.Sink.failure_count c.write_due.new.writer)) c.in_ok-write.was
-          ∙ c.write_due.ensures.failures ∙ ap (failures_after (g.W.Sink.failure_count l.writer)) c.in_ok-write_due.was ∙ l.invariant.write_failures
+      failed_writes = c.write.ensures.out.failures ∙ ap (failures_after (g.W.Sink.failure_count c.write_due.new.writer)) c.in_ok-write.was
+          ∙ c.write_due.ensures.writes.failures ∙ ap (failures_after (g.W.Sink.failure_count l.writer)) c.in_ok-write_due.was ∙ l.invariant.write_failures
           ∙ no_failed_write e _ _ _ _ _ _ _ _ _ _ _ _ _ _ _ _ _ _ d.going d.wait put c.in-Some.answer answer (g.W.Sink.failure_count c.args.writer.now);
     }
 
@@ -110,7 +110,7 @@ loop-gathered-smaller g c =
     let e = engine_of c.args.lines (g.C.CellSource.cell_of c.args.cells.now) c.args.profile c.args.limit in
     let l = c.loop-gathered in
     let d = due (by_passage e) _ _ _ (state_of g.C.CellSource.cell_of l.segmenter) (state_of g.C.CellSource.cell_of c.write_due.new.segmenter) _ _ _ _ _ _ _ l.invariant.going
-    c.write_due.ensures.state (⊎_elim inl (λ k. inr (k.0, ap g.W.Sink.written k.1, k.2)) c.in_ok-write_due.ensures.due) in
+    c.write_due.ensures.writes.state (⊎_elim inl (λ k. inr (k.0, ap g.W.Sink.written k.1, k.2)) c.in_ok-write_due.ensures.writes.due) in
     let more = on e _ _ _ _ _ _ _ _ _ _ _ _ _ _ _ _ _ _ d.going d.wait (c.put_next-put.ensures.puts c.args.limit) (sym c.end_of.ensures ∙ c.in_default.is) in
     omega (arith, d.start, more.onward, more.few)
 
@@ -119,10 +119,10 @@ loop-gathered-preserved g c =
     let e = engine_of c.args.lines (g.C.CellSource.cell_of c.args.cells.now) c.args.profile c.args.limit in
     let l = c.loop-gathered in
     let d = due (by_passage e) _ _ _ (state_of g.C.CellSource.cell_of l.segmenter) (state_of g.C.CellSource.cell_of c.write_due.new.segmenter) _ _ _ _ _ _ _ l.invariant.going
-    c.write_due.ensures.state (⊎_elim inl (λ k. inr (k.0, ap g.W.Sink.written k.1, k.2)) c.in_ok-write_due.ensures.due) in
+    c.write_due.ensures.writes.state (⊎_elim inl (λ k. inr (k.0, ap g.W.Sink.written k.1, k.2)) c.in_ok-write_due.ensures.writes.due) in
     let more = on e _ _ _ _ _ _ _ _ _ _ _ _ _ _ _ _ _ _ d.going d.wait (c.put_next-put.ensures.puts c.args.limit) (sym c.end_of.ensures ∙ c.in_default.is) in
     record {
       going = more.going;
       read_failures = more.none_failed ∙ l.invariant.read_failures;
-      write_failures = c.write_due.ensures.failures ∙ ap (failures_after (g.W.Sink.failure_count l.writer)) c.in_ok-write_due.was ∙ l.invariant.write_failures;
+      write_failures = c.write_due.ensures.writes.failures ∙ ap (failures_after (g.W.Sink.failure_count l.writer)) c.in_ok-write_due.was ∙ l.invariant.write_failures;
     }

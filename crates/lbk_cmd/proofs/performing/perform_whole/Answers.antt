@@ -32,8 +32,8 @@ returns-in-Replay g c = rw (c.in-Replay.is, ← c.form.ensures) (
     replayed = c.replay.ensures.replayed;
     run = c.replay.ensures.run;
     ended = c.replay.ensures.ended;
-    failed_reads = c.replay.ensures.failed_reads;
-    failed_writes = c.replay.ensures.failed_writes;
+    failed_reads = c.replay.ensures.reader.failed_reads;
+    failed_writes = c.replay.ensures.writes.failed_writes;
     reads = c.replay.ensures.reads;
   },
   c.of_replay.ensures,

@@ -24,5 +24,8 @@ loop-c-preserved c =
       kept = subst (λ t. take (length old) t ≡ old) (sym c.in_ok-push_scalar.ensures.text) (front_append old l.out.items _ l.invariant.kept);
     }
 
-pub returns-clause-line : goal.returns-clause-line
-returns-clause-line c = Writes-end c.args.verdicts.now c.loop-c.k (chars_rest c.loop-c.c-iterator) c.loop-c.out.items _ c.in-None.ensures.steps.0.0 c.loop-c.invariant.writes
+pub returns : goal.returns
+returns c = record {
+  all = Writes-end c.args.verdicts.now c.loop-c.k (chars_rest c.loop-c.c-iterator) c.loop-c.out.items _ c.in-None.ensures.steps.0.0 c.loop-c.invariant.writes;
+  kept = c.loop-c.invariant.kept;
+}

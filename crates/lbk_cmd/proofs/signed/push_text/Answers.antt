@@ -2,6 +2,7 @@ use Rattle.std.proofs.Common.{◌≤◌, ◌++◌, [], drop, length, take, appen
 use Rattle.std.proofs.lemmas.List.{take_all, take-append-drop}
 use Rattle.std.proofs.lemmas.Result.{on_ok_weaker}
 use Rattle.lbk_cmd.specs.Signing.{IsCut, signed_from}
+use Rattle.lbk_cmd.proofs.Places.{front_then}
 use Rattle.lbk_cmd.proofs.Signing.{cut-front, text_cut}
 use Rattle.lbk_cmd.proofs.signed.push_text.Goals as goal
 
@@ -33,15 +34,19 @@ push_rest-requires g c =
     (subst (λ t. IsCut l.done (length t) (take count c.fill-count.new.block ++ [])) (sym c.as_bytes-bytes.ensures.value)
     (subst (IsCut l.done (length c.args.text.now)) (sym whole) l.invariant.cut))
 
-pub returns-then-count-lt-BLOCK-clause-text : goal.returns-then-count-lt-BLOCK-clause-text
-returns-then-count-lt-BLOCK-clause-text g c =
+pub returns-then-count-lt-BLOCK : goal.returns-then-count-lt-BLOCK
+returns-then-count-lt-BLOCK g c =
     let l = c.loop-done in
     let count = c.fill-count.result in
     let all : length l.breaks ≤ count = omega (arith, c.fill-count.ensures.count, c.if-count-lt-BLOCK.true) in
     let whole = append-nil (take count c.fill-count.new.block) ∙ c.fill-count.ensures.front ∙ take_all count l.breaks all in
-    on_ok_weaker c.push_rest.result
-    (λ is. is ∙ c.in_ok-done.ensures.put []
-    ∙ ap (λ bs. l.out.items ++ signed_from c.args.mark.now c.as_bytes-bytes.result.now l.done bs) whole
-    ∙ ap (λ t. l.out.items ++ signed_from c.args.mark.now t l.done l.breaks) c.as_bytes-bytes.ensures.value
-    ∙ l.invariant.put)
-    c.push_rest.ensures.text
+    record {
+      all = on_ok_weaker c.push_rest.result
+          (λ is. is ∙ c.in_ok-done.ensures.put []
+          ∙ ap (λ bs. l.out.items ++ signed_from c.args.mark.now c.as_bytes-bytes.result.now l.done bs) whole
+          ∙ ap (λ t. l.out.items ++ signed_from c.args.mark.now t l.done l.breaks) c.as_bytes-bytes.ensures.value
+          ∙ l.invariant.put)
+          c.push_rest.ensures.all;
+      kept = front_then c.args.out.now.items c.push_block.new.out.items _
+          (front_then c.args.out.now.items l.out.items c.push_block.new.out.items l.invariant.kept c.push_block.ensures.kept) c.push_rest.ensures.kept;
+    }

@@ -24,7 +24,7 @@ returns-in-Signed-clause-text g c =
     ∙ ap (λ l. signed_passage mark cell (marks profile cell (chars l))) (sym bytes)
     ∙ passage_signed mark s ms p cell profile cell_is profile_is of (ap (λ v. is_must v.kind) end ∙ must)
     ∙ ap (λ k. lines_of k cell p.start ms) (sym c.in-Signed.is)))
-    c.push_signed.ensures.text
+    c.push_signed.ensures.all
 
 pub returns-in_ok-decide-in-Shown-clause-text : goal.returns-in_ok-decide-in-Shown-clause-text
 returns-in_ok-decide-in-Shown-clause-text g c =
@@ -39,4 +39,4 @@ returns-in_ok-decide-in-Shown-clause-text g c =
     ∙ ap₂ (λ t v. passage_line (chars t) (verdicts_of (ended v (marks profile cell (chars t)))) ++ 10 ∷ []) (sym bytes) (sym end)
     ∙ shown-is cell profile s ms p cell_is profile_is of
     ∙ ap (λ k. lines_of k cell p.start ms) (sym c.in-Shown.is)))
-    c.push_shown.ensures.line
+    c.push_shown.ensures.all

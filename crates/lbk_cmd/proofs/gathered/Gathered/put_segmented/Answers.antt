@@ -20,7 +20,7 @@ returns-in-Ok-clause-puts g c = λ cell profile limit.
         refl,
         refl,
         λ ms cell_is profile_is of.
-            c.in-Ok.ensures.lines
+            c.in-Ok.ensures.all
             ∙ ap (λ l. before ++ l) (segmented-is s ms p cell cell_is of),
       );
     }
