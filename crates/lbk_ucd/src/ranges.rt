@@ -2,7 +2,7 @@
 
 ghost use Rattle.std.specs.Prelude.{◌≡◌, ◌≤◌, ◌<◌, ℕ, true, length, unwrap_or};
 ghost use Rattle.std.specs.List.{All, AllWithin, list_any};
-ghost use Rattle.lbk_ucd.specs.Ranges.{IsInOrder};
+ghost use Rattle.lbk_ucd.specs.Ranges.{IsFirstFrom, IsInOrder, IsStretch};
 ghost use Rattle.lbk_ucd.specs.Rows.{first_value, shares};
 
 /// The greatest code point.
@@ -47,8 +47,7 @@ impl<V: Copy> Assigned<V> {
     /// of a range that ends a little before the code point.
     pub(crate) fn stretch(&self, code: u32, near: usize) -> Stretch<V>
         requires { code ≤ 0x10FFFF }
-        ensures last { (code ≤ result.last) × (result.last ≤ 0x10FFFF) }
-        ensures same { (k : ℕ) → code ≤ k → k ≤ result.last → value_of self.now k ≡ result.value }
+        ensures { IsStretch (value_of self.now) code result.last result.value }
     {
         let found = stretch_from(&self.rows, first_near(&self.rows, code, near), code);
         Stretch {
@@ -95,11 +94,8 @@ fn row_value<V: Copy>(rows: &[Row<V>], code: u32) -> Option<V>
 pub(crate) fn stretch_from<V: Copy>(rows: &[Row<V>], at: usize, code: u32) -> Stretch<Option<V>>
     requires ordered { IsInOrder rows.now }
     requires code { code ≤ 0x10FFFF }
-    requires within { at ≤ length rows.now }
-    requires before { AllWithin (λ row. row.last < code) rows.now 0 at }
-    requires after { AllWithin (λ row. code ≤ row.last) rows.now at (length rows.now) }
-    ensures last { (code ≤ result.last) × (result.last ≤ 0x10FFFF) }
-    ensures same { (k : ℕ) → code ≤ k → k ≤ result.last → first_value k rows.now ≡ result.value }
+    requires at { IsFirstFrom rows.now code at }
+    ensures { IsStretch (λ k. first_value k rows.now) code result.last result.value }
 {
     if at == rows.len() {
         return Stretch {
@@ -127,9 +123,7 @@ pub(crate) fn stretch_from<V: Copy>(rows: &[Row<V>], at: usize, code: u32) -> St
 /// The index of the first row that does not end before a code point, or the number of rows.
 fn first_from<V: Copy>(rows: &[Row<V>], code: u32) -> usize
     requires { IsInOrder rows.now }
-    ensures within { result ≤ length rows.now }
-    ensures before { AllWithin (λ row. row.last < code) rows.now 0 result }
-    ensures after { AllWithin (λ row. code ≤ row.last) rows.now result (length rows.now) }
+    ensures { IsFirstFrom rows.now code result }
 {
     rows.partition_point(|row| row.last < code)
 }
@@ -137,9 +131,7 @@ fn first_from<V: Copy>(rows: &[Row<V>], code: u32) -> usize
 /// The same, searched from an index on; the rows before it end before the code point.
 fn first_near<V: Copy>(rows: &[Row<V>], code: u32, near: usize) -> usize
     requires { IsInOrder rows.now }
-    ensures within { result ≤ length rows.now }
-    ensures before { AllWithin (λ row. row.last < code) rows.now 0 result }
-    ensures after { AllWithin (λ row. code ≤ row.last) rows.now result (length rows.now) }
+    ensures { IsFirstFrom rows.now code result }
 {
     if 0 < near && near <= rows.len() && rows[near - 1].last < code {
         next_from(rows, near, code)
@@ -153,9 +145,7 @@ pub(crate) fn next_from<V: Copy>(rows: &[Row<V>], at: usize, code: u32) -> usize
     requires ordered { IsInOrder rows.now }
     requires within { at ≤ length rows.now }
     requires before { AllWithin (λ row. row.last < code) rows.now 0 at }
-    ensures within { result ≤ length rows.now }
-    ensures before { AllWithin (λ row. row.last < code) rows.now 0 result }
-    ensures after { AllWithin (λ row. code ≤ row.last) rows.now result (length rows.now) }
+    ensures { IsFirstFrom rows.now code result }
 {
     let mut next = at;
     while next < rows.len() && rows[next].last < code {

@@ -11,9 +11,9 @@ loop-from-preserved g c =
     let above = c.stretch_from-above in
     record {
       low = c.next_from-low.ensures.within;
-      under = λ k d l h. let e = c.next_from-low.ensures.before k d l h in let b = c.min-last.ensures in omega (arith, below.ensures.last.0, above.ensures.last.0);
+      under = λ k d l h. let e = c.next_from-low.ensures.before k d l h in let b = c.min-last.ensures in omega (arith, below.ensures.onward, above.ensures.onward);
       high = c.next_from-high.ensures.within;
-      over = λ k d l h. let e = c.next_from-high.ensures.before k d l h in let b = c.min-last.ensures in omega (arith, below.ensures.last.0, above.ensures.last.0);
+      over = λ k d l h. let e = c.next_from-high.ensures.before k d l h in let b = c.min-last.ensures in omega (arith, below.ensures.onward, above.ensures.onward);
       most = omega (arith, most);
       done = elim c.match-or.branch [
         | in-Some+in_ok-push w ↦
@@ -28,10 +28,10 @@ loop-from-preserved g c =
     }
   where
     rises : c.loop-from.from ≤ c.min-last.result
-    rises = let b = c.min-last.ensures in omega (arith, c.stretch_from-below.ensures.last.0, c.stretch_from-above.ensures.last.0)
+    rises = let b = c.min-last.ensures in omega (arith, c.stretch_from-below.ensures.onward, c.stretch_from-above.ensures.onward)
 
     most : c.min-last.result ≤ 0x10FFFF
-    most = let b = c.min-last.ensures in omega (arith, c.stretch_from-below.ensures.last.1, c.stretch_from-above.ensures.last.1)
+    most = let b = c.min-last.ensures in omega (arith, c.stretch_from-below.ensures.most, c.stretch_from-above.ensures.most)
 
     value_here : (code : ℕ) → c.loop-from.from ≤ code → code ≤ c.min-last.result
         → option_or (first_value code c.args.over.now) (first_value code c.args.under.now) ≡ option_or c.stretch_from-above.result.value c.stretch_from-below.result.value

@@ -5,14 +5,12 @@ use Rattle.lbk_ucd.specs.declared.ranges.Row.{Row}
 use Rattle.lbk_ucd.proofs.RowLemmas.{ends_rise}
 use Rattle.lbk_ucd.proofs.ranges.first_from.Goals as goal
 
-pub returns-clause-before : goal.returns-clause-before
-returns-clause-before g c = λ k d low high.
+pub returns : goal.returns
+returns g c =
     let p = IsPartitionPoint-from_clause (λ (row : Row g.row.V.Denot). ltb row.last c.args.code) c.args.rows.now _ c.partition_point.ensures.partitioned
     (IsPartitionedBy-ltb (λ (row : Row g.row.V.Denot). row.last) c.args.rows.now c.args.code (ends_rise c.args.rows.now c.requires)) (λ a r q k. search (rules)) in
-    let e = p.0 k d low high in grind (arith, nat_tests)
-
-pub returns-clause-after : goal.returns-clause-after
-returns-clause-after g c = λ k d low high.
-    let p = IsPartitionPoint-from_clause (λ (row : Row g.row.V.Denot). ltb row.last c.args.code) c.args.rows.now _ c.partition_point.ensures.partitioned
-    (IsPartitionedBy-ltb (λ (row : Row g.row.V.Denot). row.last) c.args.rows.now c.args.code (ends_rise c.args.rows.now c.requires)) (λ a r q k. search (rules)) in
-    let e = p.1 k d low high in grind (arith, nat_tests)
+    record {
+      within = search rules;
+      before = λ k d low high. let e = p.0 k d low high in grind (arith, nat_tests);
+      after = λ k d low high. let e = p.1 k d low high in grind (arith, nat_tests);
+    }
