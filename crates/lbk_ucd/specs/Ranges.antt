@@ -4,11 +4,16 @@ use Rattle.std.specs.Option.{option_or}
 use Rattle.std.specs.List.{All, AllPairs, AllWithin, list_any}
 use Rattle.lbk_masks.specs.Bits.{is_marked}
 use Rattle.lbk_ucd.specs.declared.ranges.Row.{Row}
+use Rattle.lbk_ucd.specs.declared.span.Span.{Span}
 use Rattle.lbk_ucd.specs.Rows.{holds, first_value}
 
 -- a row does not end before it begins, and its last code point is at most 10FFFF
 abbrev pub IsRange : {V : Type 0} → Row V → Type 0
 IsRange row = (row.first ≤ row.last) × (row.last ≤ 0x10FFFF)
+
+-- code points with a value
+abbrev pub row_of : {V : Type 0} → Span → V → Row V
+row_of span value = record { first = span.first; last = span.last; value = value }
 
 -- each row is such, and ends before the next begins
 pub record IsInOrder {V : Type 0} (rows : List (Row V)) : Type 0 where

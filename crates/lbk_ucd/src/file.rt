@@ -5,7 +5,7 @@ ghost use Rattle.lbk_ucd.specs.File.{cause_of_room, cause_of_kept, cause_of_entr
 ghost use Rattle.lbk_ucd.specs.File.{default_in, IsLawful, IsRefusal, property_of, without_mark};
 ghost use Rattle.std.specs.List.{slice_split};
 ghost use Rattle.lbk_ucd.specs.Reading.{Adds, IsAnswered, count_of};
-ghost use Rattle.lbk_ucd.specs.Ranges.{IsRange};
+ghost use Rattle.lbk_ucd.specs.Ranges.{row_of};
 ghost use Rattle.lbk_ucd.specs.Shown.{shown_entry, shown_format, lines_left};
 ghost use Rattle.lbk_ucd.specs.Tables.{value_of};
 
@@ -13,7 +13,8 @@ use crate::faults::{UcdCause, UcdFault};
 use crate::format::{Format, value_named};
 use crate::gathered::Gathered;
 use crate::property_line::{Entry, Meaning, meaning_of, place_of};
-use crate::ranges::{Assigned, LAST_CODE, Row};
+use crate::ranges::{Assigned, LAST_CODE};
+use crate::span::Span;
 use crate::which::Which;
 use std::alloc::Global;
 
@@ -127,50 +128,49 @@ fn take_entry<V: Copy>(
             Err(UcdCause::UnknownValue)
         };
     };
-    let row = Row {
+    let span = Span {
         first: entry.first,
         last: entry.last,
-        value,
     };
     if is_default {
-        keep_default(gathered, row)
+        keep_default(gathered, span, value)
     } else {
-        keep_row(gathered, row)
+        keep_row(gathered, span, value)
     }
 }
 
 /// Keeps a row, unless it shares a code point with a kept one, or there is no room.
-fn keep_row<V: Copy>(gathered: &mut Gathered<V>, row: Row<V>) -> Result<(), UcdCause>
-    requires { IsRange row }
-    ensures none { OnOk result (cause_of_kept gathered.old.rows.items (count_of gathered.old) row.first row.last
+fn keep_row<V: Copy>(gathered: &mut Gathered<V>, span: Span, value: V) -> Result<(), UcdCause>
+    ensures none { OnOk result (cause_of_kept gathered.old.rows.items (count_of gathered.old) span.first span.last
         ≡ None) }
-    ensures adds { OnOk result (Adds (Some row) None gathered.old gathered.new) }
+    ensures adds { OnOk result (Adds (Some (row_of span value)) None gathered.old gathered.new) }
     ensures answered { IfErr result (IsAnswered
-        (cause_of_kept gathered.old.rows.items (count_of gathered.old) row.first row.last) (Some row) None) }
+        (cause_of_kept gathered.old.rows.items (count_of gathered.old) span.first span.last)
+        (Some (row_of span value)) None) }
 {
-    if gathered.any_shares(row.first, row.last) {
+    if gathered.any_shares(span) {
         return Err(UcdCause::Overlap);
     }
     if gathered.is_full() {
         return Err(UcdCause::TooManyRows);
     }
-    match gathered.add_row(row) {
+    match gathered.add_row(span, value) {
         Ok(()) => Ok(()),
         Err(_) => Err(UcdCause::Memory),
     }
 }
 
 /// Keeps a default, unless there is no room.
-fn keep_default<V: Copy>(gathered: &mut Gathered<V>, row: Row<V>) -> Result<(), UcdCause>
-    requires { IsRange row }
+fn keep_default<V: Copy>(gathered: &mut Gathered<V>, span: Span, value: V) -> Result<(), UcdCause>
     ensures none { OnOk result (cause_of_room (count_of gathered.old) ≡ None) }
-    ensures adds { OnOk result (Adds None (Some row) gathered.old gathered.new) }
-    ensures answered { IfErr result (IsAnswered (cause_of_room (count_of gathered.old)) None (Some row)) }
+    ensures adds { OnOk result (Adds None (Some (row_of span value)) gathered.old gathered.new) }
+    ensures answered { IfErr result (IsAnswered (cause_of_room (count_of gathered.old)) None
+        (Some (row_of span value))) }
 {
     if gathered.is_full() {
         return Err(UcdCause::TooManyRows);
     }
-    match gathered.add_default(row) {
+    match gathered.add_default(span, value) {
         Ok(()) => Ok(()),
         Err(_) => Err(UcdCause::Memory),
     }

@@ -1,13 +1,14 @@
 //! The rows and defaults of one file so far.
-ghost use Rattle.std.specs.Prelude.{◌≡◌, ◌+◌, ◌<◌, ◌≤◌, ℕ, false, [], ◌∷◌, ◌++◌, length, not, nat_lt, IfOk, OnOk};
+ghost use Rattle.std.specs.Prelude.{◌≡◌, ◌+◌, ◌<◌, ◌≤◌, ℕ, false, [], length, not, nat_lt, None, Some, IfOk, OnOk};
 ghost use Rattle.std.specs.Prelude.{OnErr};
 ghost use Rattle.std.specs.List.{All, AllPairs, list_any};
-ghost use Rattle.lbk_ucd.specs.Ranges.{AreMarked, IsInOrder, IsRange};
+ghost use Rattle.lbk_ucd.specs.Ranges.{AreMarked, IsInOrder, IsRange, row_of};
 ghost use Rattle.lbk_ucd.specs.Rows.{shares, AreApart, value_at};
 ghost use Rattle.lbk_ucd.specs.declared.gathered.TheConstants.{MOST_ROWS};
 
 use crate::overlay::{flatten, overlay, sorted};
 use crate::ranges::{Assigned, Row, shares_in_order, stand_before};
+use crate::span::Span;
 use crate::taken::Taken;
 use std::alloc::{AllocError, Global};
 
@@ -31,7 +32,7 @@ pub(crate) struct Gathered<V> {
 }
 
 impl<V: Copy> Gathered<V> {
-    ghost use Rattle.lbk_ucd.specs.Reading.{count_of};
+    ghost use Rattle.lbk_ucd.specs.Reading.{Adds, count_of};
     ghost use Rattle.lbk_ucd.specs.Tables.{value_of};
 
     /// No rows and no defaults.
@@ -63,61 +64,51 @@ impl<V: Copy> Gathered<V> {
         self.rows.len() + self.defaults.len() >= MOST_ROWS
     }
 
-    /// Whether a row has a code point from `first` to `last`.
-    pub(crate) fn any_shares(&self, first: u32, last: u32) -> bool
-        requires rises { first ≤ last }
-        requires last { last ≤ 0x10FFFF }
-        ensures { result ≡ list_any (shares first last) self.now.rows.items }
+    /// Whether a row has one of these code points.
+    pub(crate) fn any_shares(&self, span: Span) -> bool
+        ensures { result ≡ list_any (shares span.first span.last) self.now.rows.items }
     {
         if self.taken.is_unused() {
-            shares_in_order(&self.rows, first, last)
+            shares_in_order(&self.rows, span)
         } else {
-            self.taken.any(first, last)
+            self.taken.any(span)
         }
     }
 
     /// Keeps a row that shares no code point with the kept ones.
-    pub(crate) fn add_row(&mut self, row: Row<V>) -> Result<(), AllocError>
-        requires range { IsRange row }
-        requires apart { list_any (shares row.first row.last) self.old.rows.items ≡ false }
+    pub(crate) fn add_row(&mut self, span: Span, value: V) -> Result<(), AllocError>
+        requires apart { list_any (shares span.first span.last) self.old.rows.items ≡ false }
         requires room { count_of self.old < MOST_ROWS }
-        ensures ok { OnOk result (self.new.rows.items ≡ self.old.rows.items ++ row ∷ []) }
-        ensures defaults { self.new.defaults.items ≡ self.old.defaults.items }
-        ensures unlisted { self.new.unlisted ≡ self.old.unlisted }
+        ensures { OnOk result (Adds (Some (row_of span value)) None self.old self.new) }
     {
-        if self.taken.is_unused() && !stand_before(&self.rows, row.first) {
-            self.taken.add_rows(&self.rows)?;
+        self.take_before(span.first)?;
+        self.rows.push(span.row(value))?;
+        if !self.taken.is_unused() {
+            self.taken.add(span);
         }
-        self.push_row(row)
+        Ok(())
     }
 
-    /// Keeps a row that comes after all kept ones, or any other if `taken` has their code points.
-    fn push_row(&mut self, row: Row<V>) -> Result<(), AllocError>
-        requires range { IsRange row }
-        requires apart { list_any (shares row.first row.last) self.old.rows.items ≡ false }
-        requires room { count_of self.old < MOST_ROWS }
-        requires behind { self.old.taken.words.items ≡ []
-            → All (λ other. other.last < row.first) self.old.rows.items }
-        ensures ok { OnOk result (self.new.rows.items ≡ self.old.rows.items ++ row ∷ []) }
+    /// Takes the code points of the kept rows, unless they are taken or all these rows end before this code point.
+    fn take_before(&mut self, first: u32) -> Result<(), AllocError>
+        ensures rows { self.new.rows.items ≡ self.old.rows.items }
         ensures defaults { self.new.defaults.items ≡ self.old.defaults.items }
         ensures unlisted { self.new.unlisted ≡ self.old.unlisted }
+        ensures behind { OnOk result (self.new.taken.words.items ≡ []
+            → All (λ other. other.last < first) self.new.rows.items) }
     {
-        self.rows.push(row)?;
-        if !self.taken.is_unused() {
-            self.taken.add(row.first, row.last);
+        if self.taken.is_unused() && !stand_before(&self.rows, first) {
+            self.taken.add_rows(&self.rows)?;
         }
         Ok(())
     }
 
     /// Keeps a further default line.
-    pub(crate) fn add_default(&mut self, row: Row<V>) -> Result<(), AllocError>
-        requires range { IsRange row }
-        requires room { count_of self.old < MOST_ROWS }
-        ensures ok { OnOk result (self.new.defaults.items ≡ self.old.defaults.items ++ row ∷ []) }
-        ensures rows { self.new.rows.items ≡ self.old.rows.items }
-        ensures unlisted { self.new.unlisted ≡ self.old.unlisted }
+    pub(crate) fn add_default(&mut self, span: Span, value: V) -> Result<(), AllocError>
+        requires { count_of self.old < MOST_ROWS }
+        ensures { OnOk result (Adds None (Some (row_of span value)) self.old self.new) }
     {
-        self.defaults.push(row)?;
+        self.defaults.push(span.row(value))?;
         Ok(())
     }
 

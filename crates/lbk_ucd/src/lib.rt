@@ -18,6 +18,7 @@ mod property_line;
 mod published;
 mod ranges;
 mod samples;
+mod span;
 mod tables;
 mod taken;
 mod which;

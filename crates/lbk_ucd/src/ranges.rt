@@ -2,8 +2,10 @@
 
 ghost use Rattle.std.specs.Prelude.{◌≡◌, ◌≤◌, ◌<◌, ℕ, true, length, unwrap_or};
 ghost use Rattle.std.specs.List.{All, AllWithin, list_any};
-ghost use Rattle.lbk_ucd.specs.Ranges.{IsFirstFrom, IsInOrder, IsStretch};
+ghost use Rattle.lbk_ucd.specs.Ranges.{IsFirstFrom, IsInOrder, IsRange, IsStretch, row_of};
 ghost use Rattle.lbk_ucd.specs.Rows.{first_value, shares};
+
+use crate::span::Span;
 
 /// The greatest code point.
 pub(crate) const LAST_CODE: u32 = 0x10_FFFF;
@@ -14,6 +16,20 @@ pub(crate) struct Row<V> {
     pub(crate) first: u32,
     pub(crate) last: u32,
     pub(crate) value: V,
+}
+
+impl Span {
+    /// These code points with a value.
+    pub(crate) fn row<V: Copy>(self, value: V) -> Row<V>
+        ensures row { result ≡ row_of self value }
+        ensures range { IsRange result }
+    {
+        Row {
+            first: self.first,
+            last: self.last,
+            value,
+        }
+    }
 }
 
 /// A value, the last code point up to which all have it, and the index of the first row that does not end before the
@@ -58,14 +74,13 @@ impl<V: Copy> Assigned<V> {
     }
 }
 
-/// Whether one of the sorted rows has a code point from `first` to `last`.
-pub(crate) fn shares_in_order<V: Copy>(rows: &[Row<V>], first: u32, last: u32) -> bool
-    requires ordered { IsInOrder rows.now }
-    requires rises { first ≤ last }
-    ensures { result ≡ list_any (shares first last) rows.now }
+/// Whether one of the sorted rows has one of these code points.
+pub(crate) fn shares_in_order<V: Copy>(rows: &[Row<V>], span: Span) -> bool
+    requires { IsInOrder rows.now }
+    ensures { result ≡ list_any (shares span.first span.last) rows.now }
 {
-    let at = first_near(rows, first, rows.len());
-    at < rows.len() && rows[at].first <= last
+    let at = first_near(rows, span.first, rows.len());
+    at < rows.len() && rows[at].first <= span.last
 }
 
 /// Whether all of the sorted rows end before a code point.

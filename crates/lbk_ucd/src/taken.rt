@@ -8,6 +8,7 @@ ghost use Rattle.lbk_ucd.specs.Ranges.{AreMarked, IsRange};
 ghost use Rattle.lbk_ucd.specs.declared.taken.TheConstants.{WORDS};
 
 use crate::ranges::Row;
+use crate::span::Span;
 use lbk_masks::{join, kept_from};
 use std::alloc::{AllocError, Global};
 
@@ -42,14 +43,14 @@ impl Taken {
         self.words.is_empty()
     }
 
-    /// Whether a code point from `first` to `last` is taken.
-    pub(crate) fn any(&self, first: u32, last: u32) -> bool
-        requires rises { first ≤ last }
-        requires within { last ≤ 0x10FFFF }
-        ensures yes { result ≡ true → (k : ℕ) × (first ≤ k) × (k ≤ last) × (is_marked self.now.words.items k ≡ true) }
-        ensures no { result ≡ false → (k : ℕ) → first ≤ k → k ≤ last → is_marked self.now.words.items k ≡ false }
+    /// Whether one of these code points is taken.
+    pub(crate) fn any(&self, span: Span) -> bool
+        ensures yes { result ≡ true → (k : ℕ) × (span.first ≤ k) × (k ≤ span.last)
+            × (is_marked self.now.words.items k ≡ true) }
+        ensures no { result ≡ false → (k : ℕ) → span.first ≤ k → k ≤ span.last
+            → is_marked self.now.words.items k ≡ false }
     {
-        !self.words.is_empty() && any_marked(&self.words, first as usize, last as usize)
+        !self.words.is_empty() && any_marked(&self.words, span.first as usize, span.last as usize)
     }
 
     /// Takes the code points of the first rows. On an error none is taken.
@@ -65,17 +66,15 @@ impl Taken {
         Ok(())
     }
 
-    /// Takes the code points from `first` to `last`, too.
-    pub(crate) fn add(&mut self, first: u32, last: u32)
-        requires rises { first ≤ last }
-        requires within { last ≤ 0x10FFFF }
-        requires room { 0 < length self.old.words.items }
+    /// Takes these code points, too.
+    pub(crate) fn add(&mut self, span: Span)
+        requires { 0 < length self.old.words.items }
         ensures used { length self.new.words.items ≡ length self.old.words.items }
-        ensures inside { (k : ℕ) → first ≤ k → k ≤ last → is_marked self.new.words.items k ≡ true }
-        ensures outside { (k : ℕ) → (k < first) ⊎ (last < k) → is_marked self.new.words.items k
+        ensures inside { (k : ℕ) → span.first ≤ k → k ≤ span.last → is_marked self.new.words.items k ≡ true }
+        ensures outside { (k : ℕ) → (k < span.first) ⊎ (span.last < k) → is_marked self.new.words.items k
             ≡ is_marked self.old.words.items k }
     {
-        mark_all(&mut self.words, first as usize, last as usize);
+        mark_all(&mut self.words, span.first as usize, span.last as usize);
     }
 }
 

@@ -20,4 +20,4 @@ told rows words first last false ranges marked rises one other = sym (shares_unm
 pub returns-else-is_unused : goal.returns-else-is_unused
 returns-else-is_unused g c =
     let self = c.args.self.now in
-    told self.rows.items self.taken.words.items c.args.first c.args.last c.any.result self.ranges (self.marked (c.is_unused.ensures.no c.if-is_unused.false)) c.requires.rises c.any.ensures.yes c.any.ensures.no
+    told self.rows.items self.taken.words.items c.args.span.first c.args.span.last c.any.result self.ranges (self.marked (c.is_unused.ensures.no c.if-is_unused.false)) c.args.span.rises c.any.ensures.yes c.any.ensures.no
