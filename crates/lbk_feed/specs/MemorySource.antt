@@ -1,5 +1,8 @@
 -- What a `MemorySource` shows.
-use Rattle.std.specs.Prelude.{ℕ, ◌-◌, ◌^◌, max, List, [], ◌∷◌, Option}
+use Rattle.std.specs.Prelude.{◌≡◌, ℕ, ◌-◌, ◌^◌, ◌≤◌, ◌↔◌, max, min, List, [], ◌∷◌, length, Option, Some, Result}
+use Rattle.std.specs.Prelude.{IsErr, IfOk, OnOk, OnErr}
+use Rattle.lbk_feed.specs.Devices.{Takes}
+use Rattle.lbk_feed.specs.declared.traits.Failed.{Failed}
 use Rattle.lbk_feed.specs.declared.tally.Tally.{Tally}
 use Rattle.lbk_feed.specs.declared.devices.memory_source.MemorySource.{MemorySource}
 
@@ -29,3 +32,15 @@ later_sizes (n ∷ m ∷ sizes) = m ∷ sizes
 -- its counts
 unfoldable pub source_tally : MemorySource → Tally
 source_tally s = s.tally
+
+-- a read into a buffer of this room, before it is counted: the read with that number fails, and any other takes as many
+-- bytes as its size, the room and the unread ones allow
+pub record Gives (old new : MemorySource) (room : ℕ) (buf : List ℕ) (result : Result ℕ Failed) : Type 0 where
+  pub within : IfOk result (λ n. n ≤ room)
+  pub fails : IsErr result ↔ (failing_read old ≡ Some (source_tally old).reads)
+  pub size : IfOk result (λ n. n ≡ min (min (next_size_of (source_sizes old)) room) (length (source_bytes old)))
+  pub bytes : Takes (Some (source_bytes old)) (Some (source_bytes new)) result buf
+  pub sizes : OnOk result (source_sizes new ≡ later_sizes (source_sizes old))
+  pub same_sizes : OnErr result (source_sizes new ≡ source_sizes old)
+  pub failing : failing_read new ≡ failing_read old
+  pub tally : source_tally new ≡ source_tally old

@@ -21,7 +21,7 @@ pub struct MemorySink {
 }
 
 impl MemorySink {
-    ghost use Rattle.lbk_feed.specs.MemorySink.{sink_bytes, sink_room, most_in_a_write, sink_tally};
+    ghost use Rattle.lbk_feed.specs.MemorySink.{Accepts, sink_bytes, sink_room, most_in_a_write, sink_tally};
 
     /// A sink that accepts `room` bytes, as many in each write as fit, and then fails.
     ///
@@ -69,16 +69,7 @@ impl MemorySink {
     }
 
     fn take(&mut self, bytes: &[u8]) -> Result<usize, Failed>
-        ensures within { IfOk result (λ n. n ≤ length bytes.now) }
-        ensures some { 0 < length bytes.now → IfOk result (λ n. 0 < n) }
-        ensures size { IfOk result (λ n.
-            n ≡ min (min (length bytes.now) (most_in_a_write self.old))
-            (sink_room self.old - length (sink_bytes self.old))) }
-        ensures fails { IsErr result ↔ ((0 < length bytes.now) × (sink_room self.old ≤ length (sink_bytes self.old))) }
-        ensures bytes { Puts (Some (sink_bytes self.old)) (Some (sink_bytes self.new)) result bytes.now }
-        ensures room { sink_room self.new ≡ sink_room self.old }
-        ensures most { most_in_a_write self.new ≡ most_in_a_write self.old }
-        ensures tally { sink_tally self.new ≡ sink_tally self.old }
+        ensures { Accepts self.old self.new bytes.now result }
     {
         let room = self.room.saturating_sub(self.bytes.len());
         let n = bytes.len().min(self.most).min(room);

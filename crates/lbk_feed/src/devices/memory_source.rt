@@ -4,8 +4,8 @@
 ghost use Rattle.std.specs.Prelude.{◌≡◌, ◌≤◌, ◌↔◌, [], min, length, Some, None, IsErr, IfOk, OnOk, OnErr};
 ghost use Rattle.lbk_feed.specs.Devices.{count_up, given_by, failures_after, ended_after, Takes};
 ghost use Rattle.lbk_feed.specs.Tally.{IsFresh, reads_in};
-ghost use Rattle.lbk_feed.specs.MemorySource.{source_bytes, source_sizes, next_size_of, later_sizes, failing_read};
-ghost use Rattle.lbk_feed.specs.MemorySource.{source_tally};
+ghost use Rattle.lbk_feed.specs.MemorySource.{Gives, source_bytes, source_sizes, next_size_of, later_sizes};
+ghost use Rattle.lbk_feed.specs.MemorySource.{failing_read, source_tally};
 
 use crate::tally::Tally;
 use crate::traits::{Failed, Source};
@@ -79,15 +79,7 @@ impl<'a> MemorySource<'a> {
     }
 
     fn give(&mut self, buf: &mut [u8]) -> Result<usize, Failed>
-        ensures within { IfOk result (λ n. n ≤ length buf.old) }
-        ensures fails { IsErr result ↔ (failing_read self.old ≡ Some (source_tally self.old).reads) }
-        ensures size { IfOk result (λ n. n
-            ≡ min (min (next_size_of (source_sizes self.old)) (length buf.old)) (length (source_bytes self.old))) }
-        ensures bytes { Takes (Some (source_bytes self.old)) (Some (source_bytes self.new)) result buf.new }
-        ensures sizes { OnOk result (source_sizes self.new ≡ later_sizes (source_sizes self.old)) }
-        ensures same_sizes { OnErr result (source_sizes self.new ≡ source_sizes self.old) }
-        ensures failing { failing_read self.new ≡ failing_read self.old }
-        ensures tally { source_tally self.new ≡ source_tally self.old }
+        ensures { Gives self.old self.new (length buf.old) buf.new result }
     {
         if self.failing == Some(self.tally.reads) {
             return Err(Failed);
