@@ -7,7 +7,7 @@ ghost use Rattle.lbk_ucd.specs.Rows.{shares, AreApart, value_at};
 ghost use Rattle.lbk_ucd.specs.declared.gathered.TheConstants.{MOST_ROWS};
 
 use crate::overlay::{flatten, overlay, sorted};
-use crate::ranges::{Assigned, Row, shares_in_order, stand_before};
+use crate::ranges::{Assigned, InOrder, Row};
 use crate::span::Span;
 use crate::taken::Taken;
 use std::alloc::{AllocError, Global};
@@ -69,7 +69,7 @@ impl<V: Copy> Gathered<V> {
         ensures { result ≡ list_any (shares span.first span.last) self.now.rows.items }
     {
         if self.taken.is_unused() {
-            shares_in_order(&self.rows, span)
+            InOrder { rows: &self.rows }.shares(span)
         } else {
             self.taken.any(span)
         }
@@ -97,7 +97,7 @@ impl<V: Copy> Gathered<V> {
         ensures behind { OnOk result (self.new.taken.words.items ≡ []
             → All (λ other. other.last < first) self.new.rows.items) }
     {
-        if self.taken.is_unused() && !stand_before(&self.rows, first) {
+        if self.taken.is_unused() && !(InOrder { rows: &self.rows }.stand_before(first)) {
             self.taken.add_rows(&self.rows)?;
         }
         Ok(())
@@ -131,7 +131,11 @@ impl<V: Copy> Gathered<V> {
         }
         let defaults = flatten(alloc, &defaults)?;
         Ok(Assigned {
-            rows: overlay(alloc, &defaults, &rows)?,
+            rows: overlay(
+                alloc,
+                &InOrder { rows: &defaults },
+                &InOrder { rows: &rows },
+            )?,
             unlisted,
         })
     }

@@ -4,7 +4,7 @@ ghost use Rattle.std.specs.List.{All, AllPairs};
 ghost use Rattle.lbk_ucd.specs.Ranges.{IsInOrder, IsOverlay, IsRange};
 ghost use Rattle.lbk_ucd.specs.Rows.{AreApart, first_value};
 
-use crate::ranges::{LAST_CODE, Row, next_from, stretch_from};
+use crate::ranges::{InOrder, LAST_CODE, Row};
 use std::alloc::{AllocError, Global};
 
 /// Disjoint rows, sorted by code point.
@@ -34,29 +34,27 @@ pub(crate) fn flatten<V: Copy>(alloc: Global, rows: &[Row<V>]) -> Result<Vec<Row
     let (earlier, later) = rows.split_at(rows.len() / 2);
     let under = flatten(alloc, earlier)?;
     let over = flatten(alloc, later)?;
-    overlay(alloc, &under, &over)
+    overlay(alloc, &InOrder { rows: &under }, &InOrder { rows: &over })
 }
 
 /// Sorted rows; a code point has its value in `over`, or else in `under`.
 pub(crate) fn overlay<V: Copy>(
     alloc: Global,
-    under: &[Row<V>],
-    over: &[Row<V>],
+    under: &InOrder<'_, V>,
+    over: &InOrder<'_, V>,
 ) -> Result<Vec<Row<V>>, AllocError>
-    requires under { IsInOrder under.now }
-    requires over { IsInOrder over.now }
     ensures ordered { IfOk result (λ rows. IsInOrder rows.items) }
-    ensures values { IfOk result (λ rows. IsOverlay under.now over.now rows.items) }
+    ensures values { IfOk result (λ rows. IsOverlay under.now.rows.now over.now.rows.now rows.items) }
 {
     let mut rows = Vec::new(alloc);
     let mut from = 0;
     let mut low = 0;
     let mut high = 0;
     while from <= LAST_CODE {
-        low = next_from(under, low, from);
-        high = next_from(over, high, from);
-        let below = stretch_from(under, low, from);
-        let above = stretch_from(over, high, from);
+        low = under.next_from(low, from);
+        high = over.next_from(high, from);
+        let below = under.stretch_from(low, from);
+        let above = over.stretch_from(high, from);
         let last = below.last.min(above.last);
         if let Some(value) = above.value.or(below.value) {
             rows.push(Row {

@@ -49,6 +49,13 @@ pub(crate) struct Assigned<V> {
     ghost ordered: { IsInOrder rows.items },
 }
 
+/// Rows sorted by code point, of which no two share one.
+#[derive(Drop)]
+pub(crate) struct InOrder<'a, V> {
+    pub(crate) rows: &'a [Row<V>],
+    ghost ordered: { IsInOrder rows.now },
+}
+
 impl<V: Copy> Assigned<V> {
     ghost use Rattle.lbk_ucd.specs.Tables.{value_of};
 
@@ -56,7 +63,8 @@ impl<V: Copy> Assigned<V> {
     pub(crate) fn value(&self, code: u32) -> V
         ensures { result ≡ value_of self.now code }
     {
-        row_value(&self.rows, code).unwrap_or(self.unlisted)
+        let sorted = InOrder { rows: &self.rows };
+        sorted.value(code).unwrap_or(self.unlisted)
     }
 
     /// The value of a code point, and the last one up to which all have it. The look-up is fast if `near` is the index
@@ -65,7 +73,8 @@ impl<V: Copy> Assigned<V> {
         requires { code ≤ 0x10FFFF }
         ensures { IsStretch (value_of self.now) code result.last result.value }
     {
-        let found = stretch_from(&self.rows, first_near(&self.rows, code, near), code);
+        let sorted = InOrder { rows: &self.rows };
+        let found = sorted.stretch_from(sorted.first_near(code, near), code);
         Stretch {
             value: found.value.unwrap_or(self.unlisted),
             last: found.last,
@@ -74,97 +83,99 @@ impl<V: Copy> Assigned<V> {
     }
 }
 
-/// Whether one of the sorted rows has one of these code points.
-pub(crate) fn shares_in_order<V: Copy>(rows: &[Row<V>], span: Span) -> bool
-    requires { IsInOrder rows.now }
-    ensures { result ≡ list_any (shares span.first span.last) rows.now }
-{
-    let at = first_near(rows, span.first, rows.len());
-    at < rows.len() && rows[at].first <= span.last
-}
-
-/// Whether all of the sorted rows end before a code point.
-pub(crate) fn stand_before<V: Copy>(rows: &[Row<V>], code: u32) -> bool
-    requires { IsInOrder rows.now }
-    ensures { result ≡ true → All (λ row. row.last < code) rows.now }
-{
-    first_near(rows, code, rows.len()) == rows.len()
-}
-
-/// The value of the row that has a code point, by binary search.
-fn row_value<V: Copy>(rows: &[Row<V>], code: u32) -> Option<V>
-    requires { IsInOrder rows.now }
-    ensures { result ≡ first_value code rows.now }
-{
-    let at = first_from(rows, code);
-    if at < rows.len() && rows[at].first <= code {
-        Some(rows[at].value)
-    } else {
-        None
+impl<V: Copy> InOrder<'_, V> {
+    /// Whether one of the rows has one of these code points.
+    pub(crate) fn shares(&self, span: Span) -> bool
+        ensures { result ≡ list_any (shares span.first span.last) self.now.rows.now }
+    {
+        let rows = self.rows;
+        let at = self.first_near(span.first, rows.len());
+        at < rows.len() && rows[at].first <= span.last
     }
-}
 
-/// The value of the row that has a code point, if one has it, and the last code point with the same result. The rows
-/// before `at` end before the code point, the others do not.
-pub(crate) fn stretch_from<V: Copy>(rows: &[Row<V>], at: usize, code: u32) -> Stretch<Option<V>>
-    requires ordered { IsInOrder rows.now }
-    requires code { code ≤ 0x10FFFF }
-    requires at { IsFirstFrom rows.now code at }
-    ensures { IsStretch (λ k. first_value k rows.now) code result.last result.value }
-{
-    if at == rows.len() {
-        return Stretch {
-            value: None,
-            last: LAST_CODE,
-            at,
-        };
+    /// Whether all of the rows end before a code point.
+    pub(crate) fn stand_before(&self, code: u32) -> bool
+        ensures { result ≡ true → All (λ row. row.last < code) self.now.rows.now }
+    {
+        let rows = self.rows;
+        self.first_near(code, rows.len()) == rows.len()
     }
-    let row = rows[at];
-    if code < row.first {
-        Stretch {
-            value: None,
-            last: row.first - 1,
-            at,
-        }
-    } else {
-        Stretch {
-            value: Some(row.value),
-            last: row.last,
-            at,
+
+    /// The value of the row that has a code point, by binary search.
+    fn value(&self, code: u32) -> Option<V>
+        ensures { result ≡ first_value code self.now.rows.now }
+    {
+        let rows = self.rows;
+        let at = self.first_from(code);
+        if at < rows.len() && rows[at].first <= code {
+            Some(rows[at].value)
+        } else {
+            None
         }
     }
-}
 
-/// The index of the first row that does not end before a code point, or the number of rows.
-fn first_from<V: Copy>(rows: &[Row<V>], code: u32) -> usize
-    requires { IsInOrder rows.now }
-    ensures { IsFirstFrom rows.now code result }
-{
-    rows.partition_point(|row| row.last < code)
-}
-
-/// The same, searched from an index on; the rows before it end before the code point.
-fn first_near<V: Copy>(rows: &[Row<V>], code: u32, near: usize) -> usize
-    requires { IsInOrder rows.now }
-    ensures { IsFirstFrom rows.now code result }
-{
-    if 0 < near && near <= rows.len() && rows[near - 1].last < code {
-        next_from(rows, near, code)
-    } else {
-        first_from(rows, code)
+    /// The value of the row that has a code point, if one has it, and the last code point with the same result. The
+    /// rows before `at` end before the code point, the others do not.
+    pub(crate) fn stretch_from(&self, at: usize, code: u32) -> Stretch<Option<V>>
+        requires code { code ≤ 0x10FFFF }
+        requires at { IsFirstFrom self.now.rows.now code at }
+        ensures { IsStretch (λ k. first_value k self.now.rows.now) code result.last result.value }
+    {
+        let rows = self.rows;
+        if at == rows.len() {
+            return Stretch {
+                value: None,
+                last: LAST_CODE,
+                at,
+            };
+        }
+        let row = rows[at];
+        if code < row.first {
+            Stretch {
+                value: None,
+                last: row.first - 1,
+                at,
+            }
+        } else {
+            Stretch {
+                value: Some(row.value),
+                last: row.last,
+                at,
+            }
+        }
     }
-}
 
-/// The index of the first row that does not end before a code point; those before `at` do.
-pub(crate) fn next_from<V: Copy>(rows: &[Row<V>], at: usize, code: u32) -> usize
-    requires ordered { IsInOrder rows.now }
-    requires within { at ≤ length rows.now }
-    requires before { AllWithin (λ row. row.last < code) rows.now 0 at }
-    ensures { IsFirstFrom rows.now code result }
-{
-    let mut next = at;
-    while next < rows.len() && rows[next].last < code {
-        next += 1;
+    /// The index of the first row that does not end before a code point, or the number of rows.
+    fn first_from(&self, code: u32) -> usize
+        ensures { IsFirstFrom self.now.rows.now code result }
+    {
+        let rows = self.rows;
+        rows.partition_point(|row| row.last < code)
     }
-    next
+
+    /// The same, searched from an index on; the rows before it end before the code point.
+    fn first_near(&self, code: u32, near: usize) -> usize
+        ensures { IsFirstFrom self.now.rows.now code result }
+    {
+        let rows = self.rows;
+        if 0 < near && near <= rows.len() && rows[near - 1].last < code {
+            self.next_from(near, code)
+        } else {
+            self.first_from(code)
+        }
+    }
+
+    /// The index of the first row that does not end before a code point; those before `at` do.
+    pub(crate) fn next_from(&self, at: usize, code: u32) -> usize
+        requires within { at ≤ length self.now.rows.now }
+        requires before { AllWithin (λ row. row.last < code) self.now.rows.now 0 at }
+        ensures { IsFirstFrom self.now.rows.now code result }
+    {
+        let rows = self.rows;
+        let mut next = at;
+        while next < rows.len() && rows[next].last < code {
+            next += 1;
+        }
+        next
+    }
 }

@@ -18,11 +18,11 @@ loop-from-preserved g c =
       done = elim c.match-or.branch [
         | in-Some+in_ok-push w ↦
             rw (w.rows-is, w.in_ok-push.ensures.items)
-            (done_some c.args.under.now c.args.over.now c.loop-from.rows.items c.loop-from.from c.min-last.result c.loop-from.invariant.done rises w.in-Some.value
+            (done_some c.args.under.now.rows.now c.args.over.now.rows.now c.loop-from.rows.items c.loop-from.from c.min-last.result c.loop-from.invariant.done rises w.in-Some.value
             most (λ code low high. value_here code low high ∙ (sym c.or.ensures ∙ w.in-Some.is)))
         | in_default w ↦
             rw w.rows-is
-            (done_none c.args.under.now c.args.over.now c.loop-from.rows.items c.loop-from.from c.min-last.result c.loop-from.invariant.done rises
+            (done_none c.args.under.now.rows.now c.args.over.now.rows.now c.loop-from.rows.items c.loop-from.from c.min-last.result c.loop-from.invariant.done rises
             (λ code low high. value_here code low high ∙ (sym c.or.ensures ∙ w.in_default.is)))
       ];
     }
@@ -34,11 +34,11 @@ loop-from-preserved g c =
     most = let b = c.min-last.ensures in omega (arith, c.stretch_from-below.ensures.most, c.stretch_from-above.ensures.most)
 
     value_here : (code : ℕ) → c.loop-from.from ≤ code → code ≤ c.min-last.result
-        → option_or (first_value code c.args.over.now) (first_value code c.args.under.now) ≡ option_or c.stretch_from-above.result.value c.stretch_from-below.result.value
+        → option_or (first_value code c.args.over.now.rows.now) (first_value code c.args.under.now.rows.now) ≡ option_or c.stretch_from-above.result.value c.stretch_from-below.result.value
     value_here code low high =
         let b = c.min-last.ensures in
         rw (c.stretch_from-above.ensures.same code low (omega arith), c.stretch_from-below.ensures.same code low (omega arith)) refl
 
 pub returns-clause-values : goal.returns-clause-values
 returns-clause-values g c =
-    all_done c.args.under.now c.args.over.now c.loop-from.rows.items c.loop-from.from c.requires.under c.requires.over c.loop-from.invariant.done (omega arith)
+    all_done c.args.under.now.rows.now c.args.over.now.rows.now c.loop-from.rows.items c.loop-from.from c.args.under.now.ordered c.args.over.now.ordered c.loop-from.invariant.done (omega arith)

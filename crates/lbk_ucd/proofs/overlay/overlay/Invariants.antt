@@ -5,12 +5,12 @@ use Rattle.lbk_ucd.proofs.overlay.overlay.Given as goal
 
 abbrev pub invariant-loop-from : goal.invariant-loop-from
 invariant-loop-from g l = record {
-  low : l.low ≤ length l.under;
-  under : AllWithin (λ row. row.last < l.from) l.under 0 l.low;
-  high : l.high ≤ length l.over;
-  over : AllWithin (λ row. row.last < l.from) l.over 0 l.high;
+  low : l.low ≤ length l.under.rows.now;
+  under : AllWithin (λ row. row.last < l.from) l.under.rows.now 0 l.low;
+  high : l.high ≤ length l.over.rows.now;
+  over : AllWithin (λ row. row.last < l.from) l.over.rows.now 0 l.high;
   most : l.from ≤ 0x110000;
-  done : IsDone l.under l.over l.rows.items l.from;
+  done : IsDone l.under.rows.now l.over.rows.now l.rows.items l.from;
 }
 
 abbrev pub decreases-loop-from : goal.decreases-loop-from

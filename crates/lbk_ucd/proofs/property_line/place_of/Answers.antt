@@ -1,4 +1,4 @@
-use Rattle.std.proofs.Common.{◌≡◌, ◌==◌, false, length, get_or, arith, sym}
+use Rattle.std.proofs.Common.{◌==◌, length, get_or, arith, sym}
 use Rattle.std.proofs.lemmas.List.Sums.{position_or_len_is}
 use Rattle.lbk_ucd.proofs.TakenLemmas.{is-false}
 use Rattle.lbk_ucd.proofs.property_line.place_of.Goals as goal

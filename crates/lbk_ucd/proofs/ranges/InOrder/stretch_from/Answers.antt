@@ -2,15 +2,15 @@ use Rattle.std.proofs.Common.{◌∙◌, Some, arith, sym, ap, rules}
 use Rattle.std.proofs.lemmas.List.{get_or_default}
 use Rattle.lbk_ucd.proofs.OverlayLemmas.{no_value}
 use Rattle.lbk_ucd.proofs.RowLemmas.{first_value_here, meets_within, none_shares}
-use Rattle.lbk_ucd.proofs.ranges.stretch_from.Goals as goal
+use Rattle.lbk_ucd.proofs.ranges.InOrder.stretch_from.Goals as goal
 
 pub returns-then-at-rows : goal.returns-then-at-rows
 returns-then-at-rows g c = record {
   onward = search rules;
   most = search rules;
   same = λ k low high.
-      let rows = c.args.rows.now in
-      no_value rows k (none_shares rows k k c.args.at c.requires.ordered
+      let rows = c.args.self.now.rows.now in
+      no_value rows k (none_shares rows k k c.args.at c.args.self.now.ordered
       (λ i d l h. let e = c.requires.at.before i d l h in omega arith) (λ d lt. absurd (omega arith)));
 }
 
@@ -19,8 +19,8 @@ returns-then-code-row g c = record {
   onward = search rules;
   most = search rules;
   same = λ k low high.
-      let rows = c.args.rows.now in
-      no_value rows k (none_shares rows k k c.args.at c.requires.ordered
+      let rows = c.args.self.now.rows.now in
+      no_value rows k (none_shares rows k k c.args.at c.args.self.now.ordered
       (λ i d l h. let e = c.requires.at.before i d l h in omega arith)
       (λ d lt. let row = c.index-rows-at.result in rw (get_or_default rows c.args.at d row lt, ← c.index-rows-at.is) (omega arith)));
 }
@@ -30,7 +30,7 @@ returns-else-code-row g c = record {
   onward = search rules;
   most = search rules;
   same = λ k low high.
-      let rows = c.args.rows.now in
+      let rows = c.args.self.now.rows.now in
       let row = c.index-rows-at.result in
       let at = c.args.at in
       let found = first_value_here rows k at row (omega arith)

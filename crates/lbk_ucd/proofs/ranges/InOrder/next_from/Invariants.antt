@@ -1,6 +1,6 @@
 use Rattle.std.proofs.Common.{◌-◌, ◌<◌, ◌≤◌, length}
 use Rattle.std.specs.List.{AllWithin}
-use Rattle.lbk_ucd.proofs.ranges.next_from.Given as goal
+use Rattle.lbk_ucd.proofs.ranges.InOrder.next_from.Given as goal
 
 abbrev pub invariant-loop-next : goal.invariant-loop-next
 invariant-loop-next g l = record {
