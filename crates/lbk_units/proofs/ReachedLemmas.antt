@@ -10,7 +10,6 @@ use Rattle.lbk_rules.specs.declared.steps.TheConstants.{HELD}
 use Rattle.lbk_values.specs.declared.profile.Profile.{Profile}
 use Rattle.lbk_values.specs.declared.profile.Profile.TheVariants.{First}
 use Rattle.lbk_rules.specs.declared.Verdict.{Verdict}
-use Rattle.lbk_rules.specs.Breaks.{break_by}
 use Rattle.lbk_rules.specs.Normal.{normal}
 use Rattle.lbk_rules.specs.Verdict.{verdict_between_in}
 use Rattle.lbk_rules.specs.FlatTable.{AreFlatKinds, KnowsTaken}
@@ -19,17 +18,13 @@ use Rattle.lbk_rules.specs.RowMachineFits.{normals}
 use Rattle.lbk_rules.specs.Rows.{left_at, step_by, steps_in, verdict_shown}
 use Rattle.lbk_bytes.specs.declared.deciding.Decided.{Decided}
 use Rattle.lbk_bytes.specs.declared.fill_state.FillState.{FillState}
-use Rattle.lbk_bytes.specs.declared.raw_break.RawBreak.{RawBreak}
-use Rattle.lbk_bytes.specs.Bytes.{with_break}
-use Rattle.lbk_bytes.specs.Reached.{Ahead, Onward, onward_all, onward_to, scalars_of}
-use Rattle.lbk_bytes.specs.Shown.{given_in}
-use Rattle.lbk_bytes.proofs.ReachedLemmas.{with_break-more}
+use Rattle.lbk_bytes.specs.Reached.{Onward, scalars_of}
 use Rattle.lbk_bytes.proofs.StepLemmas.{IsSwiftStep, decides-text, knows-more, swift-step}
-use Rattle.lbk_units.specs.declared.unit.Piece.{Piece}
-use Rattle.lbk_units.specs.Reached.{IsUnitDecided, PositionsReached, UnitsReached, UnitsReachedBy, on_from}
+use Rattle.lbk_units.specs.declared.unit.UnitScalar.{UnitScalar}
+use Rattle.lbk_units.specs.Reached.{IsUnitDecided, UnitsReachedBy, on_from}
 use Rattle.lbk_units.proofs.UnitLemmas.{IsFrontAt}
 
--- one more scalar, before which `add` adds what is given
+-- one more scalar, before which `add` adds what is written
 module _ (from : Onward) (add : ℕ → Verdict → List Break → List Break)
     (steps : (profile : Profile) (cell : ℕ → Cell) (before : List ℕ) (at : ℕ) (p : Decoded) (ps : List Decoded)
     → from profile cell before at (p ∷ ps)
@@ -75,48 +70,31 @@ module _ (from : Onward) (add : ℕ → Verdict → List Break → List Break)
       reached-step profile cell on all here (record { count = next; row = found.row; at = found.at })
       given after d.piece (verdict_shown found.shown) r d.begins d.moved d.some d.knows d.decides front
 
--- by a step that decides
-pub reached-swift : (profile : Profile) (cell : ℕ → Cell) (on : ℕ → List Decoded) (all : Ahead) (steps : List (List Step)) (kinds : List ℕ)
-    (out after : List RawBreak) (count next row at c size : ℕ) (p : Decoded) (step : Step)
-    → steps ≡ steps_in profile → AreFlatKinds kinds cell → IsScalar c
-    → on at ≡ p ∷ on (at + size) → or_replacement p.char ≡ c → p.size ≡ size → 0 < size
-    → step ≡ step_by steps row (get_or kinds c 0) → ¬ (step.shown ≡ HELD)
-    → (given_in after next ≡ given_in out count ++ with_break at (verdict_shown step.shown) [])
-    → UnitsReached profile cell on all (record { count = count; row = row; at = at }) (given_in out count)
-    → UnitsReached profile cell on all (record { count = next; row = step.next; at = at + size }) (given_in after next)
-reached-swift profile cell on all steps kinds out after count next row at c size p step are are_kinds is_scalar begins reads sized some same apart front r =
-    let kind = real_kind (get_or kinds c 0) in
-    let is_kind = are_kinds c is_scalar in
-    let here : IsSwiftStep profile (left_at row) (kind_cell kind) step =
-    subst (λ s. IsSwiftStep profile (left_at row) (kind_cell kind) s) (sym same) (swift-step profile steps row (get_or kinds c 0) are r.knows.0) in
-    let right = map cell (scalars_of (on (at + size))) in
-    reached-step (onward_to all.end) with_break (λ profile cell before at p ps. refl) with_break-more profile cell on all.breaks (record { count = count; row = row; at = at }) (record { count = next; row = step.next; at = at + size })
-    (given_in out count) (given_in after next) p (verdict_shown step.shown) r begins (ap (λ n. at + n) (sym sized)) (omega arith)
-    (subst (λ x. KnowsTaken cell step.next (r.taken ++ x ∷ [])) (sym reads)
-    (knows-more cell row step.next c kind is_kind here.begins here.leads r.taken r.knows))
-    (decides-text profile cell r.taken c kind step.shown right is_kind
-    (here.decides apart (reverse (normals cell r.taken)) (map normal right) (sym r.knows.1))
-    ∙ ap (λ x. verdict_between_in profile (map cell r.taken) (cell x ∷ right)) (sym reads))
-    front
+  -- by a step that decides
+  pub reached-swift : (profile : Profile) (cell : ℕ → Cell) (on : ℕ → List Decoded) (all : List Break) (steps : List (List Step)) (kinds : List ℕ)
+      (given after : List Break) (count next row at c size : ℕ) (p : Decoded) (step : Step)
+      → steps ≡ steps_in profile → AreFlatKinds kinds cell → IsScalar c
+      → on at ≡ p ∷ on (at + size) → or_replacement p.char ≡ c → p.size ≡ size → 0 < size
+      → step ≡ step_by steps row (get_or kinds c 0) → ¬ (step.shown ≡ HELD)
+      → after ≡ given ++ add at (verdict_shown step.shown) []
+      → UnitsReachedBy from profile cell on all (record { count = count; row = row; at = at }) given
+      → UnitsReachedBy from profile cell on all (record { count = next; row = step.next; at = at + size }) after
+  reached-swift profile cell on all rows kinds given after count next row at c size p step are are_kinds is_scalar begins reads sized some same apart front r =
+      let kind = real_kind (get_or kinds c 0) in
+      let is_kind = are_kinds c is_scalar in
+      let here : IsSwiftStep profile (left_at row) (kind_cell kind) step =
+      subst (λ s. IsSwiftStep profile (left_at row) (kind_cell kind) s) (sym same) (swift-step profile rows row (get_or kinds c 0) are r.knows.0) in
+      let right = map cell (scalars_of (on (at + size))) in
+      reached-step profile cell on all (record { count = count; row = row; at = at }) (record { count = next; row = step.next; at = at + size })
+      given after p (verdict_shown step.shown) r begins (ap (λ n. at + n) (sym sized)) (omega arith)
+      (subst (λ x. KnowsTaken cell step.next (r.taken ++ x ∷ [])) (sym reads)
+      (knows-more cell row step.next c kind is_kind here.begins here.leads r.taken r.knows))
+      (decides-text profile cell r.taken c kind step.shown right is_kind
+      (here.decides apart (reverse (normals cell r.taken)) (map normal right) (sym r.knows.1))
+      ∙ ap (λ x. verdict_between_in profile (map cell r.taken) (cell x ∷ right)) (sym reads))
+      front
 
--- of breaks
-pub reached-decided : (profile : Profile) (cell : ℕ → Cell) (on : ℕ → List Decoded) (all : Ahead) (here : FillState) (next : ℕ) (given after : List Break) (found : Decided)
-    → ((taken : List ℕ) → KnowsTaken cell here.row taken → IsUnitDecided profile cell on here.at taken found)
-    → (after ≡ given ++ with_break here.at (verdict_shown found.shown) [])
-    → UnitsReached profile cell on all here given
-    → UnitsReached profile cell on all (record { count = next; row = found.row; at = found.at }) after
-reached-decided profile cell on all = step-decided (onward_to all.end) with_break (λ profile cell before at p ps. refl) with_break-more profile cell on all.breaks
-
--- of positions
-pub position-decided : (profile : Profile) (cell : ℕ → Cell) (on : ℕ → List Decoded) (all : Ahead) (here : FillState) (next : ℕ) (given after : List Break) (found : Decided)
-    → ((taken : List ℕ) → KnowsTaken cell here.row taken → IsUnitDecided profile cell on here.at taken found)
-    → (after ≡ given ++ break_by here.at (verdict_shown found.shown) ∷ [])
-    → PositionsReached profile cell on all here given
-    → PositionsReached profile cell on all (record { count = next; row = found.row; at = found.at }) after
-position-decided profile cell on all =
-    step-decided (onward_all all.end) (λ at verdict more. break_by at verdict ∷ more) (λ profile cell before at p ps. refl) (λ at verdict more. refl) profile cell on all.breaks
-
-pub unit-decided : {A : Type 0} (pieces_of : List A → List Decoded) (text rest : List A) (at : ℕ) (found : Piece)
+pub unit-decided : {A : Type 0} (pieces_of : List A → List Decoded) (text rest : List A) (at : ℕ) (found : UnitScalar)
     (profile : Profile) (cell : ℕ → Cell) (taken kinds : List ℕ) (row shown : ℕ) (step : Step)
     → IsFrontAt pieces_of text at found → AreFlatKinds kinds cell → IsScalar found.scalar → rest ≡ drop (at + found.size) text
     → step ≡ step_by (steps_in First) row (get_or kinds found.scalar 0)

@@ -13,7 +13,7 @@ use Rattle.bstr.proofs.lemmas.PieceLemmas.{piece-bounds, pieces-step, sizes}
 use Rattle.lbk_rules.specs.declared.Cell.{Cell}
 use Rattle.lbk_rules.specs.Normal.{normal}
 use Rattle.lbk_bytes.specs.Reached.{scalars_of}
-use Rattle.lbk_units.specs.declared.unit.Piece.{Piece}
+use Rattle.lbk_units.specs.declared.unit.UnitScalar.{UnitScalar}
 use Rattle.lbk_units.specs.Front.{IsFront}
 use Rattle.lbk_units.specs.Reached.{Follows, on_from}
 use Rattle.lbk_units.specs.Units.{pieces_of_utf16, pieces_of_utf32, units_of, utf16_piece}
@@ -153,7 +153,7 @@ utf32-front (u ∷ us) (Some c) some iff = record {
 -- In a text
 
 -- what begins at a unit of a text
-pub record IsFrontAt {A : Type 0} (pieces_of : List A → List Decoded) (text : List A) (at : ℕ) (found : Piece) : Type 0 where
+pub record IsFrontAt {A : Type 0} (pieces_of : List A → List Decoded) (text : List A) (at : ℕ) (found : UnitScalar) : Type 0 where
   pub piece : Decoded
   pub begins : on_from pieces_of text at ≡ piece ∷ on_from pieces_of text (at + found.size)
   pub reads : or_replacement piece.char ≡ found.scalar
@@ -161,7 +161,7 @@ pub record IsFrontAt {A : Type 0} (pieces_of : List A → List Decoded) (text : 
   pub some : 0 < found.size
   pub within : at + found.size ≤ length text
 
-pub front-at : {A : Type 0} (pieces_of : List A → List Decoded) (text : List A) (at : ℕ) (found : Piece) → at < length text
+pub front-at : {A : Type 0} (pieces_of : List A → List Decoded) (text : List A) (at : ℕ) (found : UnitScalar) → at < length text
     → IsFront pieces_of (take (length text - at) (drop at text)) found → IsFrontAt pieces_of text at found
 front-at pieces_of text at found inside front =
     let here : IsFront pieces_of (drop at text) found = subst (λ us. IsFront pieces_of us found) (rest-of text at) front in
@@ -188,7 +188,7 @@ follows-text pieces_of text at found inside front = record {
 abbrev pub cells_on : {A : Type 0} → (List A → List Decoded) → (ℕ → Cell) → ℕ → List A → List Cell
 cells_on pieces_of cell at text = map normal (map cell (scalars_of (pieces_of (drop at text))))
 
-pub cells-next : {A : Type 0} (pieces_of : List A → List Decoded) (cell : ℕ → Cell) (text : List A) (at : ℕ) (found : Piece) → IsFrontAt pieces_of text at found
+pub cells-next : {A : Type 0} (pieces_of : List A → List Decoded) (cell : ℕ → Cell) (text : List A) (at : ℕ) (found : UnitScalar) → IsFrontAt pieces_of text at found
     → cells_on pieces_of cell at text ≡ normal (cell found.scalar) ∷ cells_on pieces_of cell (at + found.size) text
 cells-next pieces_of cell text at found front =
     ap (λ ps. map normal (map cell (scalars_of ps))) front.begins

@@ -5,3 +5,4 @@ pub mod Encodings
 -- What only carries proofs.
 pub mod Front
 pub mod Reached
+pub mod Filling

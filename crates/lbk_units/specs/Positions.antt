@@ -25,8 +25,8 @@ positions_of_pieces profile cell ps =
     break_by 0 (verdict_between_in profile [] (map cell (scalars_of ps)))
     ∷ positions_after 0 ps (marks profile cell (scalars_of ps))
 
--- the positions of a part of a text by itself, which has these pieces. Where the text goes on after it, the last of them
--- is as it is there, if a line must end there whatever follows; else it is none
+-- the positions of a part of a text by itself, which has these pieces. Where the text goes on after it, the last of
+-- them is as it is there, if a line must end there whatever follows; else it is none
 abbrev pub positions_of_part_of : Bool → Profile → (ℕ → Cell) → List Decoded → List Break
 positions_of_part_of goes_on profile cell ps =
     of_part goes_on (positions_of_pieces profile cell ps) (open_end profile cell (scalars_of ps) (units_of ps))

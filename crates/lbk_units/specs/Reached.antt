@@ -9,8 +9,8 @@ use Rattle.lbk_rules.specs.FlatTable.{KnowsTaken}
 use Rattle.lbk_rules.specs.Rows.{verdict_shown}
 use Rattle.lbk_bytes.specs.declared.deciding.Decided.{Decided}
 use Rattle.lbk_bytes.specs.declared.fill_state.FillState.{FillState}
-use Rattle.lbk_bytes.specs.Reached.{Ahead, Onward, onward_all, onward_to, scalars_of}
-use Rattle.lbk_units.specs.declared.unit.Piece.{Piece}
+use Rattle.lbk_bytes.specs.Reached.{Ahead, Onward, onward_to, scalars_of}
+use Rattle.lbk_units.specs.declared.unit.UnitScalar.{UnitScalar}
 use Rattle.lbk_units.specs.Front.{IsFront}
 
 -- the pieces of a text from each of its units on
@@ -18,7 +18,7 @@ abbrev pub on_from : {A : Type 0} → (List A → List Decoded) → List A → �
 on_from pieces_of text at = pieces_of (drop at text)
 
 -- what is read from this unit on begins with this scalar
-pub record BeginsAt (on : ℕ → List Decoded) (at : ℕ) (found : Piece) : Type 0 where
+pub record BeginsAt (on : ℕ → List Decoded) (at : ℕ) (found : UnitScalar) : Type 0 where
   pub piece : Decoded
   pub begins : on at ≡ piece ∷ on (at + found.size)
   pub reads : or_replacement piece.char ≡ found.scalar
@@ -26,20 +26,26 @@ pub record BeginsAt (on : ℕ → List Decoded) (at : ℕ) (found : Piece) : Typ
 
 -- at each unit of a part of a text, the text has the scalar that the part has there
 abbrev pub Follows : {A : Type 0} → (List A → List Decoded) → List A → (ℕ → List Decoded) → Type 0
-Follows pieces_of part on = (at : ℕ) (found : Piece) → at < length part → IsFront pieces_of (drop at part) found → BeginsAt on at found
+Follows pieces_of part on =
+    (at : ℕ) (found : UnitScalar) → at < length part
+    → IsFront pieces_of (drop at part) found
+    → BeginsAt on at found
 
 -- after the scalars taken, the position at this unit is decided, and what begins there is taken
-pub record IsUnitDecided (profile : Profile) (cell : ℕ → Cell) (on : ℕ → List Decoded) (at : ℕ) (taken : List ℕ) (found : Decided) : Type 0 where
+pub record IsUnitDecided (profile : Profile) (cell : ℕ → Cell) (on : ℕ → List Decoded) (at : ℕ) (taken : List ℕ)
+    (found : Decided) : Type 0 where
   pub piece : Decoded
   pub begins : on at ≡ piece ∷ on found.at
   pub moved : found.at ≡ at + piece.size
   pub some : 0 < piece.size
   pub knows : KnowsTaken cell found.row (taken ++ or_replacement piece.char ∷ [])
   pub decides : verdict_shown found.shown
-      ≡ verdict_between_in profile (map cell taken) (cell (or_replacement piece.char) ∷ map cell (scalars_of (on found.at)))
+      ≡ verdict_between_in profile (map cell taken)
+      (cell (or_replacement piece.char) ∷ map cell (scalars_of (on found.at)))
 
 -- of all these some were given, and the others come from here on
-pub record UnitsReachedBy (from : Onward) (profile : Profile) (cell : ℕ → Cell) (on : ℕ → List Decoded) (all : List Break) (here : FillState) (given : List Break) : Type 0 where
+pub record UnitsReachedBy (from : Onward) (profile : Profile) (cell : ℕ → Cell) (on : ℕ → List Decoded)
+    (all : List Break) (here : FillState) (given : List Break) : Type 0 where
   pub taken : List ℕ
   pub knows : KnowsTaken cell here.row taken
   pub some : 0 < here.row → 0 < length taken
@@ -48,7 +54,3 @@ pub record UnitsReachedBy (from : Onward) (profile : Profile) (cell : ℕ → Ce
 -- the same of breaks
 abbrev pub UnitsReached : Profile → (ℕ → Cell) → (ℕ → List Decoded) → Ahead → FillState → List Break → Type 0
 UnitsReached profile cell on all here given = UnitsReachedBy (onward_to all.end) profile cell on all.breaks here given
-
--- the same of positions
-abbrev pub PositionsReached : Profile → (ℕ → Cell) → (ℕ → List Decoded) → Ahead → FillState → List Break → Type 0
-PositionsReached profile cell on all here given = UnitsReachedBy (onward_all all.end) profile cell on all.breaks here given

@@ -36,8 +36,8 @@ abbrev pub units_of : List Decoded → ℕ
 units_of [] = 0
 units_of (p ∷ ps) = p.size + units_of ps
 
--- the breaks of a part of a text by itself, which has these pieces. Where the text goes on after it, the last of them is
--- as it is there
+-- the breaks of a part of a text by itself, which has these pieces. Where the text goes on after it, the last of them
+-- is as it is there
 abbrev pub breaks_of_part_of : Bool → Profile → (ℕ → Cell) → List Decoded → List Break
 breaks_of_part_of goes_on profile cell ps =
     of_part goes_on (breaks_of_pieces profile cell ps) (open_end profile cell (scalars_of ps) (units_of ps))

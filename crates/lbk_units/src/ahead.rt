@@ -2,7 +2,6 @@
 
 ghost use Rattle.std.specs.Prelude.{◌≡◌, ℕ, ◌<◌, ◌∷◌, List, map};
 ghost use Rattle.lbk_rules.specs.declared.Cell.{Cell};
-ghost use Rattle.lbk_values.specs.declared.profile.Profile.TheVariants.{Second};
 ghost use Rattle.lbk_rules.specs.Classes.{hard};
 ghost use Rattle.lbk_rules.specs.FlatTable.{AreFlatKinds, IsFlatOf, KnowsTaken};
 ghost use Rattle.lbk_rules.specs.Normal.{normal};
@@ -31,30 +30,21 @@ pub(crate) fn shown_ahead<U: Unit>(
         → verdict_shown result
         ≡ verdict_between_in profile (map cell taken) (cell c ∷ map cell (scalars_of (U.pieces_of rest.now))) }
 {
-    match profile {
-        Profile::First => step_in(Profile::First, row, table.kinds[c as usize]).shown,
-        Profile::Second => second_shown(table, row, c, rest),
-    }
-}
-
-/// The same in the second profile.
-fn second_shown<U: Unit>(table: &FlatTable, row: usize, c: char, rest: &[U]) -> u16
-    requires { IsPlace row }
-    ensures shown { IsShown result }
-    ensures decides { (cell : ℕ → Cell) (taken : List ℕ) → IsFlatOf table.now cell
-        → KnowsTaken cell row taken
-        → verdict_shown result
-        ≡ verdict_between_in Second (map cell taken) (cell c ∷ map cell (scalars_of (U.pieces_of rest.now))) }
-{
     let kind = table.kinds[c as usize];
-    let second = step_in(Profile::Second, row, kind);
-    if second.shown != HELD {
-        return second.shown;
+    let first = step_in(Profile::First, row, kind);
+    match profile {
+        Profile::First => first.shown,
+        Profile::Second => {
+            let second = step_in(Profile::Second, row, kind);
+            if second.shown != HELD {
+                return second.shown;
+            }
+            if closes_ahead(table, c, rest) {
+                return second.shown;
+            }
+            first.shown
+        }
     }
-    if closes_ahead(table, c, rest) {
-        return second.shown;
-    }
-    step_in(Profile::First, row, kind).shown
 }
 
 /// Whether the unit of the rules after `c` leaves a closing quotation mark closed, where `rest` is the text after
@@ -67,13 +57,13 @@ fn closes_ahead<U: Unit>(table: &FlatTable, c: char, rest: &[U]) -> bool
     let mut fresh = table.cell(c).leaves_fresh();
     let mut at = 0;
     while at < rest.len() {
-        let piece = U::front(&rest[at..]);
-        let cell = table.cell(piece.scalar);
+        let found = U::front(&rest[at..]);
+        let cell = table.cell(found.scalar);
         if let Some(closes) = cell.unit_closes(fresh) {
             return closes;
         }
         fresh = cell.leaves_fresh();
-        at += piece.size;
+        at += found.size;
     }
     true
 }

@@ -27,10 +27,10 @@ pub(crate) fn decide_unit<U: Unit>(
         → KnowsTaken cell row taken
         → IsUnitDecided profile cell (on_from U.pieces_of text.now) at taken result }
 {
-    let piece = U::front(&text[at..]);
-    let next = at + piece.size;
-    let shown = shown_ahead(table, profile, row, piece.scalar, &text[next..]);
-    let step = step_in(Profile::First, row, table.kinds[piece.scalar as usize]);
+    let found = U::front(&text[at..]);
+    let next = at + found.size;
+    let shown = shown_ahead(table, profile, row, found.scalar, &text[next..]);
+    let step = step_in(Profile::First, row, table.kinds[found.scalar as usize]);
     Decided {
         shown,
         row: step.next as usize,

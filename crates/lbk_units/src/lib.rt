@@ -7,12 +7,14 @@ mod deciding;
 mod filling;
 mod laws;
 mod positions;
+mod target;
 mod unit;
 mod utf16;
 mod utf32;
 mod utf8;
 
-pub use filling::{fill_part, fill_units};
+pub use filling::{fill_part, fill_positions, fill_units};
 pub use laws::same_in_each_encoding;
-pub use positions::{fill_positions, put_position};
-pub use unit::{Piece, Unit};
+pub use positions::put_position;
+pub use target::{Breaks, Positions, Target};
+pub use unit::{Unit, UnitScalar};

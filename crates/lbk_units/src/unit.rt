@@ -6,7 +6,7 @@ ghost use Rattle.lbk_units.specs.Front.{IsFront};
 
 /// The scalar that some units begin with, and how many of them spell it.
 #[derive(Clone, Copy)]
-pub struct Piece {
+pub struct UnitScalar {
     /// The scalar, or U+FFFD where none is spelled.
     pub scalar: char,
     /// How many units it takes: where none is spelled, one, or in UTF-8 all that could have begun one.
@@ -18,7 +18,7 @@ pub trait Unit: Copy {
     ghost pieces_of: { List Self → List Decoded };
 
     /// The scalar at the front of some units, which are not empty.
-    fn front(units: &[Self]) -> Piece
+    fn front(units: &[Self]) -> UnitScalar
         requires { 0 < length units.now }
         ensures { IsFront pieces_of units.now result };
 

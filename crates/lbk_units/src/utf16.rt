@@ -6,10 +6,10 @@ ghost use Rattle.std.proofs.lemmas.Str.{utf16_chars-nil};
 ghost use Rattle.lbk_units.specs.Front.{IsFront};
 ghost use Rattle.lbk_units.specs.Units.{pieces_of_utf16, utf16_piece};
 
-use crate::unit::{Piece, Unit};
+use crate::unit::{Unit, UnitScalar};
 
 /// A surrogate without its other half.
-const LONE: Piece = Piece {
+const LONE: UnitScalar = UnitScalar {
     scalar: '\u{FFFD}',
     size: 1,
 };
@@ -21,16 +21,16 @@ impl Unit for u16 {
 
     /// A unit that is no surrogate is its scalar (Unicode Standard, section 3.9, D91).
     #[inline(always)]
-    fn front(units: &[u16]) -> Piece {
+    fn front(units: &[u16]) -> UnitScalar {
         match char::from_u32(u32::from(units[0])) {
-            Some(scalar) => Piece { scalar, size: 1 },
+            Some(scalar) => UnitScalar { scalar, size: 1 },
             None => front_surrogate(units),
         }
     }
 }
 
 /// The scalar at the front of units that begin with a surrogate: that of a pair (Unicode Standard, table 3-5), or none.
-fn front_surrogate(units: &[u16]) -> Piece
+fn front_surrogate(units: &[u16]) -> UnitScalar
     requires some { 0 < length units.now }
     requires begins { (0xD800 ≤ slice_index_or units.now 0 0) × (slice_index_or units.now 0 0 < 0xE000) }
     ensures { IsFront pieces_of_utf16 units.now result }
@@ -44,7 +44,7 @@ fn front_surrogate(units: &[u16]) -> Piece
         return LONE;
     }
     match char::from_u32(0x1_0000 + (high - 0xD800) * 0x400 + (low - 0xDC00)) {
-        Some(scalar) => Piece { scalar, size: 2 },
+        Some(scalar) => UnitScalar { scalar, size: 2 },
         None => LONE,
     }
 }

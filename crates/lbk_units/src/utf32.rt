@@ -3,7 +3,7 @@
 ghost use Rattle.std.specs.Prelude.{refl};
 ghost use Rattle.lbk_units.specs.Units.{pieces_of_utf32};
 
-use crate::unit::{Piece, Unit};
+use crate::unit::{Unit, UnitScalar};
 
 impl Unit for u32 {
     ghost pieces_of = { pieces_of_utf32 };
@@ -12,8 +12,8 @@ impl Unit for u32 {
 
     /// A unit is its scalar (Unicode Standard, section 3.9, D90). A surrogate and a number above 10FFFF are none.
     #[inline(always)]
-    fn front(units: &[u32]) -> Piece {
-        Piece {
+    fn front(units: &[u32]) -> UnitScalar {
+        UnitScalar {
             scalar: char::from_u32(units[0]).unwrap_or('\u{FFFD}'),
             size: 1,
         }

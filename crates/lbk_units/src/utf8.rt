@@ -3,7 +3,7 @@
 ghost use Rattle.bstr.specs.Utf8.{pieces};
 ghost use Rattle.bstr.proofs.lemmas.PieceLemmas.{pieces-nil};
 
-use crate::unit::{Piece, Unit};
+use crate::unit::{Unit, UnitScalar};
 use bstr::decode_lossy;
 
 impl Unit for u8 {
@@ -14,8 +14,8 @@ impl Unit for u8 {
     /// One to four units are a scalar (Unicode Standard, section 3.9, table 3-7). The longest piece that begins none
     /// is read as one U+FFFD.
     #[inline(always)]
-    fn front(units: &[u8]) -> Piece {
+    fn front(units: &[u8]) -> UnitScalar {
         let (scalar, size) = decode_lossy(units);
-        Piece { scalar, size }
+        UnitScalar { scalar, size }
     }
 }

@@ -15,8 +15,8 @@ returns-in-Some g c = λ cell are_kinds.
     let text = c.args.rest.now in
     let l = c.loop-at in
     let of = g.U.Unit.pieces_of in
-    let found = c.front-piece.result in
-    let front = front-at of text l.at found c.loop-at-test.true c.front-piece.ensures in
+    let found = c.front-found.result in
+    let front = front-at of text l.at found c.loop-at-test.true c.front-found.ensures in
     let next = cells-next of cell text l.at found front in
     let x = normal (cell found.scalar) in
     let told : told_by l.fresh x ≡ Some c.in-Some.closes = ap (told_by l.fresh) (sym (c.cell-cell.ensures cell are_kinds)) ∙ sym c.in-Some.ensures in
@@ -26,12 +26,12 @@ returns-in-Some g c = λ cell are_kinds.
 
 pub overflow_add-at : goal.overflow_add-at
 overflow_add-at g c =
-    let front = front-at g.U.Unit.pieces_of c.args.rest.now c.loop-at.at c.front-piece.result c.loop-at-test.true c.front-piece.ensures in
+    let front = front-at g.U.Unit.pieces_of c.args.rest.now c.loop-at.at c.front-found.result c.loop-at-test.true c.front-found.ensures in
     omega (arith, front.within)
 
 pub loop-at-smaller : goal.loop-at-smaller
 loop-at-smaller g c =
-    let front = front-at g.U.Unit.pieces_of c.args.rest.now c.loop-at.at c.front-piece.result c.loop-at-test.true c.front-piece.ensures in
+    let front = front-at g.U.Unit.pieces_of c.args.rest.now c.loop-at.at c.front-found.result c.loop-at-test.true c.front-found.ensures in
     omega (arith, front.some, front.within)
 
 pub loop-at-preserved : goal.loop-at-preserved
@@ -39,8 +39,8 @@ loop-at-preserved g c =
     let text = c.args.rest.now in
     let l = c.loop-at in
     let of = g.U.Unit.pieces_of in
-    let found = c.front-piece.result in
-    let front = front-at of text l.at found c.loop-at-test.true c.front-piece.ensures in
+    let found = c.front-found.result in
+    let front = front-at of text l.at found c.loop-at-test.true c.front-found.ensures in
     record {
       within = front.within;
       same = λ cell are_kinds.

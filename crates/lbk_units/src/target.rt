@@ -1,0 +1,91 @@
+//! What the loops write into a block: breaks alone, or all positions.
+
+ghost use Rattle.std.specs.Prelude.{◌≡◌, ℕ, ◌+◌, ◌<◌, ◌≤◌, ◌++◌, [], ◌∷◌, List, length, map, refl};
+ghost use Rattle.std.proofs.Common.{rules};
+ghost use Rattle.bstr.specs.Utf8.{Decoded, or_replacement};
+ghost use Rattle.lbk_rules.specs.declared.Break.{Break};
+ghost use Rattle.lbk_rules.specs.declared.Cell.{Cell};
+ghost use Rattle.lbk_rules.specs.declared.Verdict.{Verdict};
+ghost use Rattle.lbk_values.specs.declared.profile.Profile.{Profile};
+ghost use Rattle.lbk_rules.specs.Breaks.{break_by};
+ghost use Rattle.lbk_rules.specs.Rows.{IsShown, verdict_shown};
+ghost use Rattle.lbk_rules.specs.Verdict.{verdict_between_in};
+ghost use Rattle.lbk_bytes.specs.declared.raw_break.RawBreak.{RawBreak};
+ghost use Rattle.lbk_bytes.specs.Bytes.{AtEnd, with_break};
+ghost use Rattle.lbk_bytes.specs.Order.{AreInOrderBy, IsBreak, IsPosition};
+ghost use Rattle.lbk_bytes.specs.Reached.{IsInOrderBy, Onward, onward_all, onward_to, scalars_of};
+ghost use Rattle.lbk_bytes.specs.Shown.{given_in};
+
+use crate::positions::put_position;
+use lbk_bytes::{RawBreak, put};
+
+/// What is written of the positions that the loops decide.
+pub trait Target {
+    // What the numbers of each entry are.
+    ghost entry: { RawBreak → Type 0 };
+
+    // What is written from a unit on, by what comes at the end.
+    ghost onward: { AtEnd → Onward };
+
+    // What is written at a unit by this verdict, and what comes after it.
+    ghost with_verdict: { ℕ → Verdict → List Break → List Break };
+
+    /// Writes the verdict of a number after the entries in the front of the block, and returns how many these are now.
+    fn put(out: &mut [RawBreak], count: usize, at: usize, shown: u16) -> usize
+        requires room { count < length out.old }
+        requires shown { IsShown shown }
+        ensures within { (result ≤ length out.old) × (count ≤ result) }
+        ensures in_order { (from to : ℕ) → at < to → IsInOrderBy entry out.old count from at
+            → AreInOrderBy entry out.new result from to }
+        ensures front { given_in out.new result
+            ≡ given_in out.old count ++ with_verdict at (verdict_shown shown) [] };
+
+    ghost steps: { (end : AtEnd) (profile : Profile) (cell : ℕ → Cell) (before : List ℕ) (at : ℕ) (p : Decoded)
+        (ps : List Decoded)
+        → onward end profile cell before at (p ∷ ps)
+        ≡ with_verdict at (verdict_between_in profile (map cell before) (map cell (scalars_of (p ∷ ps))))
+        (onward end profile cell (before ++ or_replacement p.char ∷ []) (at + p.size) ps) };
+
+    ghost adds: { (at : ℕ) (verdict : Verdict) (more : List Break)
+        → with_verdict at verdict more ≡ with_verdict at verdict [] ++ more };
+}
+
+/// Breaks alone.
+pub struct Breaks;
+
+impl Target for Breaks {
+    ghost entry = { IsBreak };
+
+    ghost onward = { onward_to };
+
+    ghost with_verdict = { with_break };
+
+    ghost steps = { λ end profile cell before at p ps. refl };
+
+    ghost adds = { Prim.search rules };
+
+    #[inline(always)]
+    fn put(out: &mut [RawBreak], count: usize, at: usize, shown: u16) -> usize {
+        put(out, count, at, shown)
+    }
+}
+
+/// All positions, whether a line may end there or not.
+pub struct Positions;
+
+impl Target for Positions {
+    ghost entry = { IsPosition };
+
+    ghost onward = { onward_all };
+
+    ghost with_verdict = { λ at verdict more. break_by at verdict ∷ more };
+
+    ghost steps = { λ end profile cell before at p ps. refl };
+
+    ghost adds = { λ at verdict more. refl };
+
+    #[inline(always)]
+    fn put(out: &mut [RawBreak], count: usize, at: usize, shown: u16) -> usize {
+        put_position(out, count, at, shown)
+    }
+}
