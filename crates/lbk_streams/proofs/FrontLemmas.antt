@@ -8,7 +8,7 @@ use Rattle.bstr.specs.Utf8.{Decoded, bad, decoded, pieces}
 use Rattle.bstr.proofs.lemmas.PieceLemmas.{piece-bounds, pieces-step}
 use Rattle.lbk_bytes.specs.Open.{could_go_on}
 use Rattle.lbk_bytes.proofs.CutLemmas.{closed-more}
-use Rattle.lbk_units.specs.declared.unit.Piece.{Piece}
+use Rattle.lbk_units.specs.declared.unit.UnitScalar.{UnitScalar}
 use Rattle.lbk_units.specs.Front.{IsFront}
 use Rattle.lbk_units.specs.Reached.{Follows, on_from}
 use Rattle.lbk_units.specs.Units.{pieces_of_utf16, utf16_piece}
@@ -21,13 +21,13 @@ pub record AreFronts {A : Type 0} (pieces_of : List A → List Decoded) (units w
   pub there : pieces_of whole ≡ p ∷ pieces_of (drop p.size whole)
   pub within : p.size ≤ length whole
 
-pub front-size : {A : Type 0} (pieces_of : List A → List Decoded) (units : List A) (p : Decoded) (found : Piece)
+pub front-size : {A : Type 0} (pieces_of : List A → List Decoded) (units : List A) (p : Decoded) (found : UnitScalar)
     → pieces_of units ≡ p ∷ pieces_of (drop p.size units) → (front : IsFront pieces_of units found) → (front.piece ≡ p) × (found.size ≡ p.size)
 front-size pieces_of units p found here front =
     let same : front.piece ≡ p = ap (λ l. get_or l 0 (bad 1)) (sym front.begins ∙ here) in
     (same, sym front.sized ∙ ap (λ (q : Decoded). q.size) same)
 
-pub front-more : {A : Type 0} (pieces_of : List A → List Decoded) (units whole : List A) (p : Decoded) (found : Piece)
+pub front-more : {A : Type 0} (pieces_of : List A → List Decoded) (units whole : List A) (p : Decoded) (found : UnitScalar)
     → AreFronts pieces_of units whole p → IsFront pieces_of units found → IsFront pieces_of whole found
 front-more pieces_of units whole p found f front =
     let is = front-size pieces_of units p found f.here front in
@@ -42,11 +42,11 @@ front-more pieces_of units whole p found f front =
 
 -- UTF-8
 
-pub utf8-few : (bytes : List ℕ) (found : Piece) → 0 < length bytes → IsFront pieces bytes found → found.size ≤ 4
+pub utf8-few : (bytes : List ℕ) (found : UnitScalar) → 0 < length bytes → IsFront pieces bytes found → found.size ≤ 4
 utf8-few bytes found some front =
     omega (arith, (front-size pieces bytes (decoded bytes) found (pieces-step bytes some) front).1, (piece-bounds bytes some).1)
 
-pub utf8-whole : (bytes more : List ℕ) (found : Piece) → 0 < length bytes → could_go_on bytes ≡ false → IsFront pieces bytes found → IsFront pieces (bytes ++ more) found
+pub utf8-whole : (bytes more : List ℕ) (found : UnitScalar) → 0 < length bytes → could_go_on bytes ≡ false → IsFront pieces bytes found → IsFront pieces (bytes ++ more) found
 utf8-whole bytes more found some closed front =
     let long = length-append bytes more in
     let some_more : 0 < length (bytes ++ more) = omega arith in
@@ -117,13 +117,13 @@ utf16-front-of (u ∷ v ∷ us) more some few apart =
     (λ (alone : ¬ (IsPair u v)). front-alone u (v ∷ us) more few alone alone)
     (pair-or u v)
 
-pub utf16-whole : (units more : List ℕ) (found : Piece) → 0 < length units → get_or units 0 0 < 0x10000
+pub utf16-whole : (units more : List ℕ) (found : UnitScalar) → 0 < length units → get_or units 0 0 < 0x10000
     → (length units ≡ 1 → ¬ (IsPair (get_or units 0 0) (get_or more 0 0))) → IsFront pieces_of_utf16 units found → IsFront pieces_of_utf16 (units ++ more) found
 utf16-whole units more found some few apart front =
     let is = utf16-front-of units more some few apart in
     front-more pieces_of_utf16 units (units ++ more) is.piece found is.fronts front
 
-pub utf16-few : (units : List ℕ) (found : Piece) → 0 < length units → get_or units 0 0 < 0x10000 → IsFront pieces_of_utf16 units found → found.size ≤ 2
+pub utf16-few : (units : List ℕ) (found : UnitScalar) → 0 < length units → get_or units 0 0 < 0x10000 → IsFront pieces_of_utf16 units found → found.size ≤ 2
 utf16-few units found some few front =
     let is = utf16-front-of units [] some few (λ _ pair. omega (arith, pair.2)) in
     omega (arith, is.few, (front-size pieces_of_utf16 units is.piece found is.fronts.here front).1)

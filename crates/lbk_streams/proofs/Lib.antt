@@ -11,3 +11,4 @@ pub mod JoinLemmas
 pub mod SafeLemmas
 pub mod NearLemmas
 pub mod PairLemmas
+pub mod TakingLemmas

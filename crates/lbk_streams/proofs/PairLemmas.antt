@@ -13,7 +13,7 @@ use Rattle.lbk_values.specs.declared.profile.Profile.{Profile}
 use Rattle.lbk_rules.specs.Ends.{ends_between}
 use Rattle.lbk_rules.specs.Joins.{must_end_between}
 use Rattle.lbk_bytes.specs.Reached.{scalars_of}
-use Rattle.lbk_units.specs.declared.unit.Piece.{Piece}
+use Rattle.lbk_units.specs.declared.unit.UnitScalar.{UnitScalar}
 use Rattle.lbk_units.specs.Front.{IsFront}
 use Rattle.lbk_units.specs.Units.{pieces_of_utf16, utf16_piece}
 use Rattle.lbk_units.proofs.UnitLemmas.{IsFrontAt, IsPair, one-unit, pair-begins, two-units}
@@ -123,7 +123,7 @@ apart-before text start pair =
     (λ other. no-pair-behind (get_or text (start - 1) 0) (get_or text start 0) (get_or text (start + 1) 0) other pair)
 
 -- what begins in the last one or two units before a place
-pub last-by : (text : List ℕ) (place start : ℕ) (found : Piece) → start < place → place ≤ length text → IsApart text start
+pub last-by : (text : List ℕ) (place start : ℕ) (found : UnitScalar) → start < place → place ≤ length text → IsApart text start
     → IsFront pieces_of_utf16 (take (place - start) (drop start text)) found
     → (place - start ≡ 1) ⊎ ((place - start ≡ 2) × (is_pair (get_or text start 0) (get_or text (start + 1) 0) ≡ true))
     → EndsInScalar text place found.scalar
@@ -173,7 +173,7 @@ last-by text place start found before within apart front size =
     unit-at : (i : ℕ) → i < place - start → get_or (take (place - start) (drop start text)) i 0 ≡ get_or text (start + i) 0
     unit-at i few = get_or-take (place - start) (drop start text) i 0 few ∙ get_or-drop start text i 0
 
-module _ (cell : ℕ → Cell) (text : List ℕ) (place last : ℕ) (next : Piece) (before : EndsInScalar text place last)
+module _ (cell : ℕ → Cell) (text : List ℕ) (place last : ℕ) (next : UnitScalar) (before : EndsInScalar text place last)
     (front : IsFrontAt pieces_of_utf16 text place next) where
   -- the two scalars tell whether a line must end there
   pub told-by : must_end_between cell (scalars_of (pieces_of_utf16 (take place text))) (scalars_of (pieces_of_utf16 (drop place text)))

@@ -32,8 +32,8 @@ pub Streams-part : {A : Type 0} (pieces_of : List A → List Decoded) (carried :
     → IsFlatOf table cell → at + length text < 2 ^ 64 → stream ≡ part_stream goes_on profile at
     → to_come ≡ onward_to (end_in goes_on) profile cell [] at (pieces_of text)
     → StreamsIn pieces_of carried cell table stream text to_come
-Streams-part pieces_of carried cell table goes_on profile at text stream to_come flat short starts whole =
-    subst (λ s. StreamsIn pieces_of carried cell table s text to_come) (sym starts) (flagged goes_on profile whole)
+Streams-part pieces_of carried cell table part profile at text stream to_come flat short starts whole =
+    subst (λ s. StreamsIn pieces_of carried cell table s text to_come) (sym starts) (flagged part profile whole)
   where
     begun : (goes_on : Bool) (profile : Profile) → to_come ≡ onward_to (end_in goes_on) profile cell [] at (pieces_of text)
         → Stands profile cell (place_of (part_stream goes_on profile at)) (pieces_of text) (record { breaks = to_come; goes_on = goes_on }) []
@@ -45,37 +45,27 @@ Streams-part pieces_of carried cell table goes_on profile at text stream to_come
       joined = whole;
     }
 
-    flagged : (goes_on : Bool) (profile : Profile) → to_come ≡ onward_to (end_in goes_on) profile cell [] at (pieces_of text)
-        → StreamsIn pieces_of carried cell table (part_stream goes_on profile at) text to_come
-    flagged true First whole = record {
-      profile = First;
-      named = refl;
+    named : (goes_on : Bool) (profile : Profile) → profile_numbered (plain_number (part_stream goes_on profile at).profile) ≡ Some profile
+    named true First = refl
+    named true Second = refl
+    named false First = refl
+    named false Second = refl
+
+    same : (part : Bool) (profile : Profile) → goes_on (part_stream part profile at).profile ≡ part
+    same true First = refl
+    same true Second = refl
+    same false First = refl
+    same false Second = refl
+
+    flagged : (part : Bool) (profile : Profile) → to_come ≡ onward_to (end_in part) profile cell [] at (pieces_of text)
+        → StreamsIn pieces_of carried cell table (part_stream part profile at) text to_come
+    flagged part profile whole = record {
+      profile = profile;
+      named = named part profile;
       flat = flat;
-      goes_on = λ _. begun true First whole;
-      fits = λ _. short;
-      none_come = λ more. absurd (omega arith);
-    }
-    flagged true Second whole = record {
-      profile = Second;
-      named = refl;
-      flat = flat;
-      goes_on = λ _. begun true Second whole;
-      fits = λ _. short;
-      none_come = λ more. absurd (omega arith);
-    }
-    flagged false First whole = record {
-      profile = First;
-      named = refl;
-      flat = flat;
-      goes_on = λ _. begun false First whole;
-      fits = λ _. short;
-      none_come = λ more. absurd (omega arith);
-    }
-    flagged false Second whole = record {
-      profile = Second;
-      named = refl;
-      flat = flat;
-      goes_on = λ _. begun false Second whole;
+      goes_on = λ _.
+          subst (λ b. Stands profile cell (place_of (part_stream part profile at)) (pieces_of text) (record { breaks = to_come; goes_on = b }) []) (sym (same part profile))
+          (begun part profile whole);
       fits = λ _. short;
       none_come = λ more. absurd (omega arith);
     }

@@ -4,3 +4,4 @@ pub mod Cuts
 -- What only carries proofs.
 pub mod Stands
 pub mod Looking
+pub mod Taking

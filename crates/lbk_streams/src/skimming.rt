@@ -8,7 +8,8 @@ ghost use Rattle.lbk_streams.specs.declared.stream.Place.{Place};
 ghost use Rattle.lbk_bytes.specs.Order.{AreBreaks, AreInOrder};
 ghost use Rattle.lbk_bytes.specs.Shown.{given_in};
 ghost use Rattle.lbk_rules.specs.Joins.{moved};
-ghost use Rattle.lbk_streams.specs.Stands.{Ahead, AreFew, Feeds, IsOrdered, Stands};
+ghost use Rattle.lbk_streams.specs.Stands.{Ahead, Stands};
+ghost use Rattle.lbk_streams.specs.Taking.{TakesOf};
 
 use crate::stream::{Feeding, Place};
 use crate::stream_unit::StreamUnit;
@@ -25,16 +26,8 @@ pub(crate) fn skim<U: StreamUnit>(
 ) -> Feeding<U>
     requires { (here.cut.size ≡ 0) × (here.place.held_code ≡ 0) × (here.count ≤ length out.old) × (0 < here.taken)
         × (here.taken ≤ length piece.now) }
-    ensures within { (result.cut.size ≡ 0) × (result.count ≤ length out.old) × (here.taken ≤ result.taken)
-        × (result.taken ≤ length piece.now) }
-    ensures breaks { AreBreaks out.old here.count → AreBreaks out.new result.count }
-    ensures counted { AreFew here result }
-    ensures ordered { (base from : ℕ) → base + length piece.now < 2 ^ 64 → IsOrdered out.old base from here
-        → IsOrdered out.new base from result }
-    ensures feeds { (cell : ℕ → Cell) (base : ℕ) (more : List U) (all : Ahead)
-        → IsFlatOf table.now cell
-        → Feeds U.pieces_of profile cell base piece.now more here all (given_in out.old here.count)
-        → Feeds U.pieces_of profile cell base piece.now more result all (given_in out.new result.count) }
+    ensures takes { TakesOf U.pieces_of U.widest table.now profile piece.now out.old here out.new result }
+    ensures none_cut { result.cut.size ≡ 0 }
 {
     let end = skim_into(
         table,

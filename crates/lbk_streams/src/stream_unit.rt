@@ -3,18 +3,18 @@
 ghost use Rattle.std.specs.Prelude.{◌≡◌, ℕ, ◌<◌, ◌≤◌, ◌++◌, Bool, true, false, List, length, take};
 ghost use Rattle.lbk_rules.specs.declared.Cell.{Cell};
 ghost use Rattle.lbk_rules.specs.FlatTable.{IsFlatOf};
-ghost use Rattle.lbk_rules.specs.Rows.{IsPlace};
-ghost use Rattle.lbk_bytes.specs.Reached.{Ahead, IsInOrder};
-ghost use Rattle.lbk_bytes.specs.Shown.{given_in};
+ghost use Rattle.lbk_bytes.specs.Order.{IsBreak};
+ghost use Rattle.lbk_bytes.specs.Reached.{onward_to};
+ghost use Rattle.lbk_units.specs.Filling.{GivesOf, GoesOn, IsInText};
 ghost use Rattle.lbk_units.specs.Front.{IsFront};
-ghost use Rattle.lbk_units.specs.Reached.{UnitsReached, on_from};
+ghost use Rattle.lbk_units.specs.Reached.{on_from};
 ghost use Rattle.lbk_streams.specs.Stands.{front_of};
 ghost use Rattle.lbk_streams.specs.Streams.{cut_units};
 
 use crate::stream::{Cut, Stream};
 use lbk_bytes::{FillState, RawBreak};
 use lbk_rules::{FlatTable, Profile};
-use lbk_units::{Piece, Unit};
+use lbk_units::{Unit, UnitScalar};
 
 /// A code unit of a text that comes in pieces.
 pub trait StreamUnit: Unit {
@@ -50,7 +50,7 @@ pub trait StreamUnit: Unit {
         ensures { take cut.size (carried result) ≡ front_of cut };
 
     /// The scalar at the front of some units, whatever follows them, if they could not go on.
-    fn first(units: &[Self]) -> Piece
+    fn first(units: &[Self]) -> UnitScalar
         requires { 0 < length units.now }
         ensures front { IsFront Self.pieces_of units.now result }
         ensures whole { (more : List Self) → could_go_on units.now ≡ false
@@ -58,7 +58,7 @@ pub trait StreamUnit: Unit {
         ensures few { result.size ≤ widest };
 
     /// The same of units that were cut.
-    fn first_of_cut(cut: &Cut<Self>) -> Piece
+    fn first_of_cut(cut: &Cut<Self>) -> UnitScalar
         requires { (0 < cut.now.size) × (cut.now.size ≤ widest) }
         ensures front { IsFront Self.pieces_of (front_of cut.now) result }
         ensures whole { (more : List Self) → could_go_on (front_of cut.now) ≡ false
@@ -73,17 +73,10 @@ pub trait StreamUnit: Unit {
         piece: &[Self],
         out: &mut [RawBreak],
     ) -> FillState
-        requires { (start.count ≤ length out.old) × IsPlace start.row × (start.at ≤ length piece.now) }
-        ensures within { (result.count ≤ length out.old) × IsPlace result.row × (result.at ≤ length piece.now) }
-        ensures onward { (start.at ≤ result.at) × (start.count ≤ result.count) }
-        ensures in_order { (from : ℕ) → IsInOrder out.old start.count from start.at
-            → IsInOrder out.new result.count from result.at }
-        ensures reached { (cell : ℕ → Cell) (more : List Self) (all : Ahead)
-            → IsFlatOf table.now cell
-            → UnitsReached profile cell (on_from Self.pieces_of (piece.now ++ more)) all start (given_in out.old
-            start.count)
-            → UnitsReached profile cell (on_from Self.pieces_of (piece.now ++ more)) all result
-            (given_in out.new result.count) };
+        requires { IsInText start (length piece.now) (length out.old) }
+        ensures goes_on { GoesOn IsBreak (length piece.now) out.old start out.new result }
+        ensures gives { (cell : ℕ → Cell) (more : List Self) → IsFlatOf table.now cell
+            → GivesOf onward_to profile cell (on_from Self.pieces_of (piece.now ++ more)) out.old start out.new result };
 
     ghost narrow: { (0 < widest) × (widest ≤ 4) };
 }

@@ -12,11 +12,11 @@ ghost use Rattle.lbk_bytes.specs.Order.{AreBreaks, AreInOrder};
 ghost use Rattle.lbk_bytes.specs.Shown.{given_in};
 ghost use Rattle.lbk_bytes.specs.Profiles.{goes_on, plain_number, profile_numbered};
 ghost use Rattle.lbk_units.specs.Units.{breaks_of_part_of, breaks_of_pieces};
-ghost use Rattle.lbk_streams.specs.Stands.{Ahead, AreFew, Feeds, Gives, IsOrdered, IsPlaced, StreamsIn, front_of};
+ghost use Rattle.lbk_streams.specs.Stands.{IsOrdered, IsPlaced, StreamsIn, front_of};
 ghost use Rattle.lbk_streams.specs.Streams.{AreUnsettledIn, IsSoundIn, cut_units, most_left_in, next_place};
 ghost use Rattle.lbk_streams.specs.Streams.{part_stream, place_of, stream_start};
 
-use crate::feeding::{take_cut, take_piece};
+use crate::feeding::{drain, take_piece};
 use crate::stream::{Fed, Feeding, Place, Stream};
 use crate::stream_unit::StreamUnit;
 use lbk_bytes::{RawBreak, goes_on, plain_number, profile_numbered, put_end};
@@ -108,52 +108,10 @@ pub fn feed<U: StreamUnit>(
             count: 0,
         };
     };
-    go_with(table, profile, stream, piece, last, out)
-}
-
-/// The same from a stream that names a profile and has not ended.
-fn go_with<U: StreamUnit>(
-    table: &FlatTable,
-    profile: Profile,
-    stream: &mut Stream,
-    piece: &[U],
-    last: bool,
-    out: &mut [RawBreak],
-) -> Fed
-    requires { (stream.old.ended ≡ 0) × (profile_numbered (plain_number stream.old.profile) ≡ Some profile) }
-    ensures within { (result.count ≤ length out.old) × (result.taken ≤ length piece.now) }
-    ensures all_taken { result.count < length out.old → result.taken ≡ length piece.now }
-    ensures profile_same { stream.new.profile ≡ stream.old.profile }
-    ensures breaks { AreBreaks out.new result.count }
-    ensures few { result.count + most_left_in U.carried stream.new + (length piece.now - result.taken)
-        ≤ most_left_in U.carried stream.old
-        + length piece.now }
-    ensures in_order { IsSoundIn U.carried stream.old (length piece.now)
-        → AreInOrder out.new result.count (next_place (place_of stream.old)) (suc stream.new.at) }
-    ensures before_stream { IsSoundIn U.carried stream.old (length piece.now) → stream.new.ended ≡ 0
-        → (next_place (place_of stream.old) ≤ next_place (place_of stream.new))
-        × AreInOrder out.new result.count (next_place (place_of stream.old)) (next_place (place_of stream.new)) }
-    ensures sound { IsSoundIn U.carried stream.old (length piece.now)
-        → IsSoundIn U.carried stream.new (length piece.now - result.taken) }
-    ensures place { IsSoundIn U.carried stream.old (length piece.now)
-        → stream.new.at + length (cut_units U.carried stream.new)
-        ≡ stream.old.at + length (cut_units U.carried stream.old) + result.taken }
-    ensures only_last { last ≡ false → stream.new.ended ≡ stream.old.ended }
-    ensures ended { last ≡ true → result.count < length out.old → 0 < stream.new.ended }
-    ensures cut { stream.new.cut_size ≤ U.widest }
-    ensures closed { last ≡ true → result.count < length out.old → (stream.new.cut_size ≡ 0)
-        × (stream.new.held_code ≡ 0) }
-    ensures gives { (cell : ℕ → Cell) (more : List U) (to_come : List Break)
-        → StreamsIn U.pieces_of U.carried cell table.now stream.old (piece.now ++ more) to_come
-        → (last ≡ true → more ≡ [])
-        → Gives U.pieces_of U.carried U.could_go_on cell table.now stream.old stream.new piece.now more last to_come
-        result
-        (given_in out.new result.count) (length out.old) }
-{
     let start = start_of(stream);
     let here = take_piece(table, profile, start, piece, out);
     if last {
-        let done = finish(table, profile, here, out);
+        let done = drain(table, profile, here, true, out);
         return close(stream, done, out);
     }
     keep(stream, here);
@@ -209,34 +167,6 @@ fn keep<U: StreamUnit>(stream: &mut Stream, here: Feeding<U>)
     stream.held_code = here.place.held_code;
     stream.cut = U::bytes_of(here.cut);
     stream.cut_size = here.cut.size as u8;
-}
-
-/// Takes the scalars that are left where nothing follows, until the block is full.
-fn finish<U: StreamUnit>(
-    table: &FlatTable,
-    profile: Profile,
-    start: Feeding<U>,
-    out: &mut [RawBreak],
-) -> Feeding<U>
-    requires { (start.cut.size ≤ U.widest) × (start.count ≤ length out.old) }
-    ensures within { (result.cut.size ≤ U.widest) × (result.count ≤ length out.old) × (result.taken ≡ start.taken) }
-    ensures done { result.count < length out.old → result.cut.size ≡ 0 }
-    ensures same { start.count ≡ length out.old → (result ≡ start) × (out.new ≡ out.old) }
-    ensures breaks { AreBreaks out.old start.count → AreBreaks out.new result.count }
-    ensures counted { AreFew start result }
-    ensures ordered { (base from : ℕ) → base + start.taken < 2 ^ 64 → IsOrdered out.old base from start
-        → IsOrdered out.new base from result }
-    ensures feeds { (cell : ℕ → Cell) (base : ℕ) (piece : List U) (all : Ahead)
-        → IsFlatOf table.now cell
-        → (start.count < length out.old → start.taken ≡ length piece)
-        → Feeds U.pieces_of profile cell base piece [] start all (given_in out.old start.count)
-        → Feeds U.pieces_of profile cell base piece [] result all (given_in out.new result.count) }
-{
-    let mut here = start;
-    while here.count < out.len() && 0 < here.cut.size {
-        here = take_cut(table, profile, here, out);
-    }
-    here
 }
 
 /// Writes how far a call has come into the stream, and the break at its end, where the block has room for it.

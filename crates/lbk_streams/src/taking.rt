@@ -11,9 +11,9 @@ ghost use Rattle.lbk_rules.specs.Classes.{mark};
 ghost use Rattle.lbk_rules.specs.Normal.{normal};
 ghost use Rattle.lbk_rules.specs.FlatTable.{AreFlatKinds, IsFlatOf};
 ghost use Rattle.lbk_rules.specs.Rows.{IsShown, verdict_shown};
-ghost use Rattle.lbk_bytes.specs.Order.{AreBreaks};
 ghost use Rattle.lbk_bytes.specs.Shown.{given_in};
-ghost use Rattle.lbk_streams.specs.Stands.{Ahead, IsPlaced, Stands};
+ghost use Rattle.lbk_streams.specs.Stands.{Ahead, Stands};
+ghost use Rattle.lbk_streams.specs.Taking.{Steps};
 
 use crate::stream::Place;
 use lbk_bytes::{RawBreak, put};
@@ -39,14 +39,8 @@ pub(crate) fn take_scalar(
     count: usize,
 ) -> Step
     requires { count < length out.old }
-    ensures within { (count ≤ result.count) × (result.count ≤ length out.old) }
+    ensures steps { Steps size out.old count place out.new result }
     ensures full { result.passed ≡ false → result.count ≡ length out.old }
-    ensures breaks { AreBreaks out.old count → AreBreaks out.new result.count }
-    ensures few { result.count + min result.place.held_code 1 ≤ count + min place.held_code 1 + 1 }
-    ensures met { result.passed ≡ false → result.count + min result.place.held_code 1 ≤ count + min place.held_code 1 }
-    ensures at { result.place.at ≡ (if result.passed then (place.at + size) % 2 ^ 64 else place.at) }
-    ensures placed { (from : ℕ) → 0 < size → place.at + size < 2 ^ 64 → IsPlaced out.old count from place
-        → IsPlaced out.new result.count from result.place }
     ensures stands { (cell : ℕ → Cell) (p : Decoded) (ps : List Decoded) (all : Ahead)
         → IsFlatOf table.now cell
         → c ≡ or_replacement p.char → size ≡ p.size → 0 < size → place.at + size < 2 ^ 64
@@ -64,12 +58,8 @@ pub(crate) fn take_scalar(
 /// Decides the position that waits, if `c` heads a unit.
 fn meet(table: &FlatTable, place: Place, c: char, out: &mut [RawBreak], count: usize) -> Step
     requires { count < length out.old }
-    ensures within { (count ≤ result.count) × (result.count ≤ length out.old) }
+    ensures steps { Steps 0 out.old count place out.new result }
     ensures passed { result.passed ≡ false }
-    ensures breaks { AreBreaks out.old count → AreBreaks out.new result.count }
-    ensures few { result.count + min result.place.held_code 1 ≤ count + min place.held_code 1 }
-    ensures at { result.place.at ≡ place.at }
-    ensures placed { (from : ℕ) → IsPlaced out.old count from place → IsPlaced out.new result.count from result.place }
     ensures joins { (cell : ℕ → Cell) → AreFlatKinds table.now.kinds cell → 0 < result.place.held_code
         → mark (normal (cell c)).class ≡ true }
     ensures stands { (profile : Profile) (cell : ℕ → Cell) (p : Decoded) (ps : List Decoded) (all : Ahead)
@@ -126,13 +116,8 @@ fn pass(
     count: usize,
 ) -> Step
     requires { count < length out.old }
-    ensures within { (count ≤ result.count) × (result.count ≤ length out.old) }
+    ensures steps { Steps size out.old count place out.new result }
     ensures passed { result.passed ≡ true }
-    ensures breaks { AreBreaks out.old count → AreBreaks out.new result.count }
-    ensures few { result.count + min result.place.held_code 1 ≤ count + min place.held_code 1 + 1 }
-    ensures at { result.place.at ≡ (place.at + size) % 2 ^ 64 }
-    ensures placed { (from : ℕ) → 0 < size → place.at + size < 2 ^ 64 → IsPlaced out.old count from place
-        → IsPlaced out.new result.count from result.place }
     ensures stands { (cell : ℕ → Cell) (p : Decoded) (ps : List Decoded) (all : Ahead)
         → IsFlatOf table.now cell
         → c ≡ or_replacement p.char → size ≡ p.size → 0 < size → place.at + size < 2 ^ 64

@@ -11,7 +11,7 @@ use crate::stream::{Cut, Four, Stream};
 use crate::stream_unit::StreamUnit;
 use lbk_bytes::{FillState, RawBreak};
 use lbk_rules::{FlatTable, Profile};
-use lbk_units::{Piece, Unit, fill_part};
+use lbk_units::{Breaks, Unit, UnitScalar, fill_part};
 
 impl StreamUnit for u16 {
     ghost could_go_on = { could_go_on_utf16 };
@@ -66,12 +66,12 @@ impl StreamUnit for u16 {
         ]
     }
 
-    fn first(units: &[u16]) -> Piece {
+    fn first(units: &[u16]) -> UnitScalar {
         u16::front(units)
     }
 
     #[inline(always)]
-    fn first_of_cut(cut: &Cut<u16>) -> Piece {
+    fn first_of_cut(cut: &Cut<u16>) -> UnitScalar {
         let units = listed(cut.units);
         u16::first(&units[..cut.size])
     }
@@ -88,9 +88,9 @@ impl StreamUnit for u16 {
         }
         let last = piece.len() - 1;
         if is_high(piece[last]) {
-            return fill_part(table, profile, start, &piece[..last], out);
+            return fill_part::<u16, Breaks>(table, profile, start, &piece[..last], out);
         }
-        fill_part(table, profile, start, piece, out)
+        fill_part::<u16, Breaks>(table, profile, start, piece, out)
     }
 }
 

@@ -11,7 +11,7 @@ use crate::stream::{Cut, Four, Stream};
 use crate::stream_unit::StreamUnit;
 use lbk_bytes::{FillState, RawBreak, fill_common};
 use lbk_rules::{FlatTable, Profile};
-use lbk_units::{Piece, Unit};
+use lbk_units::{Unit, UnitScalar};
 
 impl StreamUnit for u8 {
     ghost could_go_on = { could_go_on };
@@ -70,12 +70,12 @@ impl StreamUnit for u8 {
         listed(cut.units)
     }
 
-    fn first(bytes: &[u8]) -> Piece {
+    fn first(bytes: &[u8]) -> UnitScalar {
         u8::front(bytes)
     }
 
     #[inline(always)]
-    fn first_of_cut(cut: &Cut<u8>) -> Piece {
+    fn first_of_cut(cut: &Cut<u8>) -> UnitScalar {
         let bytes = listed(cut.units);
         u8::first(&bytes[..cut.size])
     }

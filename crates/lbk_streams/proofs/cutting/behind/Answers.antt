@@ -1,4 +1,4 @@
-use Rattle.std.proofs.Common.{◌≡◌, [], drop, length, take, sym, ap, ◌∙◌, length-take-le, arith}
+use Rattle.std.proofs.Common.{◌≡◌, drop, length, sym, ap, ◌∙◌, length-take-le, arith}
 use Rattle.std.proofs.Math.Seq.{drop-length}
 use Rattle.lbk_streams.specs.Stands.{front_of, listed}
 use Rattle.lbk_streams.proofs.cutting.behind.Goals as goal

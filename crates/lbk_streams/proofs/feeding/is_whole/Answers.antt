@@ -1,5 +1,8 @@
-use Rattle.std.proofs.Common.{arith}
+use Rattle.std.proofs.Common.{inl, arith}
 use Rattle.lbk_streams.proofs.feeding.is_whole.Goals as goal
 
-pub returns-then-cut-eq0-clause-few : goal.returns-then-cut-eq0-clause-few
-returns-then-cut-eq0-clause-few g c = λ _. omega (arith, c.if-cut-eq0.true, g.met.U.StreamUnit.narrow.0)
+pub returns-then-cut-eq0-clause-unfinished : goal.returns-then-cut-eq0-clause-unfinished
+returns-then-cut-eq0-clause-unfinished g c = λ _ _. record {
+  unfinished = inl c.if-cut-eq0.true;
+  few = omega (arith, c.if-cut-eq0.true, g.met.U.StreamUnit.narrow.0);
+}

@@ -1,38 +1,32 @@
-use Rattle.std.proofs.Common.{arith}
+use Rattle.std.proofs.Common.{length, refl, arith}
+use Rattle.std.proofs.lemmas.Bool.{false≢true}
+use Rattle.lbk_streams.proofs.TakingLemmas.{Takes-wider, TakesOf-then}
 use Rattle.lbk_streams.proofs.feeding.take_piece.Goals as goal
 
 pub loop-here-init : goal.loop-here-init
 loop-here-init g c =
+    let start = c.args.start in
+    let piece = c.args.piece.now in
     let drain = c.drain-here in
-    let within = drain.ensures.within in
+    let taken = drain.ensures.taken in
     record {
-      cut = within.0;
-      room = omega (arith, within.1);
-      within = omega (arith, within.2, c.requires.2);
-      unfinished = λ free. drain.ensures.unfinished (omega arith);
-      few = λ free. drain.ensures.few (omega arith);
-      breaks = drain.ensures.breaks;
-      counted = drain.ensures.counted;
-      ordered = λ base from fits o. drain.ensures.ordered base from (omega (arith, c.requires.2)) o;
-      feeds = λ cell base more all flat start. drain.ensures.feeds cell base c.args.piece.now more all flat start;
+      takes = record {
+        takes = Takes-wider g.U.StreamUnit.widest start.taken (length piece) c.args.out.now start drain.new.out drain.result c.requires.2 drain.ensures.takes;
+        within = (omega (arith, taken), omega (arith, taken, c.requires.2));
+        feeds = λ cell more flat base all feeds. drain.ensures.feeds cell piece more flat (λ last. absurd (false≢true last)) base all feeds;
+      };
+      unfinished = λ free. drain.ensures.unfinished refl (omega arith);
     }
 
 pub take_more-here-requires : goal.take_more-here-requires
-take_more-here-requires g c = (c.loop-here.invariant.few (omega arith), omega arith, omega arith)
+take_more-here-requires g c = ((c.loop-here.invariant.unfinished (omega arith)).few, omega arith, omega arith)
 
 pub loop-here-preserved : goal.loop-here-preserved
 loop-here-preserved g c =
     let l = c.loop-here in
     let take = c.take_more-here in
-    let within = take.ensures.within in
     record {
-      cut = within.0;
-      room = omega (arith, within.1);
-      within = within.3;
+      takes = TakesOf-then g.U.Unit.pieces_of g.U.StreamUnit.widest c.args.table.now c.args.profile c.args.piece.now c.args.out.now c.args.start l.out l.here take.new.out take.result
+          (omega arith) l.invariant.takes take.ensures.takes;
       unfinished = λ free. take.ensures.unfinished (omega arith);
-      few = λ free. take.ensures.few (omega arith);
-      breaks = λ all. take.ensures.breaks (l.invariant.breaks all);
-      counted = omega (arith, take.ensures.counted, l.invariant.counted);
-      ordered = λ base from fits o. take.ensures.ordered base from fits (l.invariant.ordered base from fits o);
-      feeds = λ cell base more all flat start. take.ensures.feeds cell base more all flat (l.invariant.feeds cell base more all flat start);
     }

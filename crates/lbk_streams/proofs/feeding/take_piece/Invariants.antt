@@ -1,25 +1,14 @@
-use Rattle.std.proofs.Common.{◌≡◌, ◌⊎◌, ◌+◌, ◌-◌, ◌^◌, ◌<◌, ◌≤◌, ℕ, true, List, length}
-use Rattle.lbk_rules.specs.declared.Cell.{Cell}
-use Rattle.lbk_rules.specs.FlatTable.{IsFlatOf}
-use Rattle.lbk_bytes.specs.Order.{AreBreaks}
-use Rattle.lbk_bytes.specs.Shown.{given_in}
-use Rattle.lbk_streams.specs.Stands.{Ahead, AreFew, Feeds, IsOrdered, front_of}
+use Rattle.std.proofs.Common.{◌-◌, ◌<◌, length}
+use Rattle.lbk_streams.specs.Taking.{IsOpen, TakesOf}
 use Rattle.lbk_streams.proofs.feeding.take_piece.Given as goal
 
 abbrev pub invariant-loop-here : goal.invariant-loop-here
-invariant-loop-here g l = record {
-  cut : l.here.cut.size ≤ g.U.StreamUnit.widest;
-  room : l.here.count ≤ length l.out;
-  within : l.here.taken ≤ length l.piece;
-  unfinished : l.here.count < length l.out → (l.here.cut.size ≡ 0) ⊎ (g.U.StreamUnit.could_go_on (front_of l.here.cut) ≡ true);
-  few : l.here.count < length l.out → l.here.cut.size < g.U.StreamUnit.widest;
-  breaks : AreBreaks l.fn.out l.fn.start.count → AreBreaks l.out l.here.count;
-  counted : AreFew l.fn.start l.here;
-  ordered : (base from : ℕ) → base + length l.piece < 2 ^ 64 → IsOrdered l.fn.out base from l.fn.start → IsOrdered l.out base from l.here;
-  feeds : (cell : ℕ → Cell) (base : ℕ) (more : List g.row.U.Denot) (all : Ahead) → IsFlatOf l.fn.table cell
-      → Feeds g.U.Unit.pieces_of l.fn.profile cell base l.piece more l.fn.start all (given_in l.fn.out l.fn.start.count)
-      → Feeds g.U.Unit.pieces_of l.fn.profile cell base l.piece more l.here all (given_in l.out l.here.count);
-}
+invariant-loop-here g l =
+    let of = g.U.StreamUnit in
+    record {
+      takes : TakesOf g.U.Unit.pieces_of of.widest l.fn.table l.fn.profile l.piece l.fn.out l.fn.start l.out l.here;
+      unfinished : l.here.count < length l.out → IsOpen of.could_go_on of.widest l.here.cut;
+    }
 
 abbrev pub decreases-loop-here : goal.decreases-loop-here
 decreases-loop-here g l = length l.piece - l.here.taken

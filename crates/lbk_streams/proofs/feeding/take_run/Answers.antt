@@ -1,194 +1,146 @@
-use Rattle.std.proofs.Common.{◌≡◌, ◌+◌, ◌-◌, ◌%◌, ◌^◌, ◌<◌, ◌++◌, cond, drop, length, take, sym, ap, subst, ◌∙◌, length-drop, length-take-le, arith}
+use Rattle.std.proofs.Common.{◌≡◌, ℕ, ◌+◌, ◌-◌, ◌%◌, ◌^◌, ◌<◌, ◌≤◌, ◌++◌, List, true, cond, drop, length, take, sym, ap, subst, ◌∙◌, length-drop, length-take-le, arith}
+use Rattle.std.proofs.lemmas.Bool.{false≢true}
+use Rattle.lbk_rules.specs.declared.Cell.{Cell}
+use Rattle.lbk_rules.specs.FlatTable.{IsFlatOf}
 use Rattle.lbk_bytes.specs.Shown.{given_in}
 use Rattle.lbk_units.specs.Front.{IsFront}
 use Rattle.lbk_units.proofs.UnitLemmas.{rest-of}
-use Rattle.lbk_streams.specs.Stands.{Stands}
-use Rattle.lbk_streams.proofs.FeedLemmas.{Feeds-kept, Feeds-run, is-taken, none-cut, not-false, not-true}
+use Rattle.lbk_streams.specs.Stands.{Ahead, Feeds, Stands}
+use Rattle.lbk_streams.specs.Taking.{TakesOf}
+use Rattle.lbk_streams.proofs.FeedLemmas.{Feeds-kept, Feeds-run, IsTaken, is-taken, none-cut, not-false, not-true}
+use Rattle.lbk_streams.proofs.TakingLemmas.{TakesOf-then, takes-none, takes-one}
+use Rattle.lbk_streams.proofs.feeding.take_run.Given.{Over}
 use Rattle.lbk_streams.proofs.feeding.take_run.Goals as goal
+use Rattle.lbk_streams.proofs.feeding.take_run.Goals.{After-take_scalar-step}
 
-pub overflow_add-taken : goal.overflow_add-taken
-overflow_add-taken g c =
+-- the scalar lies in the piece
+inside : (g : Over) (c : After-take_scalar-step g) → c.args.here.taken + c.first-first.result.size ≤ length c.args.piece.now
+inside g c =
     let left = ap length (rest-of c.args.piece.now c.args.here.taken) in
     let all = length-drop c.args.here.taken c.args.piece.now in
     let within = c.first-first.ensures.front.within in
     omega arith
 
+-- and is one of the text, whatever follows
+taken : (g : Over) (c : After-take_scalar-step g) → let here = c.args.here in let out = c.args.out.now in let step = c.take_scalar-step in
+    (cell : ℕ → Cell) (more : List g.row.U.Denot) → IsFlatOf c.args.table.now cell
+    → (base : ℕ) (all : Ahead) → Feeds g.U.Unit.pieces_of c.args.profile cell base c.args.piece.now more here all (given_in out here.count)
+    → IsTaken g.U.Unit.pieces_of (drop here.taken c.args.piece.now ++ more) c.first-first.result here.place step.result.place step.result.passed c.args.profile cell all
+    (given_in step.new.out step.result.count)
+taken g c cell more flat base all feeds =
+    let of = g.U.Unit.pieces_of in
+    let here = c.args.here in
+    let found = c.first-first.result in
+    let step = c.take_scalar-step in
+    let units = drop here.taken c.args.piece.now ++ more in
+    let given = given_in c.args.out.now here.count in
+    let is_rest = rest-of c.args.piece.now here.taken in
+    let front : IsFront of units found = subst (λ l. IsFront of (l ++ more) found) is_rest
+    (c.first-first.ensures.whole more (ap g.U.StreamUnit.could_go_on is_rest ∙ c.requires.3)) in
+    let stands = subst (λ l. Stands c.args.profile cell here.place (of l) all given) (none-cut here.cut units c.requires.0) feeds.stands in
+    let fits = subst (λ l. here.place.at + length l < 2 ^ 64) (none-cut here.cut units c.requires.0) feeds.fits in
+    is-taken of units found here.place step.result.place step.result.passed c.args.profile cell all given (given_in step.new.out step.result.count) front fits step.ensures.steps.at
+    (λ p ps. step.ensures.stands cell p ps all flat) stands
+
+-- where it is taken
+past : (g : Over) (c : After-take_scalar-step g) → let step = c.take_scalar-step in step.result.passed ≡ true
+    → TakesOf g.U.Unit.pieces_of g.U.StreamUnit.widest c.args.table.now c.args.profile c.args.piece.now c.args.out.now c.args.here step.new.out
+    (record { place = step.result.place; cut = c.args.here.cut; taken = c.args.here.taken + c.first-first.result.size; count = step.result.count })
+past g c passed =
+    let here = c.args.here in
+    let found = c.first-first.result in
+    let step = c.take_scalar-step in
+    let steps = step.ensures.steps in
+    let front = c.first-first.ensures.front in
+    let fits = inside g c in
+    let one = takes-one step.result passed in
+    let at = steps.at ∙ ap (λ b. cond b ((here.place.at + found.size) % 2 ^ 64) here.place.at) passed in
+    record {
+      takes = record {
+        cut = omega (arith, c.requires.0);
+        room = omega (arith, steps.within.1);
+        breaks = steps.breaks;
+        counted = omega (arith, front.some, steps.few, one);
+        ordered = λ base from short o.
+            let seen = o.seen in
+            let below : here.place.at + found.size < 2 ^ 64 = omega (arith, c.requires.0) in
+            record { seen = omega (arith, at, below, c.requires.0); placed = steps.placed from (λ _. (front.some, below)) o.placed };
+      };
+      within = (omega arith, fits);
+      feeds = λ cell more flat base all feeds.
+          Feeds-run g.U.Unit.pieces_of c.args.profile cell base c.args.piece.now more here step.result.place step.result.count found all
+          (given_in c.args.out.now here.count) (given_in step.new.out step.result.count)
+          c.requires.0 fits ((taken g c cell more flat base all feeds).passes passed) feeds;
+    }
+
+pub overflow_add-taken : goal.overflow_add-taken
+overflow_add-taken g c = let fits = inside g (goal.at.overflow_add-taken g c).After-take_scalar-step in omega arith
+
 pub slice_bounds-kept-end : goal.slice_bounds-kept-end
 slice_bounds-kept-end g c =
     let left = ap length (rest-of c.args.piece.now c.args.here.taken) in
+    let fits = inside g (goal.at.slice_bounds-kept-end g c).After-take_scalar-step in
     let all = length-drop c.args.here.taken c.args.piece.now in
-    let within = c.first-first.ensures.front.within in
     sym (length-take-le c.first-first.result.size (take (length c.args.piece.now - c.args.here.taken) (drop c.args.here.taken c.args.piece.now)) (omega arith))
+
+-- as many units as the scalar has
+whole : (g : Over) (c : After-take_scalar-step g) → let piece = c.args.piece.now in let size = c.first-first.result.size in
+    length (take size (take (length piece - c.args.here.taken) (drop c.args.here.taken piece))) ≡ size
+whole g c = length-take-le c.first-first.result.size (take (length c.args.piece.now - c.args.here.taken) (drop c.args.here.taken c.args.piece.now)) c.first-first.ensures.front.within
 
 pub kept-cut-requires : goal.kept-cut-requires
 kept-cut-requires g c =
-    let left = ap length (rest-of c.args.piece.now c.args.here.taken) in
-    let all = length-drop c.args.here.taken c.args.piece.now in
-    let within = c.first-first.ensures.front.within in
-    let long = length-take-le c.first-first.result.size (take (length c.args.piece.now - c.args.here.taken) (drop c.args.here.taken c.args.piece.now)) (omega arith) in
-    omega (arith, c.first-first.ensures.few, g.met.U.StreamUnit.narrow.1)
+    let long = whole g (goal.at.kept-cut-requires g c).After-take_scalar-step in
+    omega (arith, long, c.first-first.ensures.few, g.met.U.StreamUnit.narrow.1)
 
-pub returns-then-not-step-clause-within : goal.returns-then-not-step-clause-within
-returns-then-not-step-clause-within g c =
-    let left = ap length (rest-of c.args.piece.now c.args.here.taken) in
-    let all = length-drop c.args.here.taken c.args.piece.now in
-    let within = c.first-first.ensures.front.within in
-    let long = length-take-le c.first-first.result.size (take (length c.args.piece.now - c.args.here.taken) (drop c.args.here.taken c.args.piece.now)) (omega arith) in
-    (omega (arith, c.first-first.ensures.few, c.kept-cut.ensures.within), c.take_scalar-step.ensures.within.1, omega (arith, c.first-first.ensures.front.some), omega arith)
-
-pub returns-then-not-step-clause-feeds : goal.returns-then-not-step-clause-feeds
-returns-then-not-step-clause-feeds g c = λ cell base more all flat feeds.
-    let of = g.U.Unit.pieces_of in
+pub returns-then-not-step-clause-takes : goal.returns-then-not-step-clause-takes
+returns-then-not-step-clause-takes g c =
+    let at_step = (goal.at.returns-then-not-step-clause-takes g c).After-take_scalar-step in
     let piece = c.args.piece.now in
     let here = c.args.here in
-    let at = here.taken in
     let found = c.first-first.result in
     let step = c.take_scalar-step in
-    let units = drop at piece ++ more in
-    let given = given_in c.args.out.now here.count in
-    let after = given_in step.new.out step.result.count in
-    let is_rest = rest-of piece at in
-    let front : IsFront of units found = subst (λ l. IsFront of (l ++ more) found) is_rest
-    (c.first-first.ensures.whole more (ap g.U.StreamUnit.could_go_on is_rest ∙ c.requires.3)) in
-    let stands = subst (λ l. Stands c.args.profile cell here.place (of l) all given) (none-cut here.cut units c.requires.0) feeds.stands in
-    let fits = subst (λ l. here.place.at + length l < 2 ^ 64) (none-cut here.cut units c.requires.0) feeds.fits in
-    let taken = is-taken of units found here.place step.result.place step.result.passed c.args.profile cell all given after front fits step.ensures.at
-    (λ p ps. step.ensures.stands cell p ps all flat) stands in
-    let left = ap length is_rest in
-    let long = length-drop at piece in
-    let within = c.first-first.ensures.front.within in
-    let size = found.size in
-    let kept = length-take-le size (take (length piece - at) (drop at piece)) (omega arith) in
-    Feeds-kept of c.args.profile cell base piece more here step.result.place c.kept-cut.result step.result.count size all given after
-    c.requires.0 (omega arith) (c.kept-cut.ensures.units ∙ ap (take size) is_rest) (c.kept-cut.ensures.within ∙ kept)
-    (taken.stays (not-true step.result.passed c.if-not-step.true)) feeds
+    let steps = step.ensures.steps in
+    let front = c.first-first.ensures.front in
+    let fits = inside g at_step in
+    let size = c.kept-cut.ensures.within ∙ whole g at_step in
+    let stays = not-true step.result.passed c.if-not-step.true in
+    let none = takes-none step.result stays in
+    let at = steps.at ∙ ap (λ b. cond b ((here.place.at + found.size) % 2 ^ 64) here.place.at) stays in
+    record {
+      takes = record {
+        cut = omega (arith, size, c.first-first.ensures.few);
+        room = omega (arith, steps.within.1);
+        breaks = steps.breaks;
+        counted = omega (arith, steps.few, none, size, c.requires.0);
+        ordered = λ base from short o.
+            let seen = o.seen in
+            record { seen = omega (arith, at, size, c.requires.0); placed = steps.placed from (λ is. absurd (false≢true (sym stays ∙ is))) o.placed };
+      };
+      within = (omega arith, fits);
+      feeds = λ cell more flat base all feeds.
+          Feeds-kept g.U.Unit.pieces_of c.args.profile cell base piece more here step.result.place c.kept-cut.result step.result.count found.size all
+          (given_in c.args.out.now here.count) (given_in step.new.out step.result.count)
+          c.requires.0 fits (c.kept-cut.ensures.units ∙ ap (take found.size) (rest-of piece here.taken)) size
+          ((taken g (goal.at.returns-then-not-step-clause-takes g c).After-take_scalar-step cell more flat base all feeds).stays stays) feeds;
+    }
 
-pub returns-then-past-ne0-clause-within : goal.returns-then-past-ne0-clause-within
-returns-then-past-ne0-clause-within g c =
-    let left = ap length (rest-of c.args.piece.now c.args.here.taken) in
-    let all = length-drop c.args.here.taken c.args.piece.now in
-    let within = c.first-first.ensures.front.within in
-    (omega (arith, c.requires.0), c.take_scalar-step.ensures.within.1, omega (arith, c.first-first.ensures.front.some), omega arith)
-
-pub returns-then-past-ne0-clause-feeds : goal.returns-then-past-ne0-clause-feeds
-returns-then-past-ne0-clause-feeds g c = λ cell base more all flat feeds.
-    let of = g.U.Unit.pieces_of in
-    let piece = c.args.piece.now in
-    let here = c.args.here in
-    let at = here.taken in
-    let found = c.first-first.result in
-    let step = c.take_scalar-step in
-    let units = drop at piece ++ more in
-    let given = given_in c.args.out.now here.count in
-    let after = given_in step.new.out step.result.count in
-    let is_rest = rest-of piece at in
-    let front : IsFront of units found = subst (λ l. IsFront of (l ++ more) found) is_rest
-    (c.first-first.ensures.whole more (ap g.U.StreamUnit.could_go_on is_rest ∙ c.requires.3)) in
-    let stands = subst (λ l. Stands c.args.profile cell here.place (of l) all given) (none-cut here.cut units c.requires.0) feeds.stands in
-    let fits = subst (λ l. here.place.at + length l < 2 ^ 64) (none-cut here.cut units c.requires.0) feeds.fits in
-    let taken = is-taken of units found here.place step.result.place step.result.passed c.args.profile cell all given after front fits step.ensures.at
-    (λ p ps. step.ensures.stands cell p ps all flat) stands in
-    let left = ap length is_rest in
-    let long = length-drop at piece in
-    let within = c.first-first.ensures.front.within in
-    Feeds-run of c.args.profile cell base piece more here step.result.place step.result.count found all given after
-    c.requires.0 (omega arith) (taken.passes (not-false step.result.passed c.if-not-step.false)) feeds
+pub returns-then-past-ne0-clause-takes : goal.returns-then-past-ne0-clause-takes
+returns-then-past-ne0-clause-takes g c =
+    past g (goal.at.returns-then-past-ne0-clause-takes g c).After-take_scalar-step (not-false c.take_scalar-step.result.passed c.if-not-step.false)
 
 pub skim-requires : goal.skim-requires
 skim-requires g c =
-    let left = ap length (rest-of c.args.piece.now c.args.here.taken) in
-    let all = length-drop c.args.here.taken c.args.piece.now in
-    let within = c.first-first.ensures.front.within in
-    (c.requires.0, c.if-past-ne0.false, omega (arith, c.take_scalar-step.ensures.within.1), omega (arith, c.first-first.ensures.front.some), omega arith)
+    let fits = inside g (goal.at.skim-requires g c).After-take_scalar-step in
+    (c.requires.0, c.if-past-ne0.false, omega (arith, c.take_scalar-step.ensures.steps.within.1), omega (arith, c.first-first.ensures.front.some), fits)
 
-pub returns-clause-within : goal.returns-clause-within
-returns-clause-within g c =
-    let within = c.skim.ensures.within in
-    (omega (arith, within.0), omega (arith, within.1), omega (arith, within.2, c.first-first.ensures.front.some), within.3)
-
-pub returns-clause-feeds : goal.returns-clause-feeds
-returns-clause-feeds g c = λ cell base more all flat feeds.
-    let of = g.U.Unit.pieces_of in
-    let piece = c.args.piece.now in
-    let here = c.args.here in
-    let at = here.taken in
-    let found = c.first-first.result in
+pub returns-clause-takes : goal.returns-clause-takes
+returns-clause-takes g c =
     let step = c.take_scalar-step in
-    let units = drop at piece ++ more in
-    let given = given_in c.args.out.now here.count in
-    let after = given_in step.new.out step.result.count in
-    let is_rest = rest-of piece at in
-    let front : IsFront of units found = subst (λ l. IsFront of (l ++ more) found) is_rest
-    (c.first-first.ensures.whole more (ap g.U.StreamUnit.could_go_on is_rest ∙ c.requires.3)) in
-    let stands = subst (λ l. Stands c.args.profile cell here.place (of l) all given) (none-cut here.cut units c.requires.0) feeds.stands in
-    let fits = subst (λ l. here.place.at + length l < 2 ^ 64) (none-cut here.cut units c.requires.0) feeds.fits in
-    let taken = is-taken of units found here.place step.result.place step.result.passed c.args.profile cell all given after front fits step.ensures.at
-    (λ p ps. step.ensures.stands cell p ps all flat) stands in
-    let left = ap length is_rest in
-    let long = length-drop at piece in
-    let within = c.first-first.ensures.front.within in
-    c.skim.ensures.feeds cell base more all flat
-    (Feeds-run of c.args.profile cell base piece more here step.result.place step.result.count found all given after
-    c.requires.0 (omega arith) (taken.passes (not-false step.result.passed c.if-not-step.false)) feeds)
-
-pub returns-then-not-step-clause-counted : goal.returns-then-not-step-clause-counted
-returns-then-not-step-clause-counted g c =
-    let left = ap length (rest-of c.args.piece.now c.args.here.taken) in
-    let all = length-drop c.args.here.taken c.args.piece.now in
-    let within = c.first-first.ensures.front.within in
-    let long = length-take-le c.first-first.result.size (take (length c.args.piece.now - c.args.here.taken) (drop c.args.here.taken c.args.piece.now)) (omega arith) in
-    let met = c.take_scalar-step.ensures.met (not-true c.take_scalar-step.result.passed c.if-not-step.true) in
-    omega (arith, met, c.kept-cut.ensures.within, c.first-first.ensures.front.some, c.requires.0)
-
-pub returns-then-past-ne0-clause-counted : goal.returns-then-past-ne0-clause-counted
-returns-then-past-ne0-clause-counted g c = omega (arith, c.first-first.ensures.front.some, c.take_scalar-step.ensures.few)
-
-pub returns-clause-counted : goal.returns-clause-counted
-returns-clause-counted g c = omega (arith, c.first-first.ensures.front.some, c.take_scalar-step.ensures.few, c.skim.ensures.counted)
-
-pub returns-then-not-step-clause-ordered : goal.returns-then-not-step-clause-ordered
-returns-then-not-step-clause-ordered g c = λ base from fits o.
     let here = c.args.here in
-    let size = c.first-first.result.size in
-    let step = c.take_scalar-step in
-    let left = ap length (rest-of c.args.piece.now c.args.here.taken) in
-    let all = length-drop c.args.here.taken c.args.piece.now in
-    let within = c.first-first.ensures.front.within in
-    let long = length-take-le c.first-first.result.size (take (length c.args.piece.now - c.args.here.taken) (drop c.args.here.taken c.args.piece.now)) (omega arith) in
-    let none = c.requires.0 in
-    let seen = o.seen in
-    let below : here.place.at + size < 2 ^ 64 = omega arith in
-    let kept = c.kept-cut.ensures.within in
-    let at : step.result.place.at ≡ here.place.at =
-    step.ensures.at ∙ ap (λ b. cond b ((here.place.at + size) % 2 ^ 64) here.place.at) (not-true step.result.passed c.if-not-step.true) in
-    record { seen = omega arith; placed = step.ensures.placed from c.first-first.ensures.front.some below o.placed }
+    TakesOf-then g.U.Unit.pieces_of g.U.StreamUnit.widest c.args.table.now c.args.profile c.args.piece.now c.args.out.now here step.new.out
+    (record { place = step.result.place; cut = here.cut; taken = here.taken + c.first-first.result.size; count = step.result.count }) c.skim.new.out c.skim.result
+    (omega arith) (past g (goal.at.returns-clause-takes g c).After-take_scalar-step (not-false step.result.passed c.if-not-step.false)) c.skim.ensures.takes
 
-pub returns-then-past-ne0-clause-ordered : goal.returns-then-past-ne0-clause-ordered
-returns-then-past-ne0-clause-ordered g c = λ base from fits o.
-    let here = c.args.here in
-    let size = c.first-first.result.size in
-    let step = c.take_scalar-step in
-    let left = ap length (rest-of c.args.piece.now c.args.here.taken) in
-    let all = length-drop c.args.here.taken c.args.piece.now in
-    let within = c.first-first.ensures.front.within in
-    let none = c.requires.0 in
-    let seen = o.seen in
-    let below : here.place.at + size < 2 ^ 64 = omega arith in
-    let at : step.result.place.at ≡ (here.place.at + size) % 2 ^ 64 =
-    step.ensures.at ∙ ap (λ b. cond b ((here.place.at + size) % 2 ^ 64) here.place.at) (not-false step.result.passed c.if-not-step.false) in
-    record { seen = omega arith; placed = step.ensures.placed from c.first-first.ensures.front.some below o.placed }
-
-pub returns-clause-ordered : goal.returns-clause-ordered
-returns-clause-ordered g c = λ base from fits o.
-    let here = c.args.here in
-    let size = c.first-first.result.size in
-    let step = c.take_scalar-step in
-    let left = ap length (rest-of c.args.piece.now c.args.here.taken) in
-    let all = length-drop c.args.here.taken c.args.piece.now in
-    let within = c.first-first.ensures.front.within in
-    let none = c.requires.0 in
-    let seen = o.seen in
-    let below : here.place.at + size < 2 ^ 64 = omega arith in
-    let at : step.result.place.at ≡ (here.place.at + size) % 2 ^ 64 =
-    step.ensures.at ∙ ap (λ b. cond b ((here.place.at + size) % 2 ^ 64) here.place.at) (not-false step.result.passed c.if-not-step.false) in
-    c.skim.ensures.ordered base from fits (record { seen = omega arith; placed = step.ensures.placed from c.first-first.ensures.front.some below o.placed })
+pub returns-clause-onward : goal.returns-clause-onward
+returns-clause-onward g c = omega (arith, c.skim.ensures.takes.within.0, c.first-first.ensures.front.some)

@@ -33,18 +33,32 @@ returns-clause-stands c = λ profile cell p ps all flat is_char stands.
     (c.put-more.ensures.front
     ∙ ap (λ n. given ++ with_break place.held_at (verdict_shown n) []) (c.shown_by-shown.ensures.same (stands.waits waits).coded)) stands
 
-pub returns-then-closes-clause-placed : goal.returns-then-closes-clause-placed
-returns-then-closes-clause-placed c = λ from p.
+pub returns-then-closes-clause-steps : goal.returns-then-closes-clause-steps
+returns-then-closes-clause-steps c =
     let place = c.args.place in
     let free : Place = record { at = place.at; held_at = place.held_at; row = place.row; held_code = 0 } in
-    IsPlaced-free c.args.out.now c.args.count from place.at free refl (omega arith) (IsInOrder-at c.args.out.now c.args.count from place p)
+    record {
+      within = (omega arith, omega arith);
+      breaks = λ all. all;
+      few = omega arith;
+      at = refl;
+      placed = λ from fits p.
+          IsPlaced-free c.args.out.now c.args.count from place.at free refl (omega arith) (IsInOrder-at c.args.out.now c.args.count from place p);
+    }
 
-pub returns-clause-placed : goal.returns-clause-placed
-returns-clause-placed c = λ from p.
+pub returns-clause-steps : goal.returns-clause-steps
+returns-clause-steps c =
     let place = c.args.place in
     let put = c.put-more in
     let held : 0 < place.held_code = omega arith in
     let free : Place = record { at = place.at; held_at = place.held_at; row = place.row; held_code = 0 } in
-    let order = subst (λ n. IsInOrder c.args.out.now c.args.count from n) (next-held place held) p.order in
-    IsPlaced-free put.new.out put.result from place.at free refl (omega arith)
-    (omega (arith, order.0, p.waits held), put.ensures.in_order from place.at (p.waits held) order)
+    record {
+      within = (omega (arith, put.ensures.within), omega (arith, put.ensures.within));
+      breaks = put.ensures.breaks;
+      few = omega (arith, put.ensures.within);
+      at = refl;
+      placed = λ from fits p.
+          let order = subst (λ n. IsInOrder c.args.out.now c.args.count from n) (next-held place held) p.order in
+          IsPlaced-free put.new.out put.result from place.at free refl (omega arith)
+          (omega (arith, order.0, p.waits held), put.ensures.in_order from place.at (p.waits held) order);
+    }

@@ -79,27 +79,51 @@ returns-clause-stands c = λ cell p ps all flat is_char is_size some fits joins 
     c.put-more.ensures.front
     stands
 
-pub returns-then-place-ne0-clause-placed : goal.returns-then-place-ne0-clause-placed
-returns-then-place-ne0-clause-placed c = λ from some fits p.
+pub returns-then-place-ne0-clause-steps : goal.returns-then-place-ne0-clause-steps
+returns-then-place-ne0-clause-steps c =
     let place = c.args.place in
     let held : 0 < place.held_code = omega arith in
     let next : Place = record { at = (place.at + c.args.size) % 2 ^ 64; held_at = place.held_at; row = c.step_in-first.result.next; held_code = place.held_code } in
-    IsPlaced-held c.args.out.now c.args.count from next (omega (arith, p.waits held))
-    (subst (λ n. IsInOrder c.args.out.now c.args.count from n) (next-held place held) p.order)
+    record {
+      within = (omega arith, omega arith);
+      breaks = λ all. all;
+      few = omega arith;
+      at = refl;
+      placed = λ from fits p.
+          let fit = fits refl in
+          IsPlaced-held c.args.out.now c.args.count from next (omega (arith, p.waits held, fit.0, fit.1))
+          (subst (λ n. IsInOrder c.args.out.now c.args.count from n) (next-held place held) p.order);
+    }
 
-pub returns-then-waits-clause-placed : goal.returns-then-waits-clause-placed
-returns-then-waits-clause-placed c = λ from some fits p.
+pub returns-then-waits-clause-steps : goal.returns-then-waits-clause-steps
+returns-then-waits-clause-steps c =
     let place = c.args.place in
     let first = c.step_in-first.result in
     let next : Place = record { at = (place.at + c.args.size) % 2 ^ 64; held_at = place.at; row = first.next; held_code = first.shown } in
-    IsPlaced-held c.args.out.now c.args.count from next (omega arith) (IsInOrder-at c.args.out.now c.args.count from place p)
+    record {
+      within = (omega arith, omega arith);
+      breaks = λ all. all;
+      few = omega arith;
+      at = refl;
+      placed = λ from fits p.
+          let fit = fits refl in
+          IsPlaced-held c.args.out.now c.args.count from next (omega (arith, fit.0, fit.1)) (IsInOrder-at c.args.out.now c.args.count from place p);
+    }
 
-pub returns-clause-placed : goal.returns-clause-placed
-returns-clause-placed c = λ from some fits p.
+pub returns-clause-steps : goal.returns-clause-steps
+returns-clause-steps c =
     let place = c.args.place in
     let put = c.put-more in
     let next : Place = record { at = (place.at + c.args.size) % 2 ^ 64; held_at = place.held_at; row = c.step_in-first.result.next; held_code = place.held_code } in
-    let later : place.at < next.at = omega arith in
-    let order = IsInOrder-at c.args.out.now c.args.count from place p in
-    IsPlaced-free put.new.out put.result from next.at next c.if-place-ne0.false (omega arith)
-    (omega (arith, order.0, later), put.ensures.in_order from next.at later order)
+    record {
+      within = (omega (arith, put.ensures.within), omega (arith, put.ensures.within));
+      breaks = put.ensures.breaks;
+      few = omega (arith, put.ensures.within);
+      at = refl;
+      placed = λ from fits p.
+          let fit = fits refl in
+          let later : place.at < next.at = omega (arith, fit.0, fit.1) in
+          let order = IsInOrder-at c.args.out.now c.args.count from place p in
+          IsPlaced-free put.new.out put.result from next.at next c.if-place-ne0.false (omega arith)
+          (omega (arith, order.0, later), put.ensures.in_order from next.at later order);
+    }

@@ -1,0 +1,79 @@
+-- Steps one after another, and what calls do that take units of a piece.
+use Rattle.std.proofs.Common.{◌≡◌, ℕ, ◌+◌, ◌%◌, ◌^◌, ◌≤◌, Bool, true, false, cond, List, length, sym, ap, ◌∙◌, arith}
+use Rattle.std.proofs.lemmas.Bool.{false≢true}
+use Rattle.bstr.specs.Utf8.{Decoded}
+use Rattle.lbk_rules.specs.declared.flat_table.FlatTable.{FlatTable}
+use Rattle.lbk_values.specs.declared.profile.Profile.{Profile}
+use Rattle.lbk_bytes.specs.declared.raw_break.RawBreak.{RawBreak}
+use Rattle.lbk_streams.specs.declared.stream.Feeding.{Feeding}
+use Rattle.lbk_streams.specs.declared.stream.Place.{Place}
+use Rattle.lbk_streams.specs.declared.taking.Step.{Step}
+use Rattle.lbk_streams.specs.Taking.{Steps, Takes, TakesOf, taken_by}
+
+pub takes-one : (step : Step) → step.passed ≡ true → taken_by step ≡ 1
+takes-one step passed = let of : Bool → ℕ = λ b. cond b 1 0 in ap of passed
+
+pub takes-none : (step : Step) → step.passed ≡ false → taken_by step ≡ 0
+takes-none step stays = let of : Bool → ℕ = λ b. cond b 1 0 in ap of stays
+
+-- a step that takes nothing is one at a scalar of any size
+pub Steps-none : (size : ℕ) (old new : List RawBreak) (count : ℕ) (place : Place) (step : Step) → step.passed ≡ false
+    → Steps 0 old count place new step → Steps size old count place new step
+Steps-none size old new count place step none s = record {
+  within = s.within;
+  breaks = s.breaks;
+  few = s.few;
+  at = s.at ∙ ap (λ b. cond b ((place.at + 0) % 2 ^ 64) place.at) none
+      ∙ sym (ap (λ b. cond b ((place.at + size) % 2 ^ 64) place.at) none);
+  placed = λ from fits p. s.placed from (λ is. absurd (false≢true (sym none ∙ is))) p;
+}
+
+-- and another may follow it
+pub Steps-then : (size : ℕ) (old mid new : List RawBreak) (count : ℕ) (place : Place) (met step : Step)
+    → length mid ≡ length old → met.passed ≡ false
+    → Steps 0 old count place mid met → Steps size mid met.count met.place new step → Steps size old count place new step
+Steps-then size old mid new count place met step long none s t =
+    let at : met.place.at ≡ place.at = s.at ∙ ap (λ b. cond b ((place.at + 0) % 2 ^ 64) place.at) none in
+    let nothing = takes-none met none in
+    record {
+      within = (omega (arith, s.within.0, t.within.0), omega (arith, t.within.1, long));
+      breaks = λ all. t.breaks (s.breaks all);
+      few = omega (arith, s.few, t.few, nothing);
+      at = t.at ∙ ap (λ n. cond step.passed ((n + size) % 2 ^ 64) n) at;
+      placed = λ from fits p.
+          t.placed from (λ is. let fit = fits is in (fit.0, omega (arith, fit.1, at)))
+          (s.placed from (λ is. absurd (false≢true (sym none ∙ is))) p);
+    }
+
+-- up to a later unit
+pub Takes-wider : {A : Type 0} (widest low high : ℕ) (old : List RawBreak) (start : Feeding A) (new : List RawBreak) (result : Feeding A)
+    → low ≤ high → Takes widest low old start new result → Takes widest high old start new result
+Takes-wider widest low high old start new result wider t = record {
+  cut = t.cut;
+  room = t.room;
+  breaks = t.breaks;
+  counted = t.counted;
+  ordered = λ base from fits o. t.ordered base from (omega arith) o;
+}
+
+-- a call after another
+pub Takes-then : {A : Type 0} (widest end : ℕ) (old : List RawBreak) (start : Feeding A) (mid : List RawBreak) (here : Feeding A) (new : List RawBreak) (result : Feeding A)
+    → length mid ≡ length old → Takes widest end old start mid here → Takes widest end mid here new result → Takes widest end old start new result
+Takes-then widest end old start mid here new result long s t = record {
+  cut = t.cut;
+  room = omega (arith, t.room, long);
+  breaks = λ all. t.breaks (s.breaks all);
+  counted = omega (arith, s.counted, t.counted);
+  ordered = λ base from fits o. t.ordered base from fits (s.ordered base from fits o);
+}
+
+pub TakesOf-then : {A : Type 0} (pieces_of : List A → List Decoded) (widest : ℕ) (table : FlatTable) (profile : Profile) (piece : List A)
+    (old : List RawBreak) (start : Feeding A) (mid : List RawBreak) (here : Feeding A) (new : List RawBreak) (result : Feeding A)
+    → length mid ≡ length old
+    → TakesOf pieces_of widest table profile piece old start mid here → TakesOf pieces_of widest table profile piece mid here new result
+    → TakesOf pieces_of widest table profile piece old start new result
+TakesOf-then pieces_of widest table profile piece old start mid here new result long s t = record {
+  takes = Takes-then widest (length piece) old start mid here new result long s.takes t.takes;
+  within = (omega (arith, s.within.0, t.within.0), t.within.1);
+  feeds = λ cell more flat base all feeds. t.feeds cell more flat base all (s.feeds cell more flat base all feeds);
+}
