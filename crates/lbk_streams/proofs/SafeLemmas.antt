@@ -1,5 +1,5 @@
 -- Where a part of a text may begin, told by the classes on both sides.
-use Rattle.std.proofs.Common.{◌≡◌, ℕ, ◌+◌, ◌-◌, ◌<◌, ◌≤◌, true, false, Option, List, [], ◌∷◌, ◌++◌, length, map, take, drop, refl, sym, ap, ap₂, ◌∙◌, inr, ⊎_elim, arith, length-drop, length-take-le}
+use Rattle.std.proofs.Common.{◌≡◌, ℕ, ◌+◌, ◌-◌, ◌<◌, ◌≤◌, min, true, false, Option, List, [], ◌∷◌, ◌++◌, length, map, take, drop, refl, sym, ap, ap₂, ◌∙◌, inr, ⊎_elim, arith, length-drop, length-take-le}
 use Rattle.std.proofs.lemmas.Bool.{false≢true}
 use Rattle.std.proofs.lemmas.List.{map-append}
 use Rattle.bstr.specs.Utf8.{Decoded, IsLastPiece, decoded, lossy_chars, or_replacement, pieces}
@@ -9,7 +9,9 @@ use Rattle.lbk_rules.specs.declared.Class.{Class}
 use Rattle.lbk_values.specs.declared.profile.Profile.{Profile}
 use Rattle.lbk_rules.specs.Ends.{ends_between}
 use Rattle.lbk_rules.specs.Joins.{must_end_between}
-use Rattle.lbk_streams.specs.Cuts.{EndsBefore, IsPieceStart, IsSafeCut, JoinsAt}
+use Rattle.lbk_rules.specs.declared.flat_table.FlatTable.{FlatTable}
+use Rattle.lbk_rules.specs.FlatTable.{AreFlatKinds}
+use Rattle.lbk_streams.specs.Cuts.{BeginsIn, CutsAfter, CutsBefore, EndsBefore, IsPieceStart, IsSafeCut, IsSafeIn, JoinsAt, JoinsIn}
 use Rattle.lbk_streams.specs.Looking.{LastIs, NextIs}
 use Rattle.lbk_streams.proofs.PieceStartLemmas.{StartsNext, none-within}
 use Rattle.lbk_streams.proofs.JoinLemmas.{joins-at}
@@ -92,3 +94,36 @@ joins-safe profile cell text place some inside safe =
     let within : place ≤ length text = omega arith in
     ⊎_elim (λ start. absurd (let no : ⊥ = omega arith in no))
     (⊎_elim (λ end. absurd (let no : ⊥ = omega arith in no)) (joins-at profile cell text place within)) safe
+
+-- What a call promises that cuts a text, by what it found
+
+module _ (pieces_of : List ℕ → List Decoded) (table : FlatTable) (text : List ℕ) (at result : ℕ)
+    (joins : (profile : Profile) (cell : ℕ → Cell) → 0 < result → result < length text → IsSafeIn pieces_of cell text result → JoinsIn pieces_of profile cell text result)
+    (begins : BeginsIn pieces_of text result)
+    (is_safe : (cell : ℕ → Cell) → AreFlatKinds table.kinds cell → IsSafeIn pieces_of cell text result) where
+  pub cuts-after : result ≤ length text → min at (length text) ≤ result → (at ≡ 0 → result ≡ 0)
+      → ((cell : ℕ → Cell) (place : ℕ) → AreFlatKinds table.kinds cell → at ≤ place → place < result → ¬ (IsSafeIn pieces_of cell text place))
+      → CutsAfter pieces_of table text at result
+  cuts-after within behind start least = record {
+    within = within;
+    past = λ past. omega arith;
+    behind = λ inside. omega arith;
+    start = start;
+    begins = begins;
+    first = λ cell flat.
+        record { within = within; behind = behind; safe = is_safe cell flat.kinds; least = λ place from less. least cell place flat.kinds from less };
+    joined = λ cell profile flat some inside. joins profile cell some inside (is_safe cell flat.kinds);
+  }
+
+  pub cuts-before : result ≤ min at (length text) → (length text ≤ at → result ≡ length text)
+      → ((cell : ℕ → Cell) (place : ℕ) → AreFlatKinds table.kinds cell → result < place → place ≤ at → place ≤ length text → ¬ (IsSafeIn pieces_of cell text place))
+      → CutsBefore pieces_of table text at result
+  cuts-before before past greatest = record {
+    within = omega arith;
+    past = past;
+    before = omega arith;
+    begins = begins;
+    last = λ cell flat.
+        record { before = before; safe = is_safe cell flat.kinds; greatest = λ place later up within. greatest cell place flat.kinds later up within };
+    joined = λ cell profile flat some inside. joins profile cell some inside (is_safe cell flat.kinds);
+  }

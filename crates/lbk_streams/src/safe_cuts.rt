@@ -1,12 +1,11 @@
 //! Where a text may be cut into parts.
 
 ghost use Rattle.std.specs.Prelude.{◌≡◌, ℕ, ◌+◌, ◌-◌, ◌<◌, ◌≤◌, length, drop};
-ghost use Rattle.bstr.specs.Utf8.{decoded};
+ghost use Rattle.bstr.specs.Utf8.{decoded, pieces};
 ghost use Rattle.lbk_rules.specs.declared.Cell.{Cell};
-ghost use Rattle.lbk_values.specs.declared.profile.Profile.{Profile};
 ghost use Rattle.lbk_rules.specs.Ends.{ends_between};
-ghost use Rattle.lbk_rules.specs.FlatTable.{AreFlatKinds, IsFlatOf};
-ghost use Rattle.lbk_streams.specs.Cuts.{IsCutAfter, IsCutBefore, IsPieceStart, IsSafeCut, JoinsAt};
+ghost use Rattle.lbk_rules.specs.FlatTable.{AreFlatKinds};
+ghost use Rattle.lbk_streams.specs.Cuts.{CutsAfter, CutsBefore, IsPieceStart};
 ghost use Rattle.lbk_streams.specs.Looking.{LastIs, NextIs};
 
 use bstr::{decode_last_lossy, decode_lossy};
@@ -19,16 +18,7 @@ use lbk_rules::{Class, FlatTable};
 /// The breaks of the parts are those of the whole: the places of a later part count from its start, and where another
 /// part follows a part, its end is by rule 4 or 5, in the place of 3.
 pub fn cut(table: &FlatTable, text: &[u8], at: usize) -> usize
-    ensures within { result ≤ length text.now }
-    ensures past { length text.now ≤ at → result ≡ length text.now }
-    ensures behind { at ≤ length text.now → at ≤ result }
-    ensures start { at ≡ 0 → result ≡ 0 }
-    // Whatever the table, no part begins within a scalar, nor within bytes that are read as one U+FFFD.
-    ensures begins { IsPieceStart text.now result }
-    ensures first { (cell : ℕ → Cell) → IsFlatOf table.now cell → IsCutAfter cell text.now at result }
-    ensures joined { (cell : ℕ → Cell) (profile : Profile) → IsFlatOf table.now cell → 0 < result
-        → result < length text.now
-        → JoinsAt profile cell text.now result }
+    ensures { CutsAfter pieces table.now text.now at result }
 {
     if text.len() <= at {
         return text.len();
@@ -36,37 +26,7 @@ pub fn cut(table: &FlatTable, text: &[u8], at: usize) -> usize
     if at == 0 {
         return 0;
     }
-    first_cut(table, text, piece_start(text, at))
-}
-
-/// The last byte at or before `at` at which a part of a text may begin. A place past the text counts as its end.
-pub fn cut_before(table: &FlatTable, text: &[u8], at: usize) -> usize
-    ensures within { result ≤ length text.now }
-    ensures past { length text.now ≤ at → result ≡ length text.now }
-    ensures before { result ≤ at }
-    ensures begins { IsPieceStart text.now result }
-    ensures last { (cell : ℕ → Cell) → IsFlatOf table.now cell → IsCutBefore cell text.now at result }
-    ensures joined { (cell : ℕ → Cell) (profile : Profile) → IsFlatOf table.now cell → 0 < result
-        → result < length text.now
-        → JoinsAt profile cell text.now result }
-{
-    if text.len() <= at {
-        return text.len();
-    }
-    last_cut(table, text, piece_start(text, at + 1))
-}
-
-/// The first place after the piece at `start` at which a part may begin.
-fn first_cut(table: &FlatTable, text: &[u8], start: usize) -> usize
-    requires within { start < length text.now }
-    requires begins { IsPieceStart text.now start }
-    ensures within { result ≤ length text.now }
-    ensures behind { start + (decoded (drop start text.now)).size ≤ result }
-    ensures begins { IsPieceStart text.now result }
-    ensures safe { (cell : ℕ → Cell) → AreFlatKinds table.now.kinds cell → IsSafeCut cell text.now result }
-    ensures least { (cell : ℕ → Cell) (place : ℕ) → AreFlatKinds table.now.kinds cell → start < place → place < result
-        → ¬ IsSafeCut cell text.now place }
-{
+    let start = piece_start(text, at);
     let (mut last, size) = class_at(table, text, start);
     let mut place = start + size;
     while place < text.len() {
@@ -80,16 +40,14 @@ fn first_cut(table: &FlatTable, text: &[u8], start: usize) -> usize
     place
 }
 
-/// The last place up to `start`, where a piece begins, at which a part may begin.
-fn last_cut(table: &FlatTable, text: &[u8], start: usize) -> usize
-    requires within { start < length text.now }
-    requires begins { IsPieceStart text.now start }
-    ensures before { result ≤ start }
-    ensures begins { IsPieceStart text.now result }
-    ensures safe { (cell : ℕ → Cell) → AreFlatKinds table.now.kinds cell → IsSafeCut cell text.now result }
-    ensures greatest { (cell : ℕ → Cell) (place : ℕ) → AreFlatKinds table.now.kinds cell → result < place
-        → place ≤ start → ¬ IsSafeCut cell text.now place }
+/// The last byte at or before `at` at which a part of a text may begin. A place past the text counts as its end.
+pub fn cut_before(table: &FlatTable, text: &[u8], at: usize) -> usize
+    ensures { CutsBefore pieces table.now text.now at result }
 {
+    if text.len() <= at {
+        return text.len();
+    }
+    let start = piece_start(text, at + 1);
     let (mut next, _) = class_at(table, text, start);
     let mut place = start;
     while 0 < place {

@@ -2,11 +2,10 @@
 
 ghost use Rattle.std.specs.Prelude.{◌≡◌, ◌↔◌, ℕ, ◌+◌, ◌<◌, ◌≤◌, true, List, [], ◌∷◌, ◌++◌, length, slice_index_or, take};
 ghost use Rattle.lbk_rules.specs.declared.Cell.{Cell};
-ghost use Rattle.lbk_values.specs.declared.profile.Profile.{Profile};
-ghost use Rattle.lbk_rules.specs.FlatTable.{AreFlatKinds, IsFlatOf};
+ghost use Rattle.lbk_rules.specs.FlatTable.{AreFlatKinds};
 ghost use Rattle.lbk_bytes.specs.Reached.{scalars_of};
 ghost use Rattle.lbk_units.specs.Units.{pieces_of_utf16};
-ghost use Rattle.lbk_streams.specs.Cuts.{BeginsIn, IsCutAfterIn, IsCutBeforeIn, IsSafeIn, JoinsIn};
+ghost use Rattle.lbk_streams.specs.Cuts.{BeginsIn, CutsAfter, CutsBefore, IsSafeIn};
 ghost use Rattle.lbk_streams.specs.Looking.{EndsInScalar, is_pair};
 
 use crate::safe_cuts::must_end;
@@ -17,17 +16,7 @@ use lbk_units::Unit;
 /// (UAX #14, section 6.1, rules LB4 and LB5), or the end of the text. A place past the text counts as its end, and 0
 /// is its start, at which the first part begins.
 pub fn cut_utf16(table: &FlatTable, text: &[u16], at: usize) -> usize
-    ensures within { result ≤ length text.now }
-    ensures past { length text.now ≤ at → result ≡ length text.now }
-    ensures behind { at ≤ length text.now → at ≤ result }
-    ensures start { at ≡ 0 → result ≡ 0 }
-    // Whatever the table, no part begins within a surrogate pair.
-    ensures begins { BeginsIn pieces_of_utf16 text.now result }
-    ensures first { (cell : ℕ → Cell) → IsFlatOf table.now cell
-        → IsCutAfterIn pieces_of_utf16 cell text.now at result }
-    ensures joined { (cell : ℕ → Cell) (profile : Profile) → IsFlatOf table.now cell → 0 < result
-        → result < length text.now
-        → JoinsIn pieces_of_utf16 profile cell text.now result }
+    ensures { CutsAfter pieces_of_utf16 table.now text.now at result }
 {
     if text.len() <= at {
         return text.len();
@@ -45,15 +34,7 @@ pub fn cut_utf16(table: &FlatTable, text: &[u16], at: usize) -> usize
 /// The last unit at or before `at` at which a part of a text in UTF-16 may begin. A place past the text counts as its
 /// end.
 pub fn cut_before_utf16(table: &FlatTable, text: &[u16], at: usize) -> usize
-    ensures within { result ≤ length text.now }
-    ensures past { length text.now ≤ at → result ≡ length text.now }
-    ensures before { result ≤ at }
-    ensures begins { BeginsIn pieces_of_utf16 text.now result }
-    ensures last { (cell : ℕ → Cell) → IsFlatOf table.now cell
-        → IsCutBeforeIn pieces_of_utf16 cell text.now at result }
-    ensures joined { (cell : ℕ → Cell) (profile : Profile) → IsFlatOf table.now cell → 0 < result
-        → result < length text.now
-        → JoinsIn pieces_of_utf16 profile cell text.now result }
+    ensures { CutsBefore pieces_of_utf16 table.now text.now at result }
 {
     if text.len() <= at {
         return text.len();

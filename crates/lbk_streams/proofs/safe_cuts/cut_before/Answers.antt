@@ -1,29 +1,72 @@
-use Rattle.std.proofs.Common.{⊎_elim, arith}
+use Rattle.std.proofs.Common.{◌≡◌, ◌-◌, ℕ, length, refl, subst, sym, ◌∙◌, inl, inr, ⊎_elim, arith}
 use Rattle.std.proofs.lemmas.Bool.{cases_lt}
-use Rattle.lbk_streams.proofs.PieceStartLemmas.{starts_last}
-use Rattle.lbk_streams.proofs.SafeLemmas.{joins-safe, unsafe-within}
+use Rattle.bstr.specs.Utf8.{pieces}
+use Rattle.lbk_streams.specs.Cuts.{IsSafeCut}
+use Rattle.lbk_streams.proofs.PieceStartLemmas.{starts_first, starts_last}
+use Rattle.lbk_streams.proofs.SafeLemmas.{cuts-before, joins-safe, safe, unsafe-between, unsafe-within}
 use Rattle.lbk_streams.proofs.safe_cuts.cut_before.Goals as goal
 
-pub returns-clause-last : goal.returns-clause-last
-returns-clause-last c = λ cell flat.
+pub returns-then-text-at : goal.returns-then-text-at
+returns-then-text-at c =
     let text = c.args.text.now in
-    let start = c.piece_start.result in
-    let up = c.piece_start.ensures.before in
-    let holds = c.piece_start.ensures.holds in
-    let few = c.last_cut.ensures.before in
-    let inside = c.if-text-at.false in
+    cuts-before pieces c.args.table.now text c.args.at (length text) (λ profile cell. joins-safe profile cell text (length text)) (starts_last text)
+    (λ cell are_kinds. inr (inl refl)) (omega arith) (λ _. refl) (λ cell place are_kinds later up within. absurd (omega arith))
+
+pub loop-place-init : goal.loop-place-init
+loop-place-init c =
+    let text = c.args.text.now in
+    let start = c.piece_start-start.result in
+    let found = c.piece_start-start.ensures in
     record {
-      before = omega arith;
-      safe = c.last_cut.ensures.safe cell flat.kinds;
-      greatest = λ place later last within.
-          ⊎_elim (λ behind. unsafe-within cell text start place behind (omega arith) (omega arith) c.piece_start.ensures.begins)
-          (λ not_behind. c.last_cut.ensures.greatest cell place flat.kinds later not_behind)
-          (cases_lt start place);
+      within = omega (arith, found.before);
+      begins = found.begins;
+      next = c.class_at-next.ensures.class;
+      none = λ cell place are_kinds later up. unsafe-within cell text start place later (omega arith) (omega (arith, found.holds)) found.begins;
     }
 
-pub returns-clause-joined : goal.returns-clause-joined
-returns-clause-joined c = λ cell profile flat some inside.
-    joins-safe profile cell c.args.text.now c.last_cut.result some inside (c.last_cut.ensures.safe cell flat.kinds)
+pub returns-then-must_end : goal.returns-then-must_end
+returns-then-must_end c =
+    let text = c.args.text.now in
+    let l = c.loop-place in
+    cuts-before pieces c.args.table.now text c.args.at l.place (λ profile cell. joins-safe profile cell text l.place) l.invariant.begins
+    (λ cell are_kinds.
+    safe cell text l.place c.class_before-last.result.0 l.next (omega (arith, l.invariant.within)) l.invariant.begins
+    (c.class_before-last.ensures.last cell are_kinds) (l.invariant.next cell are_kinds) (sym c.must_end.ensures ∙ c.if-must_end.true))
+    (omega (arith, l.invariant.within)) (λ past. absurd (omega arith))
+    (λ cell place are_kinds later up within. l.invariant.none cell place are_kinds later up)
 
-pub returns-then-text-at-clause-begins : goal.returns-then-text-at-clause-begins
-returns-then-text-at-clause-begins c = starts_last c.args.text.now
+pub loop-place-preserved : goal.loop-place-preserved
+loop-place-preserved c =
+    let text = c.args.text.now in
+    let l = c.loop-place in
+    let at = l.place in
+    let found = c.class_before-last.ensures in
+    let start = at - c.class_before-last.result.1 in
+    let size = found.size in
+    let fits = found.fits in
+    let some = found.some in
+    let few = l.invariant.within in
+    record {
+      within = omega arith;
+      begins = found.begins;
+      next = found.first;
+      none = λ cell place are_kinds later before.
+          ⊎_elim (λ behind. l.invariant.none cell place are_kinds behind before)
+          (λ not_behind. ⊎_elim
+          (λ earlier. unsafe-within cell text start place later (omega arith) (omega arith) found.begins)
+          (λ not_earlier.
+          let is : place ≡ at = omega arith in
+          subst (λ (n : ℕ). ¬ (IsSafeCut cell text n)) (sym is)
+          (unsafe-between cell text at c.class_before-last.result.0 l.next c.loop-place-test.true (omega arith) (found.last cell are_kinds) (l.invariant.next cell are_kinds)
+          (sym c.must_end.ensures ∙ c.if-must_end.false)))
+          (cases_lt place at))
+          (cases_lt at place);
+    }
+
+pub returns : goal.returns
+returns c =
+    let text = c.args.text.now in
+    let l = c.loop-place in
+    cuts-before pieces c.args.table.now text c.args.at 0 (λ profile cell. joins-safe profile cell text 0) (starts_first text)
+    (λ cell are_kinds. inl refl) (omega arith) (λ past. absurd (omega arith))
+    (λ cell place are_kinds later up within. l.invariant.none cell place are_kinds (omega arith) up)

@@ -1,12 +1,16 @@
-use Rattle.std.proofs.Common.{◌≡◌, subst, sym, ◌∙◌, inl, ⊎_elim, arith}
+use Rattle.std.proofs.Common.{◌≡◌, length, refl, subst, sym, ◌∙◌, inr, inl, ⊎_elim, arith}
 use Rattle.std.proofs.lemmas.Bool.{cases_lt, false≢true}
 use Rattle.lbk_units.specs.Units.{pieces_of_utf16}
 use Rattle.lbk_streams.specs.Cuts.{IsSafeIn}
 use Rattle.lbk_streams.proofs.PairLemmas.{begins-apart, begins-last, joins-pair}
+use Rattle.lbk_streams.proofs.SafeLemmas.{cuts-before}
 use Rattle.lbk_streams.proofs.utf16_cuts.cut_before_utf16.Goals as goal
 
-pub returns-then-text-at-clause-begins : goal.returns-then-text-at-clause-begins
-returns-then-text-at-clause-begins c = begins-last c.args.text.now
+pub returns-then-text-at : goal.returns-then-text-at
+returns-then-text-at c =
+    let text = c.args.text.now in
+    cuts-before pieces_of_utf16 c.args.table.now text c.args.at (length text) (λ profile cell. joins-pair profile cell text (length text) (λ k. (c.type_inv.text k).fits)) (begins-last text)
+    (λ cell are_kinds. inr (inl refl)) (omega arith) (λ _. refl) (λ cell place are_kinds later up within. absurd (omega arith))
 
 pub loop-place-preserved : goal.loop-place-preserved
 loop-place-preserved c =
@@ -22,30 +26,18 @@ loop-place-preserved c =
           (cases_lt l.place place);
     }
 
-pub returns-then-may_begin-clause-begins : goal.returns-then-may_begin-clause-begins
-returns-then-may_begin-clause-begins c = c.may_begin.ensures.begins c.if-may_begin.true
-
-pub returns-then-may_begin-clause-last : goal.returns-then-may_begin-clause-last
-returns-then-may_begin-clause-last c = λ cell flat.
+pub returns-then-may_begin : goal.returns-then-may_begin
+returns-then-may_begin c =
+    let text = c.args.text.now in
     let l = c.loop-place in
-    record {
-      before = omega (arith, l.invariant.before);
-      safe = (c.may_begin.ensures.safe cell flat.kinds).0 c.if-may_begin.true;
-      greatest = λ place later from within. l.invariant.none cell place flat.kinds later from;
-    }
+    cuts-before pieces_of_utf16 c.args.table.now text c.args.at l.place (λ profile cell. joins-pair profile cell text l.place (λ k. (c.type_inv.text k).fits))
+    (c.may_begin.ensures.begins c.if-may_begin.true) (λ cell are_kinds. (c.may_begin.ensures.safe cell are_kinds).0 c.if-may_begin.true)
+    (omega (arith, l.invariant.before)) (λ past. absurd (omega arith)) (λ cell place are_kinds later up within. l.invariant.none cell place are_kinds later up)
 
-pub returns-then-may_begin-clause-joined : goal.returns-then-may_begin-clause-joined
-returns-then-may_begin-clause-joined c = λ cell profile flat some inside.
-    joins-pair profile cell c.args.text.now c.loop-place.place (λ k. (c.type_inv.text k).fits) some inside ((c.may_begin.ensures.safe cell flat.kinds).0 c.if-may_begin.true)
-
-pub returns-clause-begins : goal.returns-clause-begins
-returns-clause-begins c = begins-apart c.args.text.now 0 (λ some. absurd (omega arith))
-
-pub returns-clause-last : goal.returns-clause-last
-returns-clause-last c = λ cell flat.
+pub returns : goal.returns
+returns c =
+    let text = c.args.text.now in
     let l = c.loop-place in
-    record {
-      before = omega arith;
-      safe = inl (omega arith);
-      greatest = λ place later from within. l.invariant.none cell place flat.kinds (omega arith) from;
-    }
+    cuts-before pieces_of_utf16 c.args.table.now text c.args.at 0 (λ profile cell. joins-pair profile cell text 0 (λ k. (c.type_inv.text k).fits))
+    (begins-apart text 0 (λ some. absurd (omega arith))) (λ cell are_kinds. inl refl)
+    (omega arith) (λ past. absurd (omega arith)) (λ cell place are_kinds later up within. l.invariant.none cell place are_kinds (omega arith) up)

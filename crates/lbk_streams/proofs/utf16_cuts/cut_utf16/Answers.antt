@@ -1,12 +1,16 @@
-use Rattle.std.proofs.Common.{◌≡◌, length, subst, sym, ◌∙◌, inl, inr, ⊎_elim, arith}
+use Rattle.std.proofs.Common.{◌≡◌, length, refl, subst, sym, ◌∙◌, inr, inl, ⊎_elim, arith}
 use Rattle.std.proofs.lemmas.Bool.{cases_lt, false≢true}
 use Rattle.lbk_units.specs.Units.{pieces_of_utf16}
 use Rattle.lbk_streams.specs.Cuts.{BeginsIn, IsSafeIn}
 use Rattle.lbk_streams.proofs.PairLemmas.{begins-last, joins-pair}
+use Rattle.lbk_streams.proofs.SafeLemmas.{cuts-after}
 use Rattle.lbk_streams.proofs.utf16_cuts.cut_utf16.Goals as goal
 
-pub returns-then-text-at-clause-begins : goal.returns-then-text-at-clause-begins
-returns-then-text-at-clause-begins c = begins-last c.args.text.now
+pub returns-then-text-at : goal.returns-then-text-at
+returns-then-text-at c =
+    let text = c.args.text.now in
+    cuts-after pieces_of_utf16 c.args.table.now text c.args.at (length text) (λ profile cell. joins-pair profile cell text (length text) (λ k. (c.type_inv.text k).fits)) (begins-last text)
+    (λ cell are_kinds. inr (inl refl)) (omega arith) (omega arith) (λ first. omega arith) (λ cell place are_kinds from less. absurd (omega arith))
 
 pub loop-place-preserved : goal.loop-place-preserved
 loop-place-preserved c =
@@ -24,34 +28,19 @@ loop-place-preserved c =
           (cases_lt place l.place);
     }
 
-pub returns-then-may_begin-clause-begins : goal.returns-then-may_begin-clause-begins
-returns-then-may_begin-clause-begins c = c.may_begin.ensures.begins c.if-may_begin.true
-
-pub returns-then-may_begin-clause-first : goal.returns-then-may_begin-clause-first
-returns-then-may_begin-clause-first c = λ cell flat.
+pub returns-then-may_begin : goal.returns-then-may_begin
+returns-then-may_begin c =
+    let text = c.args.text.now in
     let l = c.loop-place in
-    record {
-      within = l.invariant.within;
-      behind = omega (arith, l.invariant.behind);
-      safe = (c.may_begin.ensures.safe cell flat.kinds).0 c.if-may_begin.true;
-      least = λ place from less. l.invariant.none cell place flat.kinds from less;
-    }
+    cuts-after pieces_of_utf16 c.args.table.now text c.args.at l.place (λ profile cell. joins-pair profile cell text l.place (λ k. (c.type_inv.text k).fits))
+    (c.may_begin.ensures.begins c.if-may_begin.true) (λ cell are_kinds. (c.may_begin.ensures.safe cell are_kinds).0 c.if-may_begin.true)
+    l.invariant.within (omega (arith, l.invariant.behind)) l.invariant.start l.invariant.none
 
-pub returns-then-may_begin-clause-joined : goal.returns-then-may_begin-clause-joined
-returns-then-may_begin-clause-joined c = λ cell profile flat some inside.
-    joins-pair profile cell c.args.text.now c.loop-place.place (λ k. (c.type_inv.text k).fits) some inside ((c.may_begin.ensures.safe cell flat.kinds).0 c.if-may_begin.true)
-
-pub returns-clause-begins : goal.returns-clause-begins
-returns-clause-begins c =
-    let ends : length c.args.text.now ≡ c.loop-place.place = omega arith in
-    subst (BeginsIn pieces_of_utf16 c.args.text.now) ends (begins-last c.args.text.now)
-
-pub returns-clause-first : goal.returns-clause-first
-returns-clause-first c = λ cell flat.
+pub returns : goal.returns
+returns c =
+    let text = c.args.text.now in
     let l = c.loop-place in
-    record {
-      within = l.invariant.within;
-      behind = omega (arith, l.invariant.behind);
-      safe = inr (inl (omega arith));
-      least = λ place from less. l.invariant.none cell place flat.kinds from less;
-    }
+    let ends : length text ≡ l.place = omega (arith, l.invariant.within) in
+    cuts-after pieces_of_utf16 c.args.table.now text c.args.at l.place (λ profile cell. joins-pair profile cell text l.place (λ k. (c.type_inv.text k).fits))
+    (subst (BeginsIn pieces_of_utf16 text) ends (begins-last text)) (λ cell are_kinds. inr (inl (sym ends)))
+    l.invariant.within (omega (arith, l.invariant.behind)) l.invariant.start l.invariant.none

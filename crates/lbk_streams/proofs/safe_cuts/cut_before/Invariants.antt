@@ -3,15 +3,15 @@ use Rattle.lbk_rules.specs.declared.Cell.{Cell}
 use Rattle.lbk_rules.specs.FlatTable.{AreFlatKinds}
 use Rattle.lbk_streams.specs.Cuts.{IsPieceStart, IsSafeCut}
 use Rattle.lbk_streams.specs.Looking.{NextIs}
-use Rattle.lbk_streams.proofs.safe_cuts.last_cut.Given as goal
+use Rattle.lbk_streams.proofs.safe_cuts.cut_before.Given as goal
 
--- from here on up to the start no part may begin
+-- behind this place, and up to the one from which it is looked for, no part may begin
 abbrev pub invariant-loop-place : goal.invariant-loop-place
 invariant-loop-place l = record {
-  within : l.place ≤ l.fn.start;
+  within : l.place ≤ l.fn.at;
   begins : IsPieceStart l.text l.place;
   next : (cell : ℕ → Cell) → AreFlatKinds l.table.kinds cell → NextIs cell l.text l.place l.next;
-  none : (cell : ℕ → Cell) (place : ℕ) → AreFlatKinds l.table.kinds cell → l.place < place → place ≤ l.fn.start → ¬ (IsSafeCut cell l.text place);
+  none : (cell : ℕ → Cell) (place : ℕ) → AreFlatKinds l.table.kinds cell → l.place < place → place ≤ l.fn.at → ¬ (IsSafeCut cell l.text place);
 }
 
 abbrev pub decreases-loop-place : goal.decreases-loop-place
