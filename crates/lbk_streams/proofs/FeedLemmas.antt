@@ -12,7 +12,7 @@ use Rattle.lbk_units.specs.declared.unit.UnitScalar.{UnitScalar}
 use Rattle.lbk_units.specs.Front.{IsFront}
 use Rattle.lbk_streams.specs.declared.stream.Cut.{Cut}
 use Rattle.lbk_streams.specs.declared.stream.Feeding.{Feeding}
-use Rattle.lbk_streams.specs.declared.stream.Place.{Place}
+use Rattle.lbk_streams.specs.declared.stream.StreamPosition.{StreamPosition}
 use Rattle.lbk_bytes.specs.Shown.{given_in, shown}
 use Rattle.lbk_streams.specs.Stands.{Ahead, Feeds, Stands, front_of, listed}
 
@@ -30,11 +30,11 @@ pub none-cut : {A : Type 0} (cut : Cut A) (rest : List A) → cut.size ≡ 0 →
 none-cut cut rest zero = ap (λ n. take n (listed cut.units) ++ rest) zero
 
 -- what a scalar at the front of some units leaves
-pub record IsTaken {A : Type 0} (pieces_of : List A → List Decoded) (units : List A) (found : UnitScalar) (place next : Place) (passed : Bool) (profile : Profile) (cell : ℕ → Cell) (all : Ahead) (after : List Break) : Type 0 where
+pub record IsTaken {A : Type 0} (pieces_of : List A → List Decoded) (units : List A) (found : UnitScalar) (place next : StreamPosition) (passed : Bool) (profile : Profile) (cell : ℕ → Cell) (all : Ahead) (after : List Break) : Type 0 where
   pub passes : passed ≡ true → (next.at ≡ (place.at + found.size) % 2 ^ 64) × Stands profile cell next (pieces_of (drop found.size units)) all after
   pub stays : passed ≡ false → (next.at ≡ place.at) × Stands profile cell next (pieces_of units) all after
 
-pub is-taken : {A : Type 0} (pieces_of : List A → List Decoded) (units : List A) (found : UnitScalar) (place next : Place) (passed : Bool) (profile : Profile) (cell : ℕ → Cell) (all : Ahead) (given after : List Break)
+pub is-taken : {A : Type 0} (pieces_of : List A → List Decoded) (units : List A) (found : UnitScalar) (place next : StreamPosition) (passed : Bool) (profile : Profile) (cell : ℕ → Cell) (all : Ahead) (given after : List Break)
     → IsFront pieces_of units found → place.at + length units < 2 ^ 64
     → next.at ≡ cond passed ((place.at + found.size) % 2 ^ 64) place.at
     → ((p : Decoded) (ps : List Decoded) → found.scalar ≡ or_replacement p.char → found.size ≡ p.size → 0 < found.size → place.at + found.size < 2 ^ 64
@@ -59,7 +59,7 @@ is-taken pieces_of units found place next passed profile cell all given after fr
 
 module _ {A : Type 0} (pieces_of : List A → List Decoded) (profile : Profile) (cell : ℕ → Cell) (base : ℕ) (piece more : List A) where
   -- the scalar in front of the units that were cut is taken
-  pub Feeds-cut : (here : Feeding A) (place : Place) (cut : Cut A) (count : ℕ) (found : UnitScalar) (all : Ahead) (given after : List Break)
+  pub Feeds-cut : (here : Feeding A) (place : StreamPosition) (cut : Cut A) (count : ℕ) (found : UnitScalar) (all : Ahead) (given after : List Break)
       → found.size ≤ length (front_of here.cut) → front_of cut ≡ drop found.size (front_of here.cut) → cut.size + found.size ≡ here.cut.size
       → (place.at ≡ (here.place.at + found.size) % 2 ^ 64)
       × Stands profile cell place (pieces_of (drop found.size (front_of here.cut ++ (drop here.taken piece ++ more)))) all after
@@ -82,7 +82,7 @@ module _ {A : Type 0} (pieces_of : List A → List Decoded) (profile : Profile) 
       }
 
   -- it is not, as the block is full
-  pub Feeds-stay : (here : Feeding A) (place : Place) (count : ℕ) (all : Ahead) (given after : List Break)
+  pub Feeds-stay : (here : Feeding A) (place : StreamPosition) (count : ℕ) (all : Ahead) (given after : List Break)
       → (place.at ≡ here.place.at) × Stands profile cell place (pieces_of (front_of here.cut ++ (drop here.taken piece ++ more))) all after
       → Feeds pieces_of profile cell base piece more here all given
       → Feeds pieces_of profile cell base piece more (record { place = place; cut = here.cut; taken = here.taken; count = count }) all after
@@ -109,7 +109,7 @@ module _ {A : Type 0} (pieces_of : List A → List Decoded) (profile : Profile) 
       }
 
   -- a scalar of the piece is taken
-  pub Feeds-run : (here : Feeding A) (place : Place) (count : ℕ) (found : UnitScalar) (all : Ahead) (given after : List Break)
+  pub Feeds-run : (here : Feeding A) (place : StreamPosition) (count : ℕ) (found : UnitScalar) (all : Ahead) (given after : List Break)
       → here.cut.size ≡ 0 → here.taken + found.size ≤ length piece
       → (place.at ≡ (here.place.at + found.size) % 2 ^ 64) × Stands profile cell place (pieces_of (drop found.size (drop here.taken piece ++ more))) all after
       → Feeds pieces_of profile cell base piece more here all given
@@ -135,7 +135,7 @@ module _ {A : Type 0} (pieces_of : List A → List Decoded) (profile : Profile) 
       }
 
   -- it is not, as the block is full, and is kept
-  pub Feeds-kept : (here : Feeding A) (place : Place) (cut : Cut A) (count size : ℕ) (all : Ahead) (given after : List Break)
+  pub Feeds-kept : (here : Feeding A) (place : StreamPosition) (cut : Cut A) (count size : ℕ) (all : Ahead) (given after : List Break)
       → here.cut.size ≡ 0 → here.taken + size ≤ length piece → front_of cut ≡ take size (drop here.taken piece) → cut.size ≡ size
       → (place.at ≡ here.place.at) × Stands profile cell place (pieces_of (drop here.taken piece ++ more)) all after
       → Feeds pieces_of profile cell base piece more here all given

@@ -10,7 +10,7 @@ use Rattle.lbk_bytes.specs.Reached.{IsInOrder}
 use Rattle.lbk_bytes.specs.Shown.{given_in, shown}
 use Rattle.lbk_bytes.proofs.OrderLemmas.{AreInOrder-none, AreInOrder-wider}
 use Rattle.lbk_streams.specs.declared.stream.Feeding.{Feeding}
-use Rattle.lbk_streams.specs.declared.stream.Place.{Place}
+use Rattle.lbk_streams.specs.declared.stream.StreamPosition.{StreamPosition}
 use Rattle.lbk_streams.specs.declared.stream.Stream.{Stream}
 use Rattle.lbk_rules.specs.Joins.{moved}
 use Rattle.lbk_streams.specs.Stands.{IsOrdered, IsPlaced}
@@ -19,28 +19,28 @@ use Rattle.lbk_streams.proofs.BreakLemmas.{AreBreaks-behind}
 
 -- The place that comes next
 
-pub next-free : (place : Place) → place.held_code ≡ 0 → next_place place ≡ place.at
+pub next-free : (place : StreamPosition) → place.held_code ≡ 0 → next_place place ≡ place.at
 next-free place free = ap (λ n. cond (n == 0) place.at place.held_at) free
 
-pub next-held : (place : Place) → 0 < place.held_code → next_place place ≡ place.held_at
+pub next-held : (place : StreamPosition) → 0 < place.held_code → next_place place ≡ place.held_at
 next-held place held =
     let waits : (place.held_code == 0) ≡ false = grind (arith, nat_tests) in
     ap (λ b. cond b place.at place.held_at) waits
 
-pub next-within : (place : Place) → (0 < place.held_code → place.held_at < place.at) → next_place place ≤ place.at
+pub next-within : (place : StreamPosition) → (0 < place.held_code → place.held_at < place.at) → next_place place ≤ place.at
 next-within place waits =
     ⊎_elim (λ (held : 0 < place.held_code). omega (arith, next-held place held, waits held))
     (λ (free : place.held_code ≤ 0). omega (arith, next-free place (omega arith)))
     (cases_lt 0 place.held_code)
 
 -- none comes before the place where a stream stands, if none waits
-pub IsInOrder-at : (block : List RawBreak) (count from : ℕ) (place : Place) → IsPlaced block count from place → IsInOrder block count from place.at
+pub IsInOrder-at : (block : List RawBreak) (count from : ℕ) (place : StreamPosition) → IsPlaced block count from place → IsInOrder block count from place.at
 IsInOrder-at block count from place p =
     let within = next-within place p.waits in
     (omega (arith, p.order.0, within), AreInOrder-wider block count from (next_place place) place.at within p.order.1)
 
 -- where none waits, what is in order up to a place is so up to the next
-pub IsPlaced-free : (block : List RawBreak) (count from at : ℕ) (place : Place) → place.held_code ≡ 0 → at ≤ place.at → IsInOrder block count from at → IsPlaced block count from place
+pub IsPlaced-free : (block : List RawBreak) (count from at : ℕ) (place : StreamPosition) → place.held_code ≡ 0 → at ≤ place.at → IsInOrder block count from at → IsPlaced block count from place
 IsPlaced-free block count from at place free on order =
     let next = next-free place free in
     record {
@@ -49,7 +49,7 @@ IsPlaced-free block count from at place free on order =
     }
 
 -- and where one waits at that place or behind it
-pub IsPlaced-held : (block : List RawBreak) (count from : ℕ) (place : Place) → place.held_at < place.at → IsInOrder block count from place.held_at → IsPlaced block count from place
+pub IsPlaced-held : (block : List RawBreak) (count from : ℕ) (place : StreamPosition) → place.held_at < place.at → IsInOrder block count from place.held_at → IsPlaced block count from place
 IsPlaced-held block count from place before order =
     ⊎_elim (λ (held : 0 < place.held_code).
     (let next = next-held place held in
@@ -146,9 +146,9 @@ pub IsOrdered-start : {A : Type 0} (block : List RawBreak) (carried : List ℕ �
     → IsOrdered block (stream.at + length (cut_units carried stream)) (next_place (place_of stream)) start
 IsOrdered-start block carried stream start stands cut fresh none waits =
     let from = next_place (place_of stream) in
-    let at = ap (λ (p : Place). p.at) stands in
+    let at = ap (λ (p : StreamPosition). p.at) stands in
     let placed : IsPlaced block 0 from (place_of stream) = record { waits = waits; order = (omega arith, AreInOrder-none block from from) } in
     record {
       seen = omega (arith, at, cut, fresh);
-      placed = subst (λ n. IsPlaced block n from start.place) (sym none) (subst (λ (p : Place). IsPlaced block 0 from p) (sym stands) placed);
+      placed = subst (λ n. IsPlaced block n from start.place) (sym none) (subst (λ (p : StreamPosition). IsPlaced block 0 from p) (sym stands) placed);
     }

@@ -9,7 +9,7 @@ use Rattle.lbk_rules.specs.FlatTable.{KnowsTaken}
 use Rattle.lbk_rules.specs.Joins.{moved}
 use Rattle.lbk_bytes.specs.declared.fill_state.FillState.{FillState}
 use Rattle.lbk_streams.specs.declared.stream.Feeding.{Feeding}
-use Rattle.lbk_streams.specs.declared.stream.Place.{Place}
+use Rattle.lbk_streams.specs.declared.stream.StreamPosition.{StreamPosition}
 use Rattle.lbk_units.specs.Reached.{UnitsReachedBy, on_from}
 use Rattle.lbk_bytes.proofs.PartLemmas.{onward-moved}
 use Rattle.lbk_streams.specs.Stands.{Ahead, Feeds, Stands, front_of, onward_of}
@@ -19,7 +19,7 @@ use Rattle.lbk_streams.proofs.StandsLemmas.{late-none}
 
 module _ {A : Type 0} (pieces_of : List A → List Decoded) (profile : Profile) (cell : ℕ → Cell) where
   -- a run over a piece is one over the stream
-  pub Stands-skim : (piece more : List A) (all : Ahead) (given front : List Break) (place next : Place) (from : ℕ) (end : FillState)
+  pub Stands-skim : (piece more : List A) (all : Ahead) (given front : List Break) (place next : StreamPosition) (from : ℕ) (end : FillState)
       → from ≤ end.at → end.at ≤ length piece → place.held_code ≡ 0 → from ≤ place.at
       → next.at ≡ place.at + (end.at - from) → next.row ≡ end.row → next.held_code ≡ 0
       → ((breaks : List Break) → UnitsReachedBy (onward_of all) profile cell (on_from pieces_of (piece ++ more)) breaks (record { count = 0; row = place.row; at = from }) []
@@ -62,7 +62,7 @@ module _ {A : Type 0} (pieces_of : List A → List Decoded) (profile : Profile) 
       }
 
   -- the breaks of a call, and those before it
-  Stands-behind : (place next : Place) (ps rest : List Decoded) (all : Ahead) (given front after : List Break)
+  Stands-behind : (place next : StreamPosition) (ps rest : List Decoded) (all : Ahead) (given front after : List Break)
       → ((all : Ahead) → Stands profile cell place ps all [] → Stands profile cell next rest all front)
       → after ≡ given ++ front
       → Stands profile cell place ps all given → Stands profile cell next rest all after
@@ -80,7 +80,7 @@ module _ {A : Type 0} (pieces_of : List A → List Decoded) (profile : Profile) 
       }
 
   -- a run over a piece, in the place behind the breaks that were given
-  pub Feeds-skim : (base : ℕ) (piece more : List A) (here : Feeding A) (next : Place) (end : FillState) (count : ℕ)
+  pub Feeds-skim : (base : ℕ) (piece more : List A) (here : Feeding A) (next : StreamPosition) (end : FillState) (count : ℕ)
       (all : Ahead) (given front after : List Break)
       → here.cut.size ≡ 0 → here.taken ≤ end.at → end.at ≤ length piece → next.at ≡ (here.place.at + (end.at - here.taken)) % 2 ^ 64
       → ((all : Ahead) → next.at ≡ here.place.at + (end.at - here.taken) → here.taken ≤ here.place.at → here.place.at + (end.at - here.taken) < 2 ^ 64

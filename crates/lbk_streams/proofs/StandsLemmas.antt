@@ -28,7 +28,7 @@ use Rattle.lbk_rules.specs.FlatTable.{IsFlatOf, KnowsTaken}
 use Rattle.lbk_rules.specs.Kinds.{kind_cell, real_kind}
 use Rattle.lbk_rules.specs.RowMachineFits.{normals}
 use Rattle.lbk_rules.specs.Rows.{IsPlace, IsShown, step_by, steps_in, verdict_shown}
-use Rattle.lbk_streams.specs.declared.stream.Place.{Place}
+use Rattle.lbk_streams.specs.declared.stream.StreamPosition.{StreamPosition}
 use Rattle.lbk_bytes.specs.Bytes.{with_break}
 use Rattle.lbk_bytes.specs.Reached.{scalars_of}
 use Rattle.lbk_streams.specs.Stands.{Ahead, Stands, Waits, onward_of}
@@ -104,11 +104,11 @@ onward-first all profile cell taken at p ps c size is_char is_size =
 
 -- The position that waits
 
-pub late-none : (cell : ℕ → Cell) (place : Place) (ps : List Decoded) → place.held_code ≡ 0 → late_break cell place ps ≡ []
+pub late-none : (cell : ℕ → Cell) (place : StreamPosition) (ps : List Decoded) → place.held_code ≡ 0 → late_break cell place ps ≡ []
 late-none cell place ps zero =
     ap (λ n. cond (n == 0 || leaves_closed (units_after false (cells_of cell ps))) [] (with_break place.held_at (verdict_shown n) [])) zero
 
-late-some : (cell : ℕ → Cell) (place : Place) (ps : List Decoded) (closes : Bool) → (place.held_code == 0) ≡ false
+late-some : (cell : ℕ → Cell) (place : StreamPosition) (ps : List Decoded) (closes : Bool) → (place.held_code == 0) ≡ false
     → leaves_closed (units_after false (cells_of cell ps)) ≡ closes
     → late_break cell place ps ≡ cond closes [] (with_break place.held_at (verdict_shown place.held_code) [])
 late-some cell place ps closes held is =
@@ -116,7 +116,7 @@ late-some cell place ps closes held is =
     ap (λ b. cond (b || leaves_closed (units_after false (cells_of cell ps))) [] late) held ∙ ap (λ b. cond b [] late) is
 
 -- the next scalar decides it
-pub Stands-settle : (profile : Profile) (cell : ℕ → Cell) (place : Place) (p : Decoded) (ps : List Decoded) (all : Ahead) (given after : List Break)
+pub Stands-settle : (profile : Profile) (cell : ℕ → Cell) (place : StreamPosition) (p : Decoded) (ps : List Decoded) (all : Ahead) (given after : List Break)
     (c : ℕ) (closes : Bool)
     → c ≡ or_replacement p.char → (place.held_code == 0) ≡ false
     → told_by false (normal (cell c)) ≡ Some closes
@@ -142,7 +142,7 @@ Stands-settle profile cell place p ps all given after c closes is_char held told
     }
 
 -- a mark that joins leaves it waiting
-pub Stands-join : (profile : Profile) (cell : ℕ → Cell) (place next : Place) (p : Decoded) (ps : List Decoded) (all : Ahead) (given : List Break)
+pub Stands-join : (profile : Profile) (cell : ℕ → Cell) (place next : StreamPosition) (p : Decoded) (ps : List Decoded) (all : Ahead) (given : List Break)
     (c size : ℕ)
     → c ≡ or_replacement p.char → size ≡ p.size → place.at + size < 2 ^ 64
     → 0 < place.held_code → mark (normal (cell c)).class ≡ true
@@ -196,7 +196,7 @@ same-test : (a b : ℕ) → a ≡ b → (a == b) ≡ true
 same-test a b same = grind (arith, nat_tests)
 
 -- a scalar is taken where none waits: of its position this comes now, and this waits
-pub Stands-on : (profile : Profile) (cell : ℕ → Cell) (place next : Place) (p : Decoded) (ps : List Decoded) (all : Ahead) (given front after : List Break)
+pub Stands-on : (profile : Profile) (cell : ℕ → Cell) (place next : StreamPosition) (p : Decoded) (ps : List Decoded) (all : Ahead) (given front after : List Break)
     (c size : ℕ)
     → c ≡ or_replacement p.char → size ≡ p.size → 0 < size → place.at + size < 2 ^ 64
     → place.held_code ≡ 0 → next.at ≡ (place.at + size) % 2 ^ 64
@@ -292,7 +292,7 @@ decides-now Second cell table taken at row c one other right flat known scalar i
     ]) refl
 
 -- what waits where rule 15b decides
-pub decides-late : (cell : ℕ → Cell) (table : FlatTable) (taken : List ℕ) (place next : Place) (ps : List Decoded) (c : ℕ) (one other : Step)
+pub decides-late : (cell : ℕ → Cell) (table : FlatTable) (taken : List ℕ) (place next : StreamPosition) (ps : List Decoded) (c : ℕ) (one other : Step)
     → IsFlatOf table cell → KnowsTaken cell place.row taken → IsScalar c
     → (IsPlace place.row → one ≡ step_by (steps_in First) place.row (get_or table.kinds c 0))
     → (IsPlace place.row → other ≡ step_by (steps_in Second) place.row (get_or table.kinds c 0))
@@ -320,7 +320,7 @@ decides-late cell table taken place next ps c one other flat known scalar is_one
     ]) refl
 
 -- that it waits
-pub waits-now : (cell : ℕ → Cell) (table : FlatTable) (taken : List ℕ) (place next : Place) (c : ℕ) (one other : Step)
+pub waits-now : (cell : ℕ → Cell) (table : FlatTable) (taken : List ℕ) (place next : StreamPosition) (c : ℕ) (one other : Step)
     → IsFlatOf table cell → KnowsTaken cell place.row taken → IsScalar c
     → (IsPlace place.row → one ≡ step_by (steps_in First) place.row (get_or table.kinds c 0))
     → (IsPlace place.row → other ≡ step_by (steps_in Second) place.row (get_or table.kinds c 0))

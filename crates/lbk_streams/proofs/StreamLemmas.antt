@@ -19,7 +19,7 @@ use Rattle.lbk_rules.specs.FlatTable.{IsFlatOf, KnowsTaken}
 use Rattle.lbk_rules.specs.Rows.{verdict_shown}
 use Rattle.lbk_rules.proofs.FlatLemmas.{left-start}
 use Rattle.lbk_streams.specs.declared.stream.Feeding.{Feeding}
-use Rattle.lbk_streams.specs.declared.stream.Place.{Place}
+use Rattle.lbk_streams.specs.declared.stream.StreamPosition.{StreamPosition}
 use Rattle.lbk_streams.specs.declared.stream.Stream.{Stream}
 use Rattle.lbk_bytes.specs.Bytes.{end_in, with_break}
 use Rattle.lbk_bytes.specs.Reached.{onward_to, scalars_of}
@@ -71,7 +71,7 @@ Streams-part pieces_of carried cell table part profile at text stream to_come fl
     }
 
 -- of the breaks to come these were given, and the others come
-pub Stands-rest : (profile : Profile) (cell : ℕ → Cell) (place : Place) (ps : List Decoded) (all : Ahead) (given : List Break) (count : ℕ)
+pub Stands-rest : (profile : Profile) (cell : ℕ → Cell) (place : StreamPosition) (ps : List Decoded) (all : Ahead) (given : List Break) (count : ℕ)
     → length given ≡ count → Stands profile cell place ps all given
     → (given ≡ take count all.breaks) × Stands profile cell place ps (record { breaks = drop count all.breaks; goes_on = all.goes_on }) []
 Stands-rest profile cell place ps all given count many s =
@@ -111,11 +111,11 @@ onward-onward all profile cell taken least at (p ∷ ps) high =
     (onward-onward all profile cell (taken ++ or_replacement p.char ∷ []) least (at + p.size) ps (omega arith))
 
 -- at the end a quotation is closed
-late-end : (cell : ℕ → Cell) (place : Place) → late_break cell place [] ≡ []
+late-end : (cell : ℕ → Cell) (place : StreamPosition) → late_break cell place [] ≡ []
 late-end cell place = ap (λ b. cond b [] (with_break place.held_at (verdict_shown place.held_code) [])) (or-true (place.held_code == 0))
 
 -- where nothing is left, the end comes
-pub Stands-end : (profile : Profile) (cell : ℕ → Cell) (place : Place) (ps : List Decoded) (all : Ahead) (given : List Break)
+pub Stands-end : (profile : Profile) (cell : ℕ → Cell) (place : StreamPosition) (ps : List Decoded) (all : Ahead) (given : List Break)
     → ps ≡ [] → (s : Stands profile cell place ps all given) → all.breaks ≡ given ++ end_in all.goes_on profile cell s.taken place.at
 Stands-end profile cell place ps all given none_left s =
     let at = place.at in
@@ -140,7 +140,7 @@ module _ {A : Type 0} (pieces_of : List A → List Decoded) (carried : List ℕ 
       let all = ahead old.profile to_come in
       let begins : cut_units carried old ++ (piece ++ more) ≡ front_of start.cut ++ (drop start.taken piece ++ more) =
       ap (λ l. l ++ (piece ++ more)) (sym cut_same) ∙ ap (λ n. front_of start.cut ++ (drop n piece ++ more)) (sym none) in
-      let at : start.place.at ≡ old.at = ap (λ (p : Place). p.at) place_same in
+      let at : start.place.at ≡ old.at = ap (λ (p : StreamPosition). p.at) place_same in
       record {
         stands =
             subst (λ l. Stands profile cell start.place (pieces_of l) all given) begins
@@ -170,7 +170,7 @@ module _ {A : Type 0} (pieces_of : List A → List Decoded) (carried : List ℕ 
             (subst (λ l. Stands profile cell here.place (pieces_of (l ++ units)) (ahead old.profile (drop count to_come)) []) (sym cut_same)
             (Stands-rest profile cell here.place (pieces_of (front_of here.cut ++ units)) (ahead old.profile to_come) given count many f.stands).1));
         fits = λ _. (
-            let at = ap (λ (p : Place). p.at) place_same in
+            let at = ap (λ (p : StreamPosition). p.at) place_same in
             let long = ap (λ l. length (l ++ units)) cut_same in
             let fits = f.fits in
             omega arith);
@@ -192,7 +192,7 @@ module _ {A : Type 0} (pieces_of : List A → List Decoded) (carried : List ℕ 
   Feeds-unsettled could_go_on number base new piece more to_come given here count place_same cut_same unfinished all many f =
       let units = front_of here.cut ++ (drop here.taken piece ++ more) in
       let s = (Stands-rest profile cell here.place (pieces_of units) (ahead number to_come) given count many f.stands).1 in
-      let at : new.at ≡ here.place.at = ap (λ (p : Place). p.at) place_same in
+      let at : new.at ≡ here.place.at = ap (λ (p : StreamPosition). p.at) place_same in
       let rest : drop here.taken piece ++ more ≡ more = ap (λ n. drop n piece ++ more) all ∙ ap (λ l. l ++ more) (drop-length piece) in
       let same : units ≡ cut_units carried new ++ more = ap (λ l. front_of here.cut ++ l) rest ∙ ap (λ l. l ++ more) (sym cut_same) in
       let later = onward_of (ahead number to_come) profile cell s.taken here.place.at (pieces_of units) in
@@ -204,8 +204,8 @@ module _ {A : Type 0} (pieces_of : List A → List Decoded) (carried : List ℕ 
         onward = onward-onward (ahead number to_come) profile cell s.taken new.at here.place.at (pieces_of units) (omega arith);
         joined = s.joined ∙ ap (λ p. late_break cell p (pieces_of units) ++ later) (sym place_same) ∙ ap (λ l. late_break cell (place_of new) (pieces_of l) ++ later) same;
         waits = λ held.
-            let code : new.held_code ≡ here.place.held_code = ap (λ (p : Place). p.held_code) place_same in
-            let held_same : new.held_at ≡ here.place.held_at = ap (λ (p : Place). p.held_at) place_same in
+            let code : new.held_code ≡ here.place.held_code = ap (λ (p : StreamPosition). p.held_code) place_same in
+            let held_same : new.held_at ≡ here.place.held_at = ap (λ (p : StreamPosition). p.held_at) place_same in
             let w = s.waits (omega arith) in
             (omega (arith, w.before), ap (λ n. is_no (verdict_shown n).kind) code ∙ w.breaks);
       }

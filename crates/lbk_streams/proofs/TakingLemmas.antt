@@ -6,7 +6,7 @@ use Rattle.lbk_rules.specs.declared.flat_table.FlatTable.{FlatTable}
 use Rattle.lbk_values.specs.declared.profile.Profile.{Profile}
 use Rattle.lbk_bytes.specs.declared.raw_break.RawBreak.{RawBreak}
 use Rattle.lbk_streams.specs.declared.stream.Feeding.{Feeding}
-use Rattle.lbk_streams.specs.declared.stream.Place.{Place}
+use Rattle.lbk_streams.specs.declared.stream.StreamPosition.{StreamPosition}
 use Rattle.lbk_streams.specs.declared.taking.Step.{Step}
 use Rattle.lbk_streams.specs.Taking.{Steps, Takes, TakesOf, taken_by}
 
@@ -17,7 +17,7 @@ pub takes-none : (step : Step) → step.passed ≡ false → taken_by step ≡ 0
 takes-none step stays = let of : Bool → ℕ = λ b. cond b 1 0 in ap of stays
 
 -- a step that takes nothing is one at a scalar of any size
-pub Steps-none : (size : ℕ) (old new : List RawBreak) (count : ℕ) (place : Place) (step : Step) → step.passed ≡ false
+pub Steps-none : (size : ℕ) (old new : List RawBreak) (count : ℕ) (place : StreamPosition) (step : Step) → step.passed ≡ false
     → Steps 0 old count place new step → Steps size old count place new step
 Steps-none size old new count place step none s = record {
   within = s.within;
@@ -29,7 +29,7 @@ Steps-none size old new count place step none s = record {
 }
 
 -- and another may follow it
-pub Steps-then : (size : ℕ) (old mid new : List RawBreak) (count : ℕ) (place : Place) (met step : Step)
+pub Steps-then : (size : ℕ) (old mid new : List RawBreak) (count : ℕ) (place : StreamPosition) (met step : Step)
     → length mid ≡ length old → met.passed ≡ false
     → Steps 0 old count place mid met → Steps size mid met.count met.place new step → Steps size old count place new step
 Steps-then size old mid new count place met step long none s t =

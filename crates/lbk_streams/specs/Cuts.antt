@@ -24,7 +24,8 @@ module _ (pieces_of : List ℕ → List Decoded) where
   abbrev pub EndsIn : (ℕ → Cell) → List ℕ → ℕ → Type 0
   EndsIn cell text place =
       BeginsIn text place
-      × (must_end_between cell (scalars_of (pieces_of (take place text))) (scalars_of (pieces_of (drop place text))) ≡ true)
+      × (must_end_between cell (scalars_of (pieces_of (take place text))) (scalars_of (pieces_of (drop place text)))
+      ≡ true)
 
   -- a part of the text may begin at this unit: at the start, at the end, and where a line must end before it
   abbrev pub IsSafeIn : (ℕ → Cell) → List ℕ → ℕ → Type 0
@@ -96,7 +97,8 @@ IsCutBefore = IsCutBeforeIn pieces
 abbrev pub JoinsAt : Profile → (ℕ → Cell) → List ℕ → ℕ → Type 0
 JoinsAt = JoinsIn pieces
 
--- `near`, some bytes of a text, has what is near its places from `first` to `last`: four bytes on each side, or all that are there
+-- `near`, some bytes of a text, has what is near its places from `first` to `last`: four bytes on each side, or all
+-- that are there
 pub record HasNear (before near after : List ℕ) (first last : ℕ) : Type 0 where
   pub start : (before ≡ []) ⊎ (4 ≤ first)
   pub end : (after ≡ []) ⊎ (last + 4 ≤ length near)
@@ -113,4 +115,5 @@ abbrev pub breaks_of_parts : Profile → (ℕ → Cell) → ℕ → List (List �
 breaks_of_parts profile cell at [] = []
 breaks_of_parts profile cell at (part ∷ []) = map (moved at) (breaks_of_part false profile cell part)
 breaks_of_parts profile cell at (part ∷ next ∷ parts) =
-    map (moved at) (breaks_of_part true profile cell part) ++ breaks_of_parts profile cell (at + length part) (next ∷ parts)
+    map (moved at) (breaks_of_part true profile cell part)
+    ++ breaks_of_parts profile cell (at + length part) (next ∷ parts)

@@ -16,7 +16,7 @@ use Rattle.lbk_streams.specs.declared.stream.Cut.{Cut}
 use Rattle.lbk_streams.specs.declared.stream.Fed.{Fed}
 use Rattle.lbk_streams.specs.declared.stream.Four.{Four}
 use Rattle.lbk_streams.specs.declared.stream.Feeding.{Feeding}
-use Rattle.lbk_streams.specs.declared.stream.Place.{Place}
+use Rattle.lbk_streams.specs.declared.stream.StreamPosition.{StreamPosition}
 use Rattle.lbk_streams.specs.declared.stream.Stream.{Stream}
 use Rattle.lbk_bytes.specs.Bytes.{end_in}
 use Rattle.lbk_bytes.specs.declared.raw_break.RawBreak.{RawBreak}
@@ -31,7 +31,7 @@ abbrev pub front_of : {A : Type 0} → Cut A → List A
 front_of cut = take cut.size (listed cut.units)
 
 -- a position waits: it stands before a quotation mark and the marks that join it
-pub record Waits (profile : Profile) (cell : ℕ → Cell) (taken : List ℕ) (place : Place) : Type 0 where
+pub record Waits (profile : Profile) (cell : ℕ → Cell) (taken : List ℕ) (place : StreamPosition) : Type 0 where
   pub second : profile ≡ Second
   pub coded : IsShown place.held_code
   pub breaks : is_no (verdict_shown place.held_code).kind ≡ false
@@ -51,7 +51,8 @@ abbrev pub onward_of : Ahead → Onward
 onward_of all = onward_to (end_in all.goes_on)
 
 -- of all breaks these were given, and the others come from here on, where these pieces follow
-pub record Stands (profile : Profile) (cell : ℕ → Cell) (place : Place) (ps : List Decoded) (all : Ahead) (given : List Break) : Type 0 where
+pub record Stands (profile : Profile) (cell : ℕ → Cell) (place : StreamPosition) (ps : List Decoded) (all : Ahead)
+    (given : List Break) : Type 0 where
   pub taken : List ℕ
   pub knows : KnowsTaken cell place.row taken
   pub some : 0 < place.row → 0 < length taken
@@ -59,8 +60,10 @@ pub record Stands (profile : Profile) (cell : ℕ → Cell) (place : Place) (ps 
   pub joined : all.breaks ≡ given ++ (late_break cell place ps ++ onward_of all profile cell taken place.at ps)
 
 -- how far a call has come with a piece, behind which these units follow; base: the place of the piece in the stream
-pub record Feeds {A : Type 0} (pieces_of : List A → List Decoded) (profile : Profile) (cell : ℕ → Cell) (base : ℕ) (piece more : List A) (here : Feeding A) (all : Ahead) (given : List Break) : Type 0 where
-  pub stands : Stands profile cell here.place (pieces_of (front_of here.cut ++ (drop here.taken piece ++ more))) all given
+pub record Feeds {A : Type 0} (pieces_of : List A → List Decoded) (profile : Profile) (cell : ℕ → Cell) (base : ℕ)
+    (piece more : List A) (here : Feeding A) (all : Ahead) (given : List Break) : Type 0 where
+  pub stands :
+      Stands profile cell here.place (pieces_of (front_of here.cut ++ (drop here.taken piece ++ more))) all given
   pub fits : here.place.at + length (front_of here.cut ++ (drop here.taken piece ++ more)) < 2 ^ 64
   pub seen : here.place.at + here.cut.size ≡ base + here.taken
 
@@ -71,7 +74,7 @@ AreFew start here =
     ≤ start.count + min start.place.held_code 1 + start.cut.size + here.taken
 
 -- Whatever the table: the breaks given are in order, from a place on and up to the one that comes next
-pub record IsPlaced (block : List RawBreak) (count from : ℕ) (place : Place) : Type 0 where
+pub record IsPlaced (block : List RawBreak) (count from : ℕ) (place : StreamPosition) : Type 0 where
   pub waits : 0 < place.held_code → place.held_at < place.at
   pub order : IsInOrder block count from (next_place place)
 
@@ -85,11 +88,14 @@ abbrev pub ahead : ℕ → List Break → Ahead
 ahead number to_come = record { breaks = to_come; goes_on = goes_on number }
 
 -- where these units are still to come, these breaks are
-pub record StreamsIn {A : Type 0} (pieces_of : List A → List Decoded) (carried : List ℕ → List A) (cell : ℕ → Cell) (table : FlatTable) (stream : Stream) (more : List A) (to_come : List Break) : Type 0 where
+pub record StreamsIn {A : Type 0} (pieces_of : List A → List Decoded) (carried : List ℕ → List A) (cell : ℕ → Cell)
+    (table : FlatTable) (stream : Stream) (more : List A) (to_come : List Break) : Type 0 where
   pub profile : Profile
   pub named : profile_numbered (plain_number stream.profile) ≡ Some profile
   pub flat : IsFlatOf table cell
-  pub goes_on : stream.ended ≡ 0 → Stands profile cell (place_of stream) (pieces_of (cut_units carried stream ++ more)) (ahead stream.profile to_come) []
+  pub goes_on : stream.ended ≡ 0
+      → Stands profile cell (place_of stream) (pieces_of (cut_units carried stream ++ more))
+      (ahead stream.profile to_come) []
   pub fits : stream.ended ≡ 0 → stream.at + length (cut_units carried stream ++ more) < 2 ^ 64
   pub none_come : 0 < stream.ended → to_come ≡ []
 
@@ -98,9 +104,12 @@ abbrev pub Streams : (ℕ → Cell) → FlatTable → Stream → List ℕ → Li
 Streams = StreamsIn pieces (λ bytes. bytes)
 
 -- what a call does with a piece, behind which these units follow
-pub record Gives {A : Type 0} (pieces_of : List A → List Decoded) (carried : List ℕ → List A) (could_go_on : List A → Bool) (cell : ℕ → Cell) (table : FlatTable) (old new : Stream) (piece more : List A) (last : Bool) (to_come : List Break) (fed : Fed) (given : List Break) (room : ℕ) : Type 0 where
+pub record Gives {A : Type 0} (pieces_of : List A → List Decoded) (carried : List ℕ → List A)
+    (could_go_on : List A → Bool) (cell : ℕ → Cell) (table : FlatTable) (old new : Stream) (piece more : List A)
+    (last : Bool) (to_come : List Break) (fed : Fed) (given : List Break) (room : ℕ) : Type 0 where
   pub front : given ≡ take fed.count to_come
   pub rest : StreamsIn pieces_of carried cell table new (drop fed.taken piece ++ more) (drop fed.count to_come)
-  pub settled : last ≡ false → fed.count < room → AreUnsettledIn pieces_of carried could_go_on cell new more (drop fed.count to_come)
+  pub settled : last ≡ false → fed.count < room
+      → AreUnsettledIn pieces_of carried could_go_on cell new more (drop fed.count to_come)
   pub seen : new.at + length (cut_units carried new) ≡ old.at + length (cut_units carried old) + fed.taken
   pub end : last ≡ true → fed.count < room → fed.count ≡ length to_come

@@ -10,7 +10,7 @@ use Rattle.lbk_bytes.specs.Order.{AreBreaks}
 use Rattle.lbk_bytes.specs.Shown.{given_in}
 use Rattle.lbk_streams.specs.declared.stream.Cut.{Cut}
 use Rattle.lbk_streams.specs.declared.stream.Feeding.{Feeding}
-use Rattle.lbk_streams.specs.declared.stream.Place.{Place}
+use Rattle.lbk_streams.specs.declared.stream.StreamPosition.{StreamPosition}
 use Rattle.lbk_streams.specs.declared.taking.Step.{Step}
 use Rattle.lbk_streams.specs.Stands.{Ahead, AreFew, Feeds, IsOrdered, IsPlaced, front_of}
 
@@ -20,7 +20,7 @@ taken_by step = if step.passed then 1 else 0
 
 -- whatever the table: at a scalar of so many units, which it may take, a step writes breaks in order after those in the
 -- block, one at most for the scalar and one for the position that waited
-pub record Steps (size : ℕ) (old : List RawBreak) (count : ℕ) (place : Place) (new : List RawBreak) (step : Step)
+pub record Steps (size : ℕ) (old : List RawBreak) (count : ℕ) (place : StreamPosition) (new : List RawBreak) (step : Step)
     : Type 0 where
   pub within : (count ≤ step.count) × (step.count ≤ length old)
   pub breaks : AreBreaks old count → AreBreaks new step.count

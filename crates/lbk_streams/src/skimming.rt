@@ -4,14 +4,14 @@ ghost use Rattle.std.specs.Prelude.{◌≡◌, ℕ, ◌+◌, ◌-◌, ◌^◌, �
 ghost use Rattle.lbk_rules.specs.declared.Cell.{Cell};
 ghost use Rattle.lbk_rules.specs.FlatTable.{IsFlatOf};
 ghost use Rattle.lbk_rules.specs.Rows.{IsPlace};
-ghost use Rattle.lbk_streams.specs.declared.stream.Place.{Place};
+ghost use Rattle.lbk_streams.specs.declared.stream.StreamPosition.{StreamPosition};
 ghost use Rattle.lbk_bytes.specs.Order.{AreBreaks, AreInOrder};
 ghost use Rattle.lbk_bytes.specs.Shown.{given_in};
 ghost use Rattle.lbk_rules.specs.Joins.{moved};
 ghost use Rattle.lbk_streams.specs.Stands.{Ahead, Stands};
 ghost use Rattle.lbk_streams.specs.Taking.{TakesOf};
 
-use crate::stream::{Feeding, Place};
+use crate::stream::{Feeding, StreamPosition};
 use crate::stream_unit::StreamUnit;
 use lbk_bytes::{FillState, RawBreak};
 use lbk_rules::{FlatTable, Profile, place_by};
@@ -38,7 +38,7 @@ pub(crate) fn skim<U: StreamUnit>(
         &mut out[here.count..],
     );
     Feeding {
-        place: Place {
+        place: StreamPosition {
             at: here.place.at.wrapping_add((end.at - here.taken) as u64),
             held_at: here.place.held_at,
             row: end.row as u16,
@@ -54,7 +54,7 @@ pub(crate) fn skim<U: StreamUnit>(
 fn skim_into<U: StreamUnit>(
     table: &FlatTable,
     profile: Profile,
-    place: Place,
+    place: StreamPosition,
     from: usize,
     piece: &[U],
     room: &mut [RawBreak],
@@ -66,7 +66,7 @@ fn skim_into<U: StreamUnit>(
     ensures few { result.count + from ≤ result.at }
     ensures in_order { from ≤ place.at → place.at + (result.at - from) < 2 ^ 64
         → AreInOrder room.new result.count place.at (place.at + (result.at - from)) }
-    ensures stands { (cell : ℕ → Cell) (more : List U) (all : Ahead) (next : Place)
+    ensures stands { (cell : ℕ → Cell) (more : List U) (all : Ahead) (next : StreamPosition)
         → IsFlatOf table.now cell
         → place.held_code ≡ 0 → 0 < from → from ≤ place.at
         → next.at ≡ place.at + (result.at - from) → next.row ≡ result.row → next.held_code ≡ 0

@@ -35,7 +35,7 @@ pub struct Fed {
 
 /// Where a stream stands between two scalars.
 #[derive(Clone, Copy)]
-pub(crate) struct Place {
+pub(crate) struct StreamPosition {
     pub(crate) at: u64,
     pub(crate) held_at: u64,
     pub(crate) row: u16,
@@ -61,7 +61,7 @@ pub struct Cut<U> {
 /// How far a call has come.
 #[derive(Clone, Copy)]
 pub(crate) struct Feeding<U> {
-    pub(crate) place: Place,
+    pub(crate) place: StreamPosition,
     pub(crate) cut: Cut<U>,
     /// How many units of the piece were taken.
     pub(crate) taken: usize,

@@ -17,7 +17,7 @@ ghost use Rattle.lbk_streams.specs.Streams.{AreUnsettledIn, IsSoundIn, cut_units
 ghost use Rattle.lbk_streams.specs.Streams.{part_stream, place_of, stream_start};
 
 use crate::feeding::{drain, take_piece};
-use crate::stream::{Fed, Feeding, Place, Stream};
+use crate::stream::{Fed, Feeding, Stream, StreamPosition};
 use crate::stream_unit::StreamUnit;
 use lbk_bytes::{RawBreak, goes_on, plain_number, profile_numbered, put_end};
 use lbk_rules::{FlatTable, Profile, place_by};
@@ -140,7 +140,7 @@ fn start_of<U: StreamUnit>(stream: &Stream) -> Feeding<U>
     ensures fresh { (result.taken ≡ 0) × (result.count ≡ 0) }
 {
     Feeding {
-        place: Place {
+        place: StreamPosition {
             at: stream.at,
             held_at: stream.held_at,
             row: stream.row,

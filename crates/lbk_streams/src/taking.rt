@@ -15,14 +15,14 @@ ghost use Rattle.lbk_bytes.specs.Shown.{given_in};
 ghost use Rattle.lbk_streams.specs.Stands.{Ahead, Stands};
 ghost use Rattle.lbk_streams.specs.Taking.{Steps};
 
-use crate::stream::Place;
+use crate::stream::StreamPosition;
 use lbk_bytes::{RawBreak, put};
 use lbk_rules::{FlatTable, HELD, Profile, place_by, shown_by, shows_break, step_in};
 
 /// A place, and how many breaks stand in the front of the block.
 #[derive(Clone, Copy)]
 pub(crate) struct Step {
-    pub(crate) place: Place,
+    pub(crate) place: StreamPosition,
     pub(crate) count: usize,
     /// Whether the scalar was taken. It was not where the block is full before.
     pub(crate) passed: bool,
@@ -32,7 +32,7 @@ pub(crate) struct Step {
 pub(crate) fn take_scalar(
     table: &FlatTable,
     profile: Profile,
-    place: Place,
+    place: StreamPosition,
     c: char,
     size: usize,
     out: &mut [RawBreak],
@@ -56,7 +56,13 @@ pub(crate) fn take_scalar(
 }
 
 /// Decides the position that waits, if `c` heads a unit.
-fn meet(table: &FlatTable, place: Place, c: char, out: &mut [RawBreak], count: usize) -> Step
+fn meet(
+    table: &FlatTable,
+    place: StreamPosition,
+    c: char,
+    out: &mut [RawBreak],
+    count: usize,
+) -> Step
     requires { count < length out.old }
     ensures steps { Steps 0 out.old count place out.new result }
     ensures passed { result.passed ≡ false }
@@ -83,7 +89,7 @@ fn meet(table: &FlatTable, place: Place, c: char, out: &mut [RawBreak], count: u
             passed: false,
         };
     };
-    let free = Place {
+    let free = StreamPosition {
         at: place.at,
         held_at: place.held_at,
         row: place.row,
@@ -109,7 +115,7 @@ fn meet(table: &FlatTable, place: Place, c: char, out: &mut [RawBreak], count: u
 fn pass(
     table: &FlatTable,
     profile: Profile,
-    place: Place,
+    place: StreamPosition,
     c: char,
     size: usize,
     out: &mut [RawBreak],
@@ -131,7 +137,7 @@ fn pass(
     let at = place.at.wrapping_add(size as u64);
     if place.held_code != 0 {
         return Step {
-            place: Place {
+            place: StreamPosition {
                 at,
                 held_at: place.held_at,
                 row: first.next,
@@ -144,7 +150,7 @@ fn pass(
     let step = step_in(profile, row, kind);
     if waits(profile, step.shown, first.shown) {
         return Step {
-            place: Place {
+            place: StreamPosition {
                 at,
                 held_at: place.at,
                 row: first.next,
@@ -156,7 +162,7 @@ fn pass(
     }
     let more = put(out, count, place.at as usize, step.shown);
     Step {
-        place: Place {
+        place: StreamPosition {
             at,
             held_at: place.held_at,
             row: first.next,

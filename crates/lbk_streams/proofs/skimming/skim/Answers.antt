@@ -1,5 +1,5 @@
 use Rattle.std.proofs.Common.{◌≡◌, ◌+◌, ◌-◌, ◌%◌, ◌^◌, refl, sym, subst, arith}
-use Rattle.lbk_streams.specs.declared.stream.Place.{Place}
+use Rattle.lbk_streams.specs.declared.stream.StreamPosition.{StreamPosition}
 use Rattle.lbk_bytes.specs.Order.{AreInOrder}
 use Rattle.lbk_bytes.specs.Shown.{given_in}
 use Rattle.lbk_streams.proofs.BreakLemmas.{AreBreaks-behind}
@@ -13,7 +13,7 @@ returns-clause-takes g c =
     let here = c.args.here in
     let end = c.skim_into-end in
     let within = end.ensures.within in
-    let next : Place = record {
+    let next : StreamPosition = record {
       at = (here.place.at + (end.result.at - here.taken)) % 2 ^ 64;
       held_at = here.place.held_at;
       row = end.result.row;

@@ -3,7 +3,7 @@ use Rattle.lbk_rules.specs.FlatTable.{KnowsTaken}
 use Rattle.lbk_bytes.specs.Bytes.{end_in}
 use Rattle.lbk_bytes.specs.Shown.{given_in}
 use Rattle.lbk_bytes.proofs.OrderLemmas.{AreInOrder-wider}
-use Rattle.lbk_streams.specs.declared.stream.Place.{Place}
+use Rattle.lbk_streams.specs.declared.stream.StreamPosition.{StreamPosition}
 use Rattle.lbk_streams.specs.Stands.{IsPlaced}
 use Rattle.lbk_streams.specs.Streams.{next_place}
 use Rattle.lbk_streams.proofs.PlaceLemmas.{IsInOrder-at, next-within}
@@ -21,10 +21,10 @@ returns-then-here-out-clause-in_order g c = λ base from o.
     AreInOrder-wider c.args.out.now here.count from (next_place here.place) (suc here.place.at) (omega (arith, next-within here.place o.placed.waits)) o.placed.order.1
 
 pub returns-then-here-out-clause-placed : goal.returns-then-here-out-clause-placed
-returns-then-here-out-clause-placed g c = λ base from o unended. subst (λ (p : Place). IsPlaced c.args.out.now c.args.here.count from p) (sym c.keep.ensures.place) o.placed
+returns-then-here-out-clause-placed g c = λ base from o unended. subst (λ (p : StreamPosition). IsPlaced c.args.out.now c.args.here.count from p) (sym c.keep.ensures.place) o.placed
 
 pub returns-then-here-out-clause-waits : goal.returns-then-here-out-clause-waits
-returns-then-here-out-clause-waits g c = λ base from o. subst (λ (p : Place). 0 < p.held_code → p.held_at < p.at) (sym c.keep.ensures.place) o.placed.waits
+returns-then-here-out-clause-waits g c = λ base from o. subst (λ (p : StreamPosition). 0 < p.held_code → p.held_at < p.at) (sym c.keep.ensures.place) o.placed.waits
 
 pub returns-clause-in_order : goal.returns-clause-in_order
 returns-clause-in_order g c = λ base from o.

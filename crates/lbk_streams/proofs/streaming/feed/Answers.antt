@@ -15,7 +15,7 @@ use Rattle.lbk_bytes.proofs.ReachedLemmas.{given-many, onward-start}
 use Rattle.lbk_units.specs.Units.{breaks_of_part_of, breaks_of_pieces, units_of}
 use Rattle.lbk_units.proofs.UnitLemmas.{units-sizes}
 use Rattle.lbk_streams.specs.declared.stream.Feeding.{Feeding}
-use Rattle.lbk_streams.specs.declared.stream.Place.{Place}
+use Rattle.lbk_streams.specs.declared.stream.StreamPosition.{StreamPosition}
 use Rattle.lbk_streams.specs.declared.stream.Stream.{Stream}
 use Rattle.lbk_streams.specs.Stands.{Feeds, Gives, IsOrdered, StreamsIn, ahead}
 use Rattle.lbk_streams.specs.Streams.{IsSoundIn, cut_units, next_place, part_stream, place_of, stream_start}
@@ -102,7 +102,7 @@ gives g c cell more to_come s feeds =
     let given = given_in take.new.out here.count in
     let many : length given ≡ here.count = given-many take.new.out here.count (omega (arith, take.ensures.takes.takes.room)) in
     let kept = c.keep.ensures in
-    let at : new.at ≡ here.place.at = ap (λ (p : Place). p.at) kept.place in
+    let at : new.at ≡ here.place.at = ap (λ (p : StreamPosition). p.at) kept.place in
     record {
       front = Feeds-front of carried profile cell old.profile at_base piece more to_come given here here.count many feeds;
       rest =
@@ -245,7 +245,7 @@ pub returns-clause-in_order : goal.returns-clause-in_order
 returns-clause-in_order g c = λ sound.
     let take = c.take_piece-here in
     let o = ordered g (goal.at.returns-clause-in_order g c).After-take_piece-here sound in
-    let at = ap (λ (p : Place). p.at) c.keep.ensures.place in
+    let at = ap (λ (p : StreamPosition). p.at) c.keep.ensures.place in
     AreInOrder-wider take.new.out take.result.count (next_place (place_of c.args.stream.now)) (next_place take.result.place) (suc c.keep.new.stream.at)
     (omega (arith, at, next-within take.result.place o.placed.waits)) o.placed.order.1
 
@@ -254,15 +254,15 @@ returns-clause-before_stream g c = λ sound unended.
     let from = next_place (place_of c.args.stream.now) in
     let take = c.take_piece-here in
     let o = ordered g (goal.at.returns-clause-before_stream g c).After-take_piece-here sound in
-    subst (λ (p : Place). (from ≤ next_place p) × AreInOrder take.new.out take.result.count from (next_place p)) (sym c.keep.ensures.place) o.placed.order
+    subst (λ (p : StreamPosition). (from ≤ next_place p) × AreInOrder take.new.out take.result.count from (next_place p)) (sym c.keep.ensures.place) o.placed.order
 
 pub returns-clause-sound : goal.returns-clause-sound
 returns-clause-sound g c = λ sound.
     let o = ordered g (goal.at.returns-clause-sound g c).After-take_piece-here sound in
-    let at = ap (λ (p : Place). p.at) c.keep.ensures.place in
+    let at = ap (λ (p : StreamPosition). p.at) c.keep.ensures.place in
     let seen = o.seen in
     record {
-      waits = subst (λ (p : Place). 0 < p.held_code → p.held_at < p.at) (sym c.keep.ensures.place) o.placed.waits;
+      waits = subst (λ (p : StreamPosition). 0 < p.held_code → p.held_at < p.at) (sym c.keep.ensures.place) o.placed.waits;
       fits = (let fits = sound.fits in omega (arith, at, c.keep.ensures.cut.1, c.take_piece-here.ensures.takes.within.1));
     }
 
@@ -288,7 +288,7 @@ returns-then-last-clause-sound g c = λ sound.
 
 pub returns-clause-place : goal.returns-clause-place
 returns-clause-place g c = λ sound _ _.
-    let at = ap (λ (p : Place). p.at) c.keep.ensures.place in
+    let at = ap (λ (p : StreamPosition). p.at) c.keep.ensures.place in
     let seen = (ordered g (goal.at.returns-clause-place g c).After-take_piece-here sound).seen in
     omega (arith, at, c.keep.ensures.cut.1)
 

@@ -7,7 +7,7 @@ use Rattle.lbk_bytes.specs.Bytes.{with_break}
 use Rattle.lbk_bytes.specs.Shown.{given_in}
 use Rattle.lbk_bytes.proofs.AheadLemmas.{told_by}
 use Rattle.lbk_bytes.specs.Reached.{IsInOrder}
-use Rattle.lbk_streams.specs.declared.stream.Place.{Place}
+use Rattle.lbk_streams.specs.declared.stream.StreamPosition.{StreamPosition}
 use Rattle.lbk_streams.proofs.PlaceLemmas.{IsInOrder-at, IsPlaced-free, next-held}
 use Rattle.lbk_streams.proofs.StandsLemmas.{Stands-settle}
 use Rattle.lbk_streams.proofs.taking.meet.Goals as goal
@@ -36,7 +36,7 @@ returns-clause-stands c = λ profile cell p ps all flat is_char stands.
 pub returns-then-closes-clause-steps : goal.returns-then-closes-clause-steps
 returns-then-closes-clause-steps c =
     let place = c.args.place in
-    let free : Place = record { at = place.at; held_at = place.held_at; row = place.row; held_code = 0 } in
+    let free : StreamPosition = record { at = place.at; held_at = place.held_at; row = place.row; held_code = 0 } in
     record {
       within = (omega arith, omega arith);
       breaks = λ all. all;
@@ -51,7 +51,7 @@ returns-clause-steps c =
     let place = c.args.place in
     let put = c.put-more in
     let held : 0 < place.held_code = omega arith in
-    let free : Place = record { at = place.at; held_at = place.held_at; row = place.row; held_code = 0 } in
+    let free : StreamPosition = record { at = place.at; held_at = place.held_at; row = place.row; held_code = 0 } in
     record {
       within = (omega (arith, put.ensures.within), omega (arith, put.ensures.within));
       breaks = put.ensures.breaks;

@@ -3,7 +3,7 @@ use Rattle.std.proofs.lemmas.List.{append-nil}
 use Rattle.lbk_rules.specs.Verdict.{verdict_between_in}
 use Rattle.lbk_rules.specs.Rows.{IsPlace, step_by, steps_in, verdict_shown}
 use Rattle.lbk_values.specs.declared.profile.Profile.TheVariants.{First}
-use Rattle.lbk_streams.specs.declared.stream.Place.{Place}
+use Rattle.lbk_streams.specs.declared.stream.StreamPosition.{StreamPosition}
 use Rattle.lbk_bytes.specs.Bytes.{with_break}
 use Rattle.lbk_bytes.specs.Reached.{IsInOrder, scalars_of}
 use Rattle.lbk_bytes.specs.Shown.{given_in}
@@ -16,7 +16,7 @@ pub returns-then-place-ne0-clause-stands : goal.returns-then-place-ne0-clause-st
 returns-then-place-ne0-clause-stands c = λ cell p ps all flat is_char is_size some fits joins stands.
     let place = c.args.place in
     let first = c.step_in-first.result in
-    let next : Place = record { at = (place.at + c.args.size) % 2 ^ 64; held_at = place.held_at; row = first.next; held_code = place.held_code } in
+    let next : StreamPosition = record { at = (place.at + c.args.size) % 2 ^ 64; held_at = place.held_at; row = first.next; held_code = place.held_code } in
     let held : 0 < place.held_code = omega arith in
     Stands-join c.args.profile cell place next p ps all (given_in c.args.out.now c.args.count) c.args.c c.args.size is_char is_size fits held (joins held)
     refl refl refl
@@ -40,7 +40,7 @@ returns-then-waits-clause-stands c = λ cell p ps all flat is_char is_size some 
     let is_step = λ (at : IsPlace place.row).
     c.step_in-step.ensures.read ∙ ap (λ r. step_by (steps_in profile) r kind) (c.place_by-row.ensures.same at)
     ∙ ap (λ q. step_by (steps_in q) place.row kind) second in
-    let next : Place = record { at = (place.at + c.args.size) % 2 ^ 64; held_at = place.at; row = first.next; held_code = first.shown } in
+    let next : StreamPosition = record { at = (place.at + c.args.size) % 2 ^ 64; held_at = place.at; row = first.next; held_code = first.shown } in
     let given = given_in c.args.out.now c.args.count in
     Stands-on profile cell place next p ps all given [] given x c.args.size is_char is_size some fits c.if-place-ne0.false
     refl (knows-next cell table place.row x first flat scalar is_first)
@@ -66,7 +66,7 @@ returns-clause-stands c = λ cell p ps all flat is_char is_size some fits joins 
     let is_step = λ (at : IsPlace place.row). c.step_in-step.ensures.read ∙ ap (λ r. step_by (steps_in profile) r kind) (c.place_by-row.ensures.same at) in
     let quiet = c.waits.ensures.decided c.if-waits.false in
     let none = c.if-place-ne0.false in
-    let next : Place = record { at = (place.at + c.args.size) % 2 ^ 64; held_at = place.held_at; row = first.next; held_code = place.held_code } in
+    let next : StreamPosition = record { at = (place.at + c.args.size) % 2 ^ 64; held_at = place.held_at; row = first.next; held_code = place.held_code } in
     let right = map cell (scalars_of ps) in
     let front = with_break place.at (verdict_shown step.shown) [] in
     Stands-on profile cell place next p ps all (given_in c.args.out.now c.args.count) front (given_in c.put-more.new.out c.put-more.result)
@@ -83,7 +83,7 @@ pub returns-then-place-ne0-clause-steps : goal.returns-then-place-ne0-clause-ste
 returns-then-place-ne0-clause-steps c =
     let place = c.args.place in
     let held : 0 < place.held_code = omega arith in
-    let next : Place = record { at = (place.at + c.args.size) % 2 ^ 64; held_at = place.held_at; row = c.step_in-first.result.next; held_code = place.held_code } in
+    let next : StreamPosition = record { at = (place.at + c.args.size) % 2 ^ 64; held_at = place.held_at; row = c.step_in-first.result.next; held_code = place.held_code } in
     record {
       within = (omega arith, omega arith);
       breaks = λ all. all;
@@ -99,7 +99,7 @@ pub returns-then-waits-clause-steps : goal.returns-then-waits-clause-steps
 returns-then-waits-clause-steps c =
     let place = c.args.place in
     let first = c.step_in-first.result in
-    let next : Place = record { at = (place.at + c.args.size) % 2 ^ 64; held_at = place.at; row = first.next; held_code = first.shown } in
+    let next : StreamPosition = record { at = (place.at + c.args.size) % 2 ^ 64; held_at = place.at; row = first.next; held_code = first.shown } in
     record {
       within = (omega arith, omega arith);
       breaks = λ all. all;
@@ -114,7 +114,7 @@ pub returns-clause-steps : goal.returns-clause-steps
 returns-clause-steps c =
     let place = c.args.place in
     let put = c.put-more in
-    let next : Place = record { at = (place.at + c.args.size) % 2 ^ 64; held_at = place.held_at; row = c.step_in-first.result.next; held_code = place.held_code } in
+    let next : StreamPosition = record { at = (place.at + c.args.size) % 2 ^ 64; held_at = place.held_at; row = c.step_in-first.result.next; held_code = place.held_code } in
     record {
       within = (omega (arith, put.ensures.within), omega (arith, put.ensures.within));
       breaks = put.ensures.breaks;
