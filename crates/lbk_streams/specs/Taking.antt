@@ -20,8 +20,8 @@ taken_by step = if step.passed then 1 else 0
 
 -- whatever the table: at a scalar of so many units, which it may take, a step writes breaks in order after those in the
 -- block, one at most for the scalar and one for the position that waited
-pub record Steps (size : ℕ) (old : List RawBreak) (count : ℕ) (place : StreamPosition) (new : List RawBreak) (step : Step)
-    : Type 0 where
+pub record Steps (size : ℕ) (old : List RawBreak) (count : ℕ) (place : StreamPosition) (new : List RawBreak)
+    (step : Step) : Type 0 where
   pub within : (count ≤ step.count) × (step.count ≤ length old)
   pub breaks : AreBreaks old count → AreBreaks new step.count
   pub few : step.count + min step.place.held_code 1 ≤ count + min place.held_code 1 + taken_by step

@@ -76,7 +76,8 @@ pub trait StreamUnit: Unit {
         requires { IsInText start (length piece.now) (length out.old) }
         ensures goes_on { GoesOn IsBreak (length piece.now) out.old start out.new result }
         ensures gives { (cell : ℕ → Cell) (more : List Self) → IsFlatOf table.now cell
-            → GivesOf onward_to profile cell (on_from Self.pieces_of (piece.now ++ more)) out.old start out.new result };
+            → GivesOf onward_to profile cell (on_from Self.pieces_of (piece.now ++ more)) out.old start out.new
+            result };
 
     ghost narrow: { (0 < widest) × (widest ≤ 4) };
 }

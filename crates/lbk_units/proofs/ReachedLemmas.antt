@@ -1,5 +1,5 @@
 -- How far a call has come, scalar by scalar.
-use Rattle.std.proofs.Common.{◌≡◌, ℕ, ◌+◌, ◌<◌, List, [], ◌∷◌, ◌++◌, drop, get_or, map, append_assoc, reverse, refl, sym, ap, subst, ◌∙◌, arith}
+use Rattle.std.proofs.Common.{◌≡◌, ℕ, ◌+◌, ◌<◌, List, [], ◌∷◌, ◌++◌, length, drop, get_or, map, append_assoc, reverse, refl, sym, ap, subst, ◌∙◌, arith}
 use Rattle.std.specs.Char.{IsScalar}
 use Rattle.std.proofs.lemmas.List.{length-append}
 use Rattle.bstr.specs.Utf8.{Decoded, or_replacement}
@@ -12,15 +12,19 @@ use Rattle.lbk_values.specs.declared.profile.Profile.TheVariants.{First}
 use Rattle.lbk_rules.specs.declared.Verdict.{Verdict}
 use Rattle.lbk_rules.specs.Normal.{normal}
 use Rattle.lbk_rules.specs.Verdict.{verdict_between_in}
-use Rattle.lbk_rules.specs.FlatTable.{AreFlatKinds, KnowsTaken}
+use Rattle.lbk_rules.specs.declared.flat_table.FlatTable.{FlatTable}
+use Rattle.lbk_rules.specs.FlatTable.{AreFlatKinds, IsFlatOf, KnowsTaken}
 use Rattle.lbk_rules.specs.Kinds.{kind_cell, real_kind}
 use Rattle.lbk_rules.specs.RowMachineFits.{normals}
 use Rattle.lbk_rules.specs.Rows.{left_at, step_by, steps_in, verdict_shown}
 use Rattle.lbk_bytes.specs.declared.deciding.Decided.{Decided}
 use Rattle.lbk_bytes.specs.declared.fill_state.FillState.{FillState}
+use Rattle.lbk_bytes.specs.declared.raw_break.RawBreak.{RawBreak}
+use Rattle.lbk_bytes.specs.Bytes.{AtEnd}
 use Rattle.lbk_bytes.specs.Reached.{Onward, scalars_of}
 use Rattle.lbk_bytes.proofs.StepLemmas.{IsSwiftStep, decides-text, knows-more, swift-step}
 use Rattle.lbk_units.specs.declared.unit.UnitScalar.{UnitScalar}
+use Rattle.lbk_units.specs.Filling.{Fills, GivesOf, GoesOn}
 use Rattle.lbk_units.specs.Reached.{IsUnitDecided, UnitsReachedBy, on_from}
 use Rattle.lbk_units.proofs.UnitLemmas.{IsFrontAt}
 
@@ -117,3 +121,17 @@ unit-decided pieces_of text rest at found profile cell taken kinds row shown ste
           ∙ ap (λ l. verdict_between_in profile (map cell taken) (cell c ∷ map cell (scalars_of (pieces_of l)))) is_rest
           ∙ ap (λ x. verdict_between_in profile (map cell taken) (cell x ∷ map cell (scalars_of (pieces_of (drop (at + found.size) text))))) (sym front.reads);
     }
+
+-- a call ends that has filled a block
+pub filled : {A : Type 0} (Is : RawBreak → Type 0) (onward : AtEnd → Onward) (pieces_of : List A → List Decoded) (table : FlatTable) (profile : Profile) (text : List A)
+    (old : List RawBreak) (start : FillState) (new : List RawBreak) (result : FillState)
+    → GoesOn Is (length text) old start new result → (length old ≡ 0 → result ≡ start) → (result.count < length old → result.at ≡ length text)
+    → ((cell : ℕ → Cell) → IsFlatOf table cell → GivesOf onward profile cell (on_from pieces_of text) old start new result)
+    → Fills Is onward pieces_of table profile text old start new result
+filled Is onward pieces_of table profile text old start new result on no_room stops gives = record {
+  within = on.within;
+  stops = stops;
+  no_room = no_room;
+  in_order = on.in_order;
+  reached = λ cell all flat. gives cell flat all;
+}

@@ -17,8 +17,8 @@ use Rattle.lbk_units.specs.Reached.{UnitsReachedBy, on_from}
 abbrev pub IsInText : FillState → ℕ → ℕ → Type 0
 IsInText here size room = (here.count ≤ room) × IsPlace here.row × (here.at ≤ size)
 
--- whatever the table: the call stays in a text of so many units and in the block, does not go back, and writes what `Is`
--- says, in order
+-- whatever the table: the call stays in a text of so many units and in the block, does not go back, and writes what
+-- `Is` says, in order
 pub record GoesOn (Is : RawBreak → Type 0) (size : ℕ) (old : List RawBreak) (start : FillState) (new : List RawBreak)
     (result : FillState) : Type 0 where
   pub within : IsInText result size (length old)
@@ -26,8 +26,8 @@ pub record GoesOn (Is : RawBreak → Type 0) (size : ℕ) (old : List RawBreak) 
   pub in_order : (from : ℕ) → IsInOrderBy Is old start.count from start.at
       → IsInOrderBy Is new result.count from result.at
 
--- if what was given before is the front of all, and the others come from the unit on where the call began, so it is where
--- the call ends
+-- if before the call some of these were given, and the others come from the unit on where it began, so it is after the
+-- call, where it ended
 abbrev pub GivesOf : (AtEnd → Onward) → Profile → (ℕ → Cell) → (ℕ → List Decoded)
     → List RawBreak → FillState → List RawBreak → FillState → Type 0
 GivesOf onward profile cell on old start new result =

@@ -1,5 +1,6 @@
 use Rattle.std.proofs.Common.{arith}
 use Rattle.lbk_units.specs.Reached.{on_from}
+use Rattle.lbk_units.proofs.ReachedLemmas.{filled}
 use Rattle.lbk_units.proofs.UnitLemmas.{follows-text}
 use Rattle.lbk_units.proofs.filling.fill.Goals as goal
 
@@ -23,21 +24,11 @@ loop-here-preserved g c =
 pub returns-else-here-text : goal.returns-else-here-text
 returns-else-here-text g c =
     let so_far = c.loop-here.invariant in
-    record {
-      within = (omega (arith, so_far.goes_on.within.0), so_far.goes_on.within.1, so_far.goes_on.within.2);
-      stops = λ free. omega (arith, so_far.goes_on.within.2);
-      no_room = λ none. so_far.no_room (omega arith);
-      in_order = so_far.goes_on.in_order;
-      reached = λ cell all flat start. so_far.gives cell flat all start;
-    }
+    filled g.T.Target.entry g.T.Target.onward g.U.Unit.pieces_of c.args.table.now c.args.profile c.args.text.now c.args.out.now c.args.start c.loop-here.out c.loop-here.here
+    so_far.goes_on (λ none. so_far.no_room (omega arith)) (λ free. omega (arith, so_far.goes_on.within.2)) so_far.gives
 
 pub returns-after-loop-here : goal.returns-after-loop-here
 returns-after-loop-here g c =
     let so_far = c.loop-here.invariant in
-    record {
-      within = (omega (arith, so_far.goes_on.within.0), so_far.goes_on.within.1, so_far.goes_on.within.2);
-      stops = λ free. omega (arith, so_far.goes_on.within.2);
-      no_room = λ none. so_far.no_room (omega arith);
-      in_order = so_far.goes_on.in_order;
-      reached = λ cell all flat start. so_far.gives cell flat all start;
-    }
+    filled g.T.Target.entry g.T.Target.onward g.U.Unit.pieces_of c.args.table.now c.args.profile c.args.text.now c.args.out.now c.args.start c.loop-here.out c.loop-here.here
+    so_far.goes_on (λ none. so_far.no_room (omega arith)) (λ free. absurd (omega arith)) so_far.gives
