@@ -3,8 +3,9 @@
 ghost use Rattle.std.specs.Prelude.{◌≡◌, ℕ, ◌<◌, ◌≤◌, List, length};
 ghost use Rattle.bstr.specs.Utf8.{Decoded};
 ghost use Rattle.lbk_rules.specs.declared.Cell.{Cell};
-ghost use Rattle.lbk_rules.specs.FlatTable.{IsFlatOf};
-ghost use Rattle.lbk_rules.specs.Rows.{IsPlace};
+ghost use Rattle.lbk_values.specs.declared.profile.Profile.{Profile};
+ghost use Rattle.lbk_rules.specs.FlatTable.{AreFlatKinds, IsFlatOf};
+ghost use Rattle.lbk_rules.specs.Rows.{AreSteps, IsPlace, steps_in};
 ghost use Rattle.lbk_bytes.specs.Order.{IsBreak, IsPosition};
 ghost use Rattle.lbk_bytes.specs.Reached.{onward_all, onward_to};
 ghost use Rattle.lbk_units.specs.Filling.{Fills, GivesOf, GoesOn, IsInText};
@@ -14,7 +15,10 @@ use crate::deciding::decide_unit;
 use crate::target::{Breaks, Positions, Target};
 use crate::unit::Unit;
 use lbk_bytes::{FillState, RawBreak};
-use lbk_rules::{FlatTable, HELD, Profile, rows_of, step_at};
+use lbk_rules::{FlatTable, HELD, Profile, Rows, rows_of, step_at};
+
+/// How many codes there are.
+const CODES: usize = 0x11_0000;
 
 /// Goes on until the block is full or the text ends, and writes the breaks before the scalars taken after those in the
 /// front of the block.
@@ -67,9 +71,8 @@ fn fill<U: Unit, T: Target>(
 }
 
 /// Takes scalars of a part of a text until a held position comes, the block is full or the part ends. The part may be
-/// of any text that has the scalars of the part, whatever comes after them. It calls nothing and stands apart, so that
-/// all it has stays in registers.
-#[inline(never)]
+/// of any text that has the scalars of the part, whatever comes after them.
+#[inline(always)]
 pub fn fill_part<U: Unit, T: Target>(
     table: &FlatTable,
     profile: Profile,
@@ -83,13 +86,32 @@ pub fn fill_part<U: Unit, T: Target>(
         → Follows U.pieces_of part.now on
         → GivesOf T.onward profile cell on out.old start out.new result }
 {
-    let kinds = &table.kinds;
-    let steps = rows_of(profile);
+    run::<U, T>(&table.kinds, rows_of(profile), start, part, out)
+}
+
+/// Takes scalars as long as no held position comes. It calls nothing, stands apart and is given no more than it needs,
+/// so that all it has stays in registers.
+#[inline(never)]
+fn run<U: Unit, T: Target>(
+    kinds: &[u8; CODES],
+    steps: &Rows,
+    start: FillState,
+    text: &[U],
+    out: &mut [RawBreak],
+) -> FillState
+    requires place { IsInText start (length text.now) (length out.old) }
+    requires steps { AreSteps steps.now }
+    ensures goes_on { GoesOn T.entry (length text.now) out.old start out.new result }
+    ensures gives { (profile : Profile) (cell : ℕ → Cell) (on : ℕ → List Decoded) → steps.now ≡ steps_in profile
+        → AreFlatKinds kinds.now cell
+        → Follows U.pieces_of text.now on
+        → GivesOf T.onward profile cell on out.old start out.new result }
+{
     let mut count = start.count;
     let mut row = start.row;
     let mut at = start.at;
-    while count < out.len() && at < part.len() {
-        let found = U::front(&part[at..]);
+    while count < out.len() && at < text.len() {
+        let found = U::front(&text[at..]);
         let step = step_at(steps, row, kinds[found.scalar as usize]);
         if step.shown == HELD {
             break;
