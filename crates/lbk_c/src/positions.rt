@@ -20,8 +20,9 @@ ghost use Rattle.lbk_calls.specs.State.{part_start, start_in};
 ghost use Rattle.lbk_calls.specs.UnitsComing.{PositionsCome};
 
 use lbk_bytes::RawBreak;
-use lbk_calls::{State, next_positions};
+use lbk_calls::{State, next_of};
 use lbk_rules::FlatTable;
+use lbk_units::Positions;
 
 /// Puts the next positions of a text into the front of the block, from the state on, and returns how many: as many as
 /// the block holds, or all that are left. A text of n scalars has n + 1 positions (UAX #14, section 6): one before
@@ -99,7 +100,7 @@ pub extern "C" fn lbk_positions_utf16(
         → positions_of_utf16 profile cell text.now
         ≡ map (placed_in encode_utf16_all scalars) (positions_of_utf32 profile cell scalars) }
 {
-    next_positions(table, state, text, out)
+    next_of::<Positions, u16>(table, state, text, out)
 }
 
 /// Puts the next positions of a text in UTF-32 into the front of the block, as `lbk_positions` does of one in UTF-8,
@@ -133,5 +134,5 @@ pub extern "C" fn lbk_positions_utf32(
     ensures breaks { (cell : ℕ → Cell) (profile : Profile)
         → breaks_among (positions_of_utf32 profile cell text.now) ≡ breaks_of_utf32 profile cell text.now }
 {
-    next_positions(table, state, text, out)
+    next_of::<Positions, u32>(table, state, text, out)
 }

@@ -18,8 +18,9 @@ ghost use Rattle.lbk_calls.specs.State.{part_start, start_in};
 ghost use Rattle.lbk_calls.specs.UnitsComing.{UnitsCome};
 
 use lbk_bytes::RawBreak;
-use lbk_calls::{State, next_breaks};
+use lbk_calls::{State, next_of};
 use lbk_rules::FlatTable;
+use lbk_units::Breaks;
 
 /// Puts the next breaks of a text in UTF-16 into the front of the block, as `lbk_breaks` does of one in UTF-8, and
 /// returns how many. Places are in units of 16 bits. The text may be any units: a surrogate without its other half is
@@ -88,5 +89,5 @@ pub extern "C" fn lbk_breaks_utf32(
         → breaks profile cell text.now
         ≡ map (placed_in encode_utf8_all text.now) (breaks_of_utf32 profile cell text.now) }
 {
-    next_breaks(table, state, text, out)
+    next_of::<Breaks, u32>(table, state, text, out)
 }

@@ -1,5 +1,5 @@
 -- The breaks of a text from its start on, and some of them given.
-use Rattle.std.proofs.Common.{Bool, false, ◌≡◌, ℕ, zero, suc, ◌+◌, ◌<◌, ◌≤◌, min, true, ◌⊎◌, inl, inr, ⊎_elim, Some, None, List, [], ◌∷◌, ◌++◌, length, map, drop, take, refl, sym, ap, subst, ◌∙◌, arith, lit<}
+use Rattle.std.proofs.Common.{rules, Bool, false, ◌≡◌, ℕ, zero, suc, ◌+◌, ◌<◌, ◌≤◌, min, true, ◌⊎◌, inl, inr, ⊎_elim, Some, None, List, [], ◌∷◌, ◌++◌, length, map, drop, take, refl, sym, ap, subst, ◌∙◌, arith, lit<}
 use Rattle.std.specs.Char.{encode_utf8}
 use Rattle.std.specs.Str.{IsUtf8, chars, encode_utf8_all}
 use Rattle.std.proofs.lemmas.List.{append-nil, length-append, take_at}
@@ -192,6 +192,10 @@ pub spent-ended : (state : State) (len : ℕ) → IsSpent (plain state) len → 
 spent-ended state len (inl unnamed) few within = absurd (named-few state.profile few unnamed)
 spent-ended state len (inr (inl ended)) few within = ended
 spent-ended state len (inr (inr past)) few within = absurd (omega arith)
+
+-- and one from which some may come names a profile
+pub going-few : (profile : Profile) (state : State) (len : ℕ) → IsGoing profile (plain state) len → 3 < state.profile → ⊥
+going-few profile state len going more = let named = going.named in search rules
 
 -- what a call gives of the breaks to come
 pub Comes-goes : (from : Onward) (profile : Profile) (cell : ℕ → Cell) (table : FlatTable) (text : List ℕ) (old new : State) (to_come given : List Break) (count room : ℕ)

@@ -1,6 +1,6 @@
 pub mod ComingLemmas
+pub mod GoingLemmas
 pub mod UnitsComingLemmas
-pub mod PositionLemmas
 pub mod FillingLemmas
 pub mod PackingLemmas
 pub mod RunsLemmas

@@ -18,20 +18,20 @@ use Rattle.lbk_rules.proofs.FlatLemmas.{left-start}
 use Rattle.lbk_bytes.specs.declared.fill_state.FillState.{FillState}
 use Rattle.lbk_bytes.specs.declared.raw_break.RawBreak.{RawBreak}
 use Rattle.lbk_bytes.specs.Bytes.{end_in}
-use Rattle.lbk_bytes.specs.Reached.{Onward, onward_to}
+use Rattle.lbk_bytes.specs.Reached.{Onward, onward_all, onward_to, position_end_in}
 use Rattle.lbk_bytes.specs.Shown.{given_in}
 use Rattle.lbk_units.specs.Encodings.{placed_in}
 use Rattle.lbk_units.specs.Reached.{UnitsReachedBy, on_from}
-use Rattle.lbk_units.specs.Units.{breaks_of_part_of, breaks_of_utf32, units_of}
+use Rattle.lbk_units.specs.Positions.{positions_of_part_of, positions_of_pieces}
+use Rattle.lbk_units.specs.Units.{breaks_of_part_of, breaks_of_pieces, breaks_of_utf32}
+use Rattle.lbk_units.proofs.PositionLemmas.{all-part, all-start, pieces-part}
 use Rattle.lbk_units.proofs.EncodingLemmas as encoding
-use Rattle.lbk_units.proofs.UnitLemmas.{units-sizes}
 use Rattle.lbk_calls.specs.declared.interface.State.{State}
 use Rattle.lbk_calls.specs.Coming.{IsGoing, IsSpent, from_state}
 use Rattle.lbk_calls.specs.State.{goes_on, part_start, plain, profile_number, profile_numbered, start_in}
-use Rattle.lbk_calls.specs.UnitsComing.{UnitsComeBy, UnitsGo}
+use Rattle.lbk_calls.specs.UnitsComing.{PositionsCome, UnitsCome, UnitsComeBy, UnitsGo}
 use Rattle.lbk_calls.proofs.ComingLemmas.{breaks-utf8, gives, same-profile}
-use Rattle.lbk_bytes.proofs.PartLemmas.{pieces-onward}
-use Rattle.lbk_bytes.proofs.ReachedLemmas.{given-many, profile-same}
+use Rattle.lbk_bytes.proofs.ReachedLemmas.{given-many, onward-start, profile-same}
 
 module _ {A : Type 0} (from : Onward) (pieces_of : List A → List Decoded) where
   units-begun : (cell : ℕ → Cell) (table : FlatTable) (text : List A) (profile : Profile) (at : ℕ) (state : State) (to_come : List Break) → IsFlatOf table cell → at ≤ length text
@@ -176,14 +176,31 @@ module _ {A : Type 0} (from_in : Bool → Onward) (pieces_of : List A → List D
       → UnitsComeBy (from_in (goes_on state.profile)) pieces_of cell table text (plain state) to_come
   units-start cell table text profile state to_come flat starts whole = units-part cell table text false profile 0 state to_come flat (omega arith) starts whole
 
--- the breaks of a part, at their places in the text
-pub pieces-part : (goes : Bool) (profile : Profile) (cell : ℕ → Cell) (at : ℕ) (ps : List Decoded)
-    → map (moved at) (breaks_of_part_of goes profile cell ps) ≡ onward_to (end_in goes) profile cell [] at ps
-pieces-part goes profile cell at ps = pieces-onward goes profile cell at ps (units_of ps) (units-sizes ps)
-
 -- the breaks of scalars, by their places in UTF-8
 pub breaks-scalars : (profile : Profile) (cell : ℕ → Cell) (cs : List ℕ) → scalars cs ≡ true
     → breaks profile cell cs ≡ map (placed_in encode_utf8_all cs) (breaks_of_utf32 profile cell cs)
 breaks-scalars profile cell cs all =
     sym (breaks-utf8 profile cell (encode_utf8_all cs) (cs, (all, refl)) ∙ ap (λ l. breaks profile cell l) (chars-encodes cs all))
     ∙ encoding.breaks-utf8 profile cell cs all
+
+-- the breaks, or the positions, of a text of units come from the state at its start, and those of a part from the state there
+module _ {A : Type 0} (pieces_of : List A → List Decoded) (cell : ℕ → Cell) (table : FlatTable) (text : List A) where
+  pub breaks-start : (profile : Profile) (state : State) → IsFlatOf table cell → state ≡ start_in profile
+      → UnitsCome pieces_of cell table text state (breaks_of_pieces profile cell (pieces_of text))
+  breaks-start profile state flat starts =
+      units-start (λ goes. onward_to (end_in goes)) pieces_of cell table text profile state _ flat starts (onward-start profile cell (pieces_of text))
+
+  pub breaks-part : (goes : Bool) (profile : Profile) (at : ℕ) (state : State) → IsFlatOf table cell → at ≤ length text → state ≡ part_start goes profile at
+      → UnitsCome pieces_of cell table text state (map (moved at) (breaks_of_part_of goes profile cell (pieces_of (drop at text))))
+  breaks-part goes profile at state flat within starts =
+      units-part (λ goes. onward_to (end_in goes)) pieces_of cell table text goes profile at state _ flat within starts (pieces-part goes profile cell at (pieces_of (drop at text)))
+
+  pub positions-start : (profile : Profile) (state : State) → IsFlatOf table cell → state ≡ start_in profile
+      → PositionsCome pieces_of cell table text state (positions_of_pieces profile cell (pieces_of text))
+  positions-start profile state flat starts =
+      units-start (λ goes. onward_all (position_end_in goes)) pieces_of cell table text profile state _ flat starts (all-start profile cell (pieces_of text))
+
+  pub positions-part : (goes : Bool) (profile : Profile) (at : ℕ) (state : State) → IsFlatOf table cell → at ≤ length text → state ≡ part_start goes profile at
+      → PositionsCome pieces_of cell table text state (map (moved at) (positions_of_part_of goes profile cell (pieces_of (drop at text))))
+  positions-part goes profile at state flat within starts =
+      units-part (λ goes. onward_all (position_end_in goes)) pieces_of cell table text goes profile at state _ flat within starts (all-part goes profile cell at (pieces_of (drop at text)))

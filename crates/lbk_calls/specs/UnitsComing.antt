@@ -1,15 +1,16 @@
 -- What is to come of a text of units from a state on.
-use Rattle.std.specs.Prelude.{◌≡◌, ℕ, ◌<◌, ◌≤◌, List, [], length, drop, take, min, Some}
+use Rattle.std.specs.Prelude.{◌≡◌, ℕ, Bool, ◌<◌, ◌≤◌, List, [], length, drop, take, min, Some}
 use Rattle.bstr.specs.Utf8.{Decoded}
 use Rattle.lbk_rules.specs.declared.Break.{Break}
 use Rattle.lbk_rules.specs.declared.Cell.{Cell}
 use Rattle.lbk_rules.specs.declared.flat_table.FlatTable.{FlatTable}
 use Rattle.lbk_values.specs.declared.profile.Profile.{Profile}
 use Rattle.lbk_rules.specs.FlatTable.{IsFlatOf}
-use Rattle.lbk_bytes.specs.Reached.{Onward, onward_all, position_end_in}
+use Rattle.lbk_bytes.specs.Bytes.{AtEnd, end_in}
+use Rattle.lbk_bytes.specs.Reached.{Onward, onward_all, onward_to, position_end_in}
 use Rattle.lbk_units.specs.Reached.{UnitsReachedBy, on_from}
 use Rattle.lbk_calls.specs.declared.interface.State.{State}
-use Rattle.lbk_calls.specs.Coming.{from_state, onward_in}
+use Rattle.lbk_calls.specs.Coming.{from_state}
 use Rattle.lbk_calls.specs.State.{goes_on, plain, profile_numbered}
 
 -- from the state on these come of this text, if it has not given all
@@ -25,17 +26,19 @@ pub record UnitsComeBy {A : Type 0} (from : Onward) (pieces_of : List A → List
   pub flat : IsFlatOf table cell
   pub onto : UnitsOnto from pieces_of profile cell text state to_come
 
+-- the same of what is given from a unit on, by what comes at the end, which the number of a profile tells
+abbrev pub ComeOf : {A : Type 0} → (AtEnd → Onward) → (Bool → AtEnd) → (List A → List Decoded) → (ℕ → Cell)
+    → FlatTable → List A → State → List Break → Type 0
+ComeOf onward end_in pieces_of cell table text state to_come =
+    UnitsComeBy (onward (end_in (goes_on state.profile))) pieces_of cell table text (plain state) to_come
+
 -- the same of breaks
 abbrev pub UnitsCome : {A : Type 0} → (List A → List Decoded) → (ℕ → Cell) → FlatTable → List A → State → List Break → Type 0
-UnitsCome pieces_of cell table text state to_come = UnitsComeBy (onward_in state.profile) pieces_of cell table text (plain state) to_come
-
--- the positions from a unit on, by what the number of a profile says of the text's end
-abbrev pub positions_in : ℕ → Onward
-positions_in number = onward_all (position_end_in (goes_on number))
+UnitsCome = ComeOf onward_to end_in
 
 -- the same of all positions
 abbrev pub PositionsCome : {A : Type 0} → (List A → List Decoded) → (ℕ → Cell) → FlatTable → List A → State → List Break → Type 0
-PositionsCome pieces_of cell table text state to_come = UnitsComeBy (positions_in state.profile) pieces_of cell table text (plain state) to_come
+PositionsCome = ComeOf onward_all position_end_in
 
 -- of those to come as many were given as there was room for, and the others come from the state on
 pub record UnitsGo {A : Type 0} (from : Onward) (pieces_of : List A → List Decoded) (profile : Profile) (cell : ℕ → Cell) (text : List A) (to_come : List Break) (state : State) (given : List Break) (count room : ℕ) : Type 0 where

@@ -12,7 +12,7 @@ ghost use Rattle.lbk_rules.specs.FlatTable.{IsFlatOf};
 ghost use Rattle.lbk_bytes.specs.Bytes.{breaks_of_bytes, breaks_of_part};
 ghost use Rattle.lbk_bytes.specs.Order.{AreInOrder};
 ghost use Rattle.lbk_bytes.specs.Reached.{ReachedBy};
-ghost use Rattle.lbk_calls.specs.Calls.{GivesNext, GoesOver};
+ghost use Rattle.lbk_calls.specs.Calls.{GivesNext, GoesFrom, GoesOver};
 ghost use Rattle.lbk_calls.specs.Coming.{Comes, GoesBy, IsGoing, IsSpent, from_state, onward_in};
 ghost use Rattle.lbk_bytes.specs.Shown.{given_in};
 ghost use Rattle.lbk_calls.specs.State.{part_start, plain, profile_numbered, start_in};
@@ -53,50 +53,16 @@ pub extern "C" fn lbk_breaks(
     give_breaks::<false>(table, state, text, out)
 }
 
-/// Puts the next breaks of a text (UAX #14, section 3) into the front of the block, from the state on, and returns
-/// how many: as many as the block holds, or all that are left. The text may be any bytes: each longest piece that
-/// begins no scalar is read as U+FFFD (Unicode Standard, section 3.9).
-///
-/// Where the block has no room, or the state is past the text or at its end, or names no profile, the state stays and
-/// no break comes. What stands in the block after the breaks is unspecified. With any table and state, the breaks are
-/// breaks of rules, in order, from the state's place on, and the state goes forward with them.
+/// Puts the next breaks of a text into the front of the block, as `lbk_breaks` does, and returns how many.
 pub fn give_breaks<const MASKS: bool>(
     table: &FlatTable,
     state: &mut State,
     text: &[u8],
     out: &mut [RawBreak],
 ) -> usize
-    ensures within { result ≤ length out.old }
-    ensures profile_same { state.new.profile ≡ state.old.profile }
-    ensures in_order { AreInOrder out.new result state.old.at (suc (length text.now)) }
-    ensures before_state { state.new.ended ≡ 0 → AreInOrder out.new result state.old.at state.new.at }
-    ensures forward { 0 < result → (state.old.at < state.new.at) ⊎ (0 < state.new.ended) }
-    ensures onward { state.old.at ≤ state.new.at }
-    ensures inside { state.old.at ≤ length text.now → state.new.at ≤ length text.now }
-    ensures at_end { state.old.ended ≡ 0 → 0 < state.new.ended → state.new.at ≡ length text.now }
-    ensures all { state.old.profile ≤ 3 → state.old.at ≤ length text.now → result < length out.old
-        → 0 < state.new.ended }
-    ensures start { (cell : ℕ → Cell) (profile : Profile) → IsFlatOf table.now cell → state.old ≡ start_in profile
-        → Comes cell table.now text.now state.old (breaks_of_bytes profile cell text.now) }
-    // A part of the text that begins at any of its bytes, and after which the text may go on. Cut where lbk_cut says,
-    // the breaks of the parts are those of the text, one after another.
-    ensures part { (cell : ℕ → Cell) (profile : Profile) (goes_on : Bool) (at : ℕ) → IsFlatOf table.now cell
-        → at ≤ length text.now
-        → state.old ≡ part_start goes_on profile at
-        → Comes cell table.now text.now state.old
-        (map (moved at) (breaks_of_part goes_on profile cell (drop at text.now))) }
-    ensures count { (cell : ℕ → Cell) (to_come : List Break) → Comes cell table.now text.now state.old to_come
-        → result ≡ min (length out.old) (length to_come) }
-    ensures front { (cell : ℕ → Cell) (to_come : List Break) → Comes cell table.now text.now state.old to_come
-        → given_in out.new result ≡ take result to_come }
-    ensures rest { (cell : ℕ → Cell) (to_come : List Break) → Comes cell table.now text.now state.old to_come
-        → Comes cell table.now text.now state.new (drop result to_come) }
-    ensures well_formed { (cell : ℕ → Cell) (profile : Profile) → IsUtf8 text.now
-        → breaks_of_bytes profile cell text.now ≡ breaks profile cell (chars text.now) }
-    ensures ended { 0 < state.old.ended → (result ≡ 0) × (state.new ≡ state.old) }
-    ensures past { length text.now < state.old.at → (result ≡ 0) × (state.new ≡ state.old) }
-    ensures unknown { 3 < state.old.profile → (result ≡ 0) × (state.new ≡ state.old) }
-    ensures no_room { length out.old ≡ 0 → (result ≡ 0) × (state.new ≡ state.old) }
+    ensures goes_over { GoesOver AreInOrder state.old state.new (length text.now) (length out.old) out.new result }
+    ensures gives { (cell : ℕ → Cell) (to_come : List Break) → Comes cell table.now text.now state.old to_come
+        → GivesNext (Comes cell table.now text.now) state.new (length out.old) out.new result to_come }
 {
     let Some(profile) = going_profile(&plain(state), text.len()) else {
         return 0;
@@ -136,14 +102,7 @@ fn go_on<const MASKS: bool>(
     out: &mut [RawBreak],
 ) -> usize
     requires { IsGoing profile (plain state.old) (length text.now) }
-    ensures within { result ≤ length out.old }
-    ensures profile_same { state.new.profile ≡ state.old.profile }
-    ensures in_order { AreInOrder out.new result state.old.at (suc (length text.now)) }
-    ensures before_state { state.new.ended ≡ 0 → AreInOrder out.new result state.old.at state.new.at }
-    ensures forward { 0 < result → (state.old.at < state.new.at) ⊎ (0 < state.new.ended) }
-    ensures onward { (state.old.at ≤ state.new.at) × (state.new.at ≤ length text.now) }
-    ensures at_end { 0 < state.new.ended → state.new.at ≡ length text.now }
-    ensures all { result < length out.old → 0 < state.new.ended }
+    ensures goes_from { GoesFrom AreInOrder state.old state.new (length text.now) (length out.old) out.new result }
     ensures goes { (cell : ℕ → Cell) (to_come : List Break) → IsFlatOf table.now cell
         → ReachedBy (onward_in state.old.profile) profile cell text.now to_come (from_state (plain state.old)) []
         → GoesBy (onward_in state.old.profile) profile cell text.now to_come (plain state.new)

@@ -1,3 +1,4 @@
 pub mod UnitLemmas
 pub mod ReachedLemmas
 pub mod EncodingLemmas
+pub mod PositionLemmas

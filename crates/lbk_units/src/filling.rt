@@ -6,13 +6,11 @@ ghost use Rattle.lbk_rules.specs.declared.Cell.{Cell};
 ghost use Rattle.lbk_values.specs.declared.profile.Profile.{Profile};
 ghost use Rattle.lbk_rules.specs.FlatTable.{AreFlatKinds, IsFlatOf};
 ghost use Rattle.lbk_rules.specs.Rows.{AreSteps, IsPlace, steps_in};
-ghost use Rattle.lbk_bytes.specs.Order.{IsBreak, IsPosition};
-ghost use Rattle.lbk_bytes.specs.Reached.{onward_all, onward_to};
 ghost use Rattle.lbk_units.specs.Filling.{Fills, GivesOf, GoesOn, IsInText};
 ghost use Rattle.lbk_units.specs.Reached.{Follows, on_from};
 
 use crate::deciding::decide_unit;
-use crate::target::{Breaks, Positions, Target};
+use crate::target::Target;
 use crate::unit::Unit;
 use lbk_bytes::{FillState, RawBreak};
 use lbk_rules::{FlatTable, HELD, Profile, Rows, rows_of, step_at};
@@ -20,39 +18,9 @@ use lbk_rules::{FlatTable, HELD, Profile, Rows, rows_of, step_at};
 /// How many codes there are.
 const CODES: usize = 0x11_0000;
 
-/// Goes on until the block is full or the text ends, and writes the breaks before the scalars taken after those in the
-/// front of the block.
-pub fn fill_units<U: Unit>(
-    table: &FlatTable,
-    profile: Profile,
-    start: FillState,
-    text: &[U],
-    out: &mut [RawBreak],
-) -> FillState
-    requires { IsInText start (length text.now) (length out.old) }
-    ensures { Fills IsBreak onward_to U.pieces_of table.now profile text.now out.old start out.new result }
-{
-    fill::<U, Breaks>(table, profile, start, text, out)
-}
-
-/// Goes on until the block is full or the text ends, and writes the positions before the scalars taken after those in
-/// the front of the block.
-pub fn fill_positions<U: Unit>(
-    table: &FlatTable,
-    profile: Profile,
-    start: FillState,
-    text: &[U],
-    out: &mut [RawBreak],
-) -> FillState
-    requires { IsInText start (length text.now) (length out.old) }
-    ensures { Fills IsPosition onward_all U.pieces_of table.now profile text.now out.old start out.new result }
-{
-    fill::<U, Positions>(table, profile, start, text, out)
-}
-
-/// Goes on until the block is full or the text ends.
-#[inline(always)]
-fn fill<U: Unit, T: Target>(
+/// Goes on until the block is full or the text ends, and writes the breaks or positions before the scalars taken after
+/// those in the front of the block.
+pub fn fill<U: Unit, T: Target>(
     table: &FlatTable,
     profile: Profile,
     start: FillState,

@@ -13,7 +13,7 @@ mod utf16;
 mod utf32;
 mod utf8;
 
-pub use filling::{fill_part, fill_positions, fill_units};
+pub use filling::{fill, fill_part};
 pub use laws::same_in_each_encoding;
 pub use positions::put_position;
 pub use target::{Breaks, Positions, Target};

@@ -1,30 +1,13 @@
 use Rattle.lbk_units.specs.Units.{pieces_of_utf32}
 use Rattle.lbk_units.proofs.EncodingLemmas.{breaks-among}
+use Rattle.lbk_calls.proofs.UnitsComingLemmas.{positions-part, positions-start}
 use Rattle.lbk_c.proofs.positions.lbk_positions_utf32.Goals as goal
 
 pub returns-clause-breaks : goal.returns-clause-breaks
 returns-clause-breaks c = λ cell profile. breaks-among profile cell (pieces_of_utf32 c.args.text.now)
 
-pub returns-clause-goes_over : goal.returns-clause-goes_over
-returns-clause-goes_over c =
-    let said = c.next_positions.ensures in
-    record {
-      within = said.within;
-      profile_same = said.profile_same;
-      in_order = said.in_order;
-      before_state = said.before_state;
-      forward = said.forward;
-      onward = said.onward;
-      inside = said.inside;
-      at_end = said.at_end;
-      all = said.all;
-      ended = said.ended;
-      past = said.past;
-      unknown = said.unknown;
-      no_room = said.no_room;
-    }
+pub returns-clause-start : goal.returns-clause-start
+returns-clause-start c = λ cell profile. positions-start pieces_of_utf32 cell c.args.table.now c.args.text.now profile c.args.state.now
 
-pub returns-clause-gives : goal.returns-clause-gives
-returns-clause-gives c = λ cell to_come comes.
-    let said = c.next_positions.ensures in
-    record { count = said.count cell to_come comes; front = said.front cell to_come comes; rest = said.rest cell to_come comes }
+pub returns-clause-part : goal.returns-clause-part
+returns-clause-part c = λ cell profile goes at. positions-part pieces_of_utf32 cell c.args.table.now c.args.text.now goes profile at c.args.state.now

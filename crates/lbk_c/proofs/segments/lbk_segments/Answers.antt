@@ -14,21 +14,21 @@ put-else c =
     let p = c.put_segments-state in
     let room = c.min-room.result in
     let size = length-take-le room c.loop-block.block (omega (arith, c.min-room.ensures, c.loop-block.invariant.block)) in
-    let few : g.result ≤ length g.new.out = omega (arith, g.ensures.within, g.auto.out) in
+    let few : g.result ≤ length g.new.out = omega (arith, g.ensures.goes_over.within, g.auto.out) in
     put-more c.args.table.now c.args.text.now c.args.state.now c.loop-block.state g.new.state p.result c.loop-block.out p.new.out g.new.out _ c.loop-block.count g.result room
     c.loop-block.invariant.put
     (record {
-      within = omega (arith, g.ensures.within, size);
-      profile_same = g.ensures.profile_same;
-      in_order = g.ensures.in_order;
-      before_state = g.ensures.before_state;
-      onward = g.ensures.onward;
-      inside = g.ensures.inside;
-      at_end = g.ensures.at_end;
-      count = λ cell to_come comes. g.ensures.count cell to_come comes ∙ ap (λ n. min n (length to_come)) size;
-      front = g.ensures.front;
-      rest = g.ensures.rest;
-      still = still-call c.loop-block.state.breaks (length c.args.text.now) room g.ensures.unknown g.ensures.ended g.ensures.past (λ none. g.ensures.no_room (size ∙ none));
+      within = omega (arith, g.ensures.goes_over.within, size);
+      profile_same = g.ensures.goes_over.profile_same;
+      in_order = g.ensures.goes_over.in_order;
+      before_state = g.ensures.goes_over.before_state;
+      onward = g.ensures.goes_over.onward;
+      inside = g.ensures.goes_over.inside;
+      at_end = g.ensures.goes_over.at_end;
+      count = λ cell to_come comes. (g.ensures.gives cell to_come comes).count ∙ ap (λ n. min n (length to_come)) size;
+      front = λ cell to_come comes. (g.ensures.gives cell to_come comes).front;
+      rest = λ cell to_come comes. (g.ensures.gives cell to_come comes).rest;
+      still = still-call c.loop-block.state.breaks (length c.args.text.now) room g.ensures.goes_over.unknown g.ensures.goes_over.ended g.ensures.goes_over.past (λ none. g.ensures.goes_over.no_room (size ∙ none));
     })
     few (take-append-le g.result g.new.out _ few) c.min-room.ensures p.auto.out p.ensures.front p.ensures.next
 
@@ -40,21 +40,21 @@ put-then c =
     let p = c.put_segments-state in
     let room = c.min-room.result in
     let size = length-take-le room c.loop-block.block (omega (arith, c.min-room.ensures, c.loop-block.invariant.block)) in
-    let few : g.result ≤ length g.new.out = omega (arith, g.ensures.within, g.auto.out) in
+    let few : g.result ≤ length g.new.out = omega (arith, g.ensures.goes_over.within, g.auto.out) in
     put-more c.args.table.now c.args.text.now c.args.state.now c.loop-block.state g.new.state p.result c.loop-block.out p.new.out g.new.out _ c.loop-block.count g.result room
     c.loop-block.invariant.put
     (record {
-      within = omega (arith, g.ensures.within, size);
-      profile_same = g.ensures.profile_same;
-      in_order = g.ensures.in_order;
-      before_state = g.ensures.before_state;
-      onward = g.ensures.onward;
-      inside = g.ensures.inside;
-      at_end = g.ensures.at_end;
-      count = λ cell to_come comes. g.ensures.count cell to_come comes ∙ ap (λ n. min n (length to_come)) size;
-      front = g.ensures.front;
-      rest = g.ensures.rest;
-      still = still-call c.loop-block.state.breaks (length c.args.text.now) room g.ensures.unknown g.ensures.ended g.ensures.past (λ none. g.ensures.no_room (size ∙ none));
+      within = omega (arith, g.ensures.goes_over.within, size);
+      profile_same = g.ensures.goes_over.profile_same;
+      in_order = g.ensures.goes_over.in_order;
+      before_state = g.ensures.goes_over.before_state;
+      onward = g.ensures.goes_over.onward;
+      inside = g.ensures.goes_over.inside;
+      at_end = g.ensures.goes_over.at_end;
+      count = λ cell to_come comes. (g.ensures.gives cell to_come comes).count ∙ ap (λ n. min n (length to_come)) size;
+      front = λ cell to_come comes. (g.ensures.gives cell to_come comes).front;
+      rest = λ cell to_come comes. (g.ensures.gives cell to_come comes).rest;
+      still = still-call c.loop-block.state.breaks (length c.args.text.now) room g.ensures.goes_over.unknown g.ensures.goes_over.ended g.ensures.goes_over.past (λ none. g.ensures.goes_over.no_room (size ∙ none));
     })
     few (take-append-le g.result g.new.out _ few) c.min-room.ensures p.auto.out p.ensures.front p.ensures.next
 
@@ -80,7 +80,7 @@ returns-then-given-lt-BLOCK-clause-count c = λ cell to_come comes.
     let count = c.loop-block.count in
     let g = c.give_breaks-given in
     let size = length-take-le c.min-room.result c.loop-block.block (omega (arith, c.min-room.ensures, c.loop-block.invariant.block)) in
-    let given = g.ensures.count cell (drop count to_come) were.comes ∙ ap (λ n. min n (length (drop count to_come))) size in
+    let given = (g.ensures.gives cell (drop count to_come) were.comes).count ∙ ap (λ n. min n (length (drop count to_come))) size in
     let left = length-drop count to_come were.few in
     omega (arith, given, left, c.min-room.ensures, c.if-given-lt-BLOCK.true, i.room, c.loop-block.auto.out)
 

@@ -1,7 +1,7 @@
 use Rattle.std.proofs.Common.{sym, subst, ◌∙◌}
 use Rattle.bstr.specs.Utf8.{pieces}
 use Rattle.lbk_bytes.proofs.PartLemmas.{part-onward}
-use Rattle.lbk_calls.proofs.UnitsComingLemmas.{pieces-part}
+use Rattle.lbk_units.proofs.PositionLemmas.{pieces-part}
 use Rattle.lbk_streams.specs.Stands.{Streams}
 use Rattle.lbk_c.proofs.streaming.lbk_feed.Goals as goal
 

@@ -1,11 +1,13 @@
-use Rattle.std.proofs.Common.{◌++◌, [], length, refl, ap, subst, sym, ◌∙◌, inl, arith}
+use Rattle.std.proofs.Common.{◌++◌, [], length, refl, ap, subst, sym, ◌∙◌, arith}
 use Rattle.lbk_calls.specs.declared.interface.State.{State}
 use Rattle.lbk_calls.specs.State.{goes_on, plain}
 use Rattle.lbk_bytes.specs.Bytes.{end_in}
 use Rattle.lbk_bytes.specs.Reached.{IsInOrder, ReachedBy, onward_to}
 use Rattle.lbk_bytes.specs.Shown.{given_in}
 use Rattle.lbk_calls.proofs.ComingLemmas.{Goes-ended, Goes-full}
-use Rattle.lbk_bytes.proofs.OrderLemmas.{AreInOrder-none, AreInOrder-wider}
+use Rattle.lbk_bytes.specs.Order.{IsBreak}
+use Rattle.lbk_bytes.proofs.OrderLemmas.{AreInOrder-none}
+use Rattle.lbk_calls.proofs.GoingLemmas.{from-ended, from-full}
 use Rattle.lbk_calls.proofs.breaking.go_on.Goals as goal
 
 pub returns-then-here-out-clause-goes : goal.returns-then-here-out-clause-goes
@@ -34,35 +36,20 @@ returns-clause-goes g c = λ cell to_come flat start.
     ∙ ap (λ g. given_in fill.new.out fill.result.count ++ end_in g c.args.profile cell taken (length c.args.text.now)) c.goes_on-goes_on.ensures)
     (omega (arith, put.ensures.within)) (omega arith)
 
-pub returns-then-here-out-clause-in_order : goal.returns-then-here-out-clause-in_order
-returns-then-here-out-clause-in_order g c =
+pub returns-then-here-out-clause-goes_from : goal.returns-then-here-out-clause-goes_from
+returns-then-here-out-clause-goes_from g c =
     let fill = c.fill-here in
-    let order = fill.ensures.in_order c.args.state.now.at (omega arith, AreInOrder-none c.args.out.now c.args.state.now.at c.args.state.now.at) in
-    AreInOrder-wider fill.new.out fill.result.count c.args.state.now.at fill.result.at _ (omega (arith, fill.ensures.within.2)) order.1
+    let at = c.args.state.now.at in
+    let order = fill.ensures.in_order at (omega arith, AreInOrder-none c.args.out.now at at) in
+    from-full IsBreak c.args.state.now _ (length c.args.text.now) (length c.args.out.now) fill.new.out fill.result.count
+    refl c.requires.unended order fill.ensures.within.2 (omega arith)
 
-pub returns-then-here-out-clause-before_state : goal.returns-then-here-out-clause-before_state
-returns-then-here-out-clause-before_state g c = λ going.
-    (c.fill-here.ensures.in_order c.args.state.now.at (omega arith, AreInOrder-none c.args.out.now c.args.state.now.at c.args.state.now.at)).1
-
-pub returns-then-here-out-clause-forward : goal.returns-then-here-out-clause-forward
-returns-then-here-out-clause-forward g c = λ some.
-    let order = c.fill-here.ensures.in_order c.args.state.now.at (omega arith, AreInOrder-none c.args.out.now c.args.state.now.at c.args.state.now.at) in
-    let first = order.1.within 0 some in
-    inl (omega (arith, first.0, first.1))
-
-pub returns-then-here-out-clause-onward : goal.returns-then-here-out-clause-onward
-returns-then-here-out-clause-onward g c =
-    let order = c.fill-here.ensures.in_order c.args.state.now.at (omega arith, AreInOrder-none c.args.out.now c.args.state.now.at c.args.state.now.at) in
-    (order.0, c.fill-here.ensures.within.2)
-
-pub returns-clause-in_order : goal.returns-clause-in_order
-returns-clause-in_order g c =
+pub returns-clause-goes_from : goal.returns-clause-goes_from
+returns-clause-goes_from g c =
     let fill = c.fill-here in
-    let order = fill.ensures.in_order c.args.state.now.at (omega arith, AreInOrder-none c.args.out.now c.args.state.now.at c.args.state.now.at) in
+    let at = c.args.state.now.at in
+    let order = fill.ensures.in_order at (omega arith, AreInOrder-none c.args.out.now at at) in
     let ends = fill.ensures.stops (omega arith) in
-    c.put_end.ensures.in_order c.args.state.now.at _ (omega arith) (subst (λ n. IsInOrder fill.new.out fill.result.count c.args.state.now.at n) ends order)
-
-pub returns-clause-onward : goal.returns-clause-onward
-returns-clause-onward g c =
-    let order = c.fill-here.ensures.in_order c.args.state.now.at (omega arith, AreInOrder-none c.args.out.now c.args.state.now.at c.args.state.now.at) in
-    (order.0, c.fill-here.ensures.within.2)
+    from-ended IsBreak c.args.state.now _ (length c.args.text.now) (length c.args.out.now) c.put_end.new.out c.put_end.result
+    refl refl ends order.0 (omega (arith, c.put_end.ensures.within))
+    (c.put_end.ensures.in_order at _ (omega arith) (subst (λ n. IsInOrder fill.new.out fill.result.count at n) ends order))

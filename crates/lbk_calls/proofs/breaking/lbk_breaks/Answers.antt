@@ -1,25 +1,14 @@
+use Rattle.std.proofs.Common.{drop}
+use Rattle.lbk_bytes.proofs.PartLemmas.{part-onward}
+use Rattle.lbk_calls.proofs.ComingLemmas.{Comes-part, Comes-start, breaks-utf8}
 use Rattle.lbk_calls.proofs.breaking.lbk_breaks.Goals as goal
 
-pub returns-clause-goes_over : goal.returns-clause-goes_over
-returns-clause-goes_over c =
-    let said = c.give_breaks.ensures in
-    record {
-      within = said.within;
-      profile_same = said.profile_same;
-      in_order = said.in_order;
-      before_state = said.before_state;
-      forward = said.forward;
-      onward = said.onward;
-      inside = said.inside;
-      at_end = said.at_end;
-      all = said.all;
-      ended = said.ended;
-      past = said.past;
-      unknown = said.unknown;
-      no_room = said.no_room;
-    }
+pub returns-clause-start : goal.returns-clause-start
+returns-clause-start c = λ cell profile. Comes-start cell c.args.table.now c.args.text.now profile c.args.state.now
 
-pub returns-clause-gives : goal.returns-clause-gives
-returns-clause-gives c = λ cell to_come comes.
-    let said = c.give_breaks.ensures in
-    record { count = said.count cell to_come comes; front = said.front cell to_come comes; rest = said.rest cell to_come comes }
+pub returns-clause-part : goal.returns-clause-part
+returns-clause-part c = λ cell profile goes_on at flat within starts.
+    Comes-part cell c.args.table.now c.args.text.now goes_on profile at c.args.state.now _ flat within starts (part-onward goes_on profile cell at (drop at c.args.text.now))
+
+pub returns-clause-well_formed : goal.returns-clause-well_formed
+returns-clause-well_formed c = λ cell profile. breaks-utf8 profile cell c.args.text.now

@@ -4,7 +4,7 @@ use Rattle.lbk_rules.specs.declared.Rule.TheVariants.{Lb2, Lb3}
 use Rattle.lbk_rules.specs.Rows.{IsShown}
 use Rattle.lbk_bytes.specs.Reached.{position_end_in}
 use Rattle.lbk_bytes.specs.Shown.{given_in}
-use Rattle.lbk_calls.proofs.PositionLemmas.{put-end, put-start}
+use Rattle.lbk_units.proofs.PositionLemmas.{put-end, put-start}
 use Rattle.lbk_calls.proofs.last_position.put_last.Goals as goal
 use Rattle.lbk_calls.proofs.last_position.put_last.Goals.{then-row-eq0, else-row-eq0}
 

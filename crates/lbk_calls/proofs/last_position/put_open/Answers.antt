@@ -3,7 +3,7 @@ use Rattle.lbk_rules.specs.Breaks.{break_by, is_no}
 use Rattle.lbk_rules.specs.Rows.{verdict_shown}
 use Rattle.lbk_bytes.specs.Shown.{given_in}
 use Rattle.lbk_bytes.proofs.OrderLemmas.{AreInOrder-wider}
-use Rattle.lbk_calls.proofs.PositionLemmas.{not-back}
+use Rattle.lbk_units.proofs.PositionLemmas.{not-back}
 use Rattle.lbk_calls.proofs.last_position.put_open.Goals as goal
 
 pub returns-then-shows_break-clause-front : goal.returns-then-shows_break-clause-front

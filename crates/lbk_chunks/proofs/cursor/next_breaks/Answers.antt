@@ -5,11 +5,12 @@ use Rattle.lbk_chunks.proofs.cursor.next_breaks.Goals as goal
 pub returns-clause-first : goal.returns-clause-first
 returns-clause-first c = λ cell breaks comes.
     let give = c.give_breaks-count in
+    let gives = give.ensures.gives cell breaks comes in
     record {
-      counted = give.ensures.count cell breaks comes;
-      shown = shown-front give.result give.new.out _ (omega (arith, give.ensures.within, give.auto.out)) (give.ensures.front cell breaks comes) give.ensures.in_order.each;
-      onward = give.ensures.rest cell breaks comes;
+      counted = gives.count;
+      shown = shown-front give.result give.new.out _ (omega (arith, give.ensures.goes_over.within, give.auto.out)) gives.front give.ensures.goes_over.in_order.each;
+      onward = gives.rest;
     }
 
 pub returns-clause-within : goal.returns-clause-within
-returns-clause-within c = λ k below. (let h = (c.give_breaks-count.ensures.in_order.within k below).1 in omega (arith, h))
+returns-clause-within c = λ k below. (let h = (c.give_breaks-count.ensures.goes_over.in_order.within k below).1 in omega (arith, h))

@@ -1,4 +1,4 @@
--- The positions of a text from its start on, and the last of them.
+-- The breaks and the positions of a text from its start on, and the last of them.
 use Rattle.std.proofs.Common.{Bool, true, false, not, ◌≡◌, ℕ, ◌+◌, ◌-◌, ◌<◌, List, [], ◌∷◌, ◌++◌, length, map, take, append-nil, append_assoc, refl, sym, ap, subst, ◌∙◌, arith}
 use Rattle.std.proofs.lemmas.List.{length-map}
 use Rattle.std.proofs.Math.Seq.{drop-length, take-length}
@@ -15,12 +15,13 @@ use Rattle.lbk_rules.specs.Verdict.{verdict_between_in}
 use Rattle.lbk_rules.proofs.EndLemmas.{must_at_length, start_of_text}
 use Rattle.lbk_rules.specs.FlatTable.{KnowsTaken}
 use Rattle.lbk_rules.specs.Rows.{verdict_shown}
-use Rattle.lbk_bytes.specs.Bytes.{AtEnd, open_end}
-use Rattle.lbk_bytes.specs.Reached.{last_position, onward_all, position_end_in, scalars_of}
+use Rattle.lbk_bytes.specs.Bytes.{AtEnd, end_in, open_end}
+use Rattle.lbk_bytes.specs.Reached.{last_position, onward_all, onward_to, position_end_in, scalars_of}
 use Rattle.lbk_bytes.proofs.EndLemmas.{none-known}
-use Rattle.lbk_bytes.proofs.PartLemmas.{end-moved, without-last}
+use Rattle.lbk_bytes.proofs.PartLemmas.{end-moved, pieces-onward, without-last}
 use Rattle.lbk_units.specs.Positions.{positions_after, positions_of_part_of, positions_of_pieces}
-use Rattle.lbk_units.specs.Units.{units_of}
+use Rattle.lbk_units.specs.Units.{breaks_of_part_of, units_of}
+use Rattle.lbk_units.proofs.UnitLemmas.{units-sizes}
 use Rattle.lbk_bytes.specs.declared.ends.TheConstants.{END, START}
 
 all-marks : (profile : Profile) (cell : ℕ → Cell) (before : List ℕ) (at : ℕ) (p : Decoded) (ps : List Decoded)
@@ -93,6 +94,11 @@ all-part goes profile cell at ps =
     let place : at + 0 ≡ at = omega arith in
     ap (map (moved at)) (part-start goes profile cell ps) ∙ all-moved goes profile cell [] at 0 ps
     ∙ ap (λ n. onward_all (position_end_in goes) profile cell [] n ps) place
+
+-- the breaks of a part, at their places in the text
+pub pieces-part : (goes : Bool) (profile : Profile) (cell : ℕ → Cell) (at : ℕ) (ps : List Decoded)
+    → map (moved at) (breaks_of_part_of goes profile cell ps) ≡ onward_to (end_in goes) profile cell [] at ps
+pieces-part goes profile cell at ps = pieces-onward goes profile cell at ps (units_of ps) (units-sizes ps)
 
 -- at the end of an empty text
 pub put-start : (profile : Profile) (cell : ℕ → Cell) (taken : List ℕ) (given after : List Break) (at row shown : ℕ)
