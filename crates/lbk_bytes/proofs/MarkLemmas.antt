@@ -66,6 +66,16 @@ marked-one words index i s within =
     ∙ or-none (is_marked words i) (s && (index == i)) (and_right s (index == i) (ne_eqb index i (λ e. apart (ap (λ n. n / 64) (sym e))))))
     (cases_eq (i / 64) (index / 64))
 
+-- the same of one word
+pub marked-bit : (word index i : ℕ) (s : Bool) → index < 64
+    → is_marked (bit_or word (from_bool s * 2 ^ index % 2 ^ 64) ∷ []) i ≡ (is_marked (word ∷ []) i || (s && (index == i)))
+marked-bit word index i s few =
+    let bit = λ (n : ℕ). from_bool s * 2 ^ n % 2 ^ 64 in
+    let goal = is_marked (word ∷ []) i || (s && (index == i)) in
+    subst (λ n. is_marked (bit_or word (bit n) ∷ []) i ≡ goal) (let e : index % 64 ≡ index = omega arith in e)
+    (subst (λ q. is_marked (set (word ∷ []) q (bit_or (get_or (word ∷ []) q 0) (bit (index % 64)))) i ≡ goal) (let e : index / 64 ≡ 0 = omega arith in e)
+    (marked-one (word ∷ []) index i s (omega arith)))
+
 -- behind the last word no bit is set
 pub marked-past : (words : List ℕ) (i : ℕ) → 64 * length words ≤ i → is_marked words i ≡ false
 marked-past words i past = ap (λ n. is_set n (i % 64)) (get_or_past words (i / 64) 0 (omega arith)) ∙ set-none (i % 64)
@@ -184,3 +194,36 @@ pub Marked-none : (profile : Profile) (cell : ℕ → Cell) (text : List ℕ) (a
     → ((i : ℕ) → is_marked words i ≡ false) → Reached profile cell text all (uncounted here) []
     → Marked profile cell text all here.at stop here words
 Marked-none profile cell text all stop here words none r = record { given = []; reached = r; below = tt; marked = λ i h. none i; boundary = refl }
+
+-- where nothing was given before the front
+pub Marked-begun : (profile : Profile) (cell : ℕ → Cell) (text : List ℕ) (all : Ahead) (from stop : ℕ) (here there : FillState) (new : List ℕ) → stop ≤ length text
+    → (Reached profile cell (take stop text ++ drop stop text) all here []
+    → Marked profile cell (take stop text ++ drop stop text) all from (length (take stop text)) there new)
+    → Reached profile cell text all here [] → Marked profile cell text all from stop there new
+Marked-begun profile cell text all from stop here there new within further r =
+    let whole = take-append-drop stop text in
+    subst (λ t. Marked profile cell t all from stop there new) whole
+    (subst (λ n. Marked profile cell (take stop text ++ drop stop text) all from n there new) (length-take-le stop text within)
+    (further (subst (λ t. Reached profile cell t all here []) (sym whole) r)))
+
+-- One word
+
+-- it is all of the words
+as-one : (words : List ℕ) → length words ≡ 1 → words ≡ get_or words 0 0 ∷ []
+as-one [] one = absurd (omega arith)
+as-one (word ∷ []) one = refl
+as-one (word ∷ more ∷ words) one = absurd (omega arith)
+
+-- and another in its place
+pub as-other : (words : List ℕ) (word : ℕ) → length words ≡ 1 → word ∷ [] ≡ set words 0 word
+as-other [] word one = absurd (omega arith)
+as-other (old ∷ []) word one = refl
+as-other (old ∷ more ∷ words) word one = absurd (omega arith)
+
+-- its bits in the place of the count
+pub Marked-counted : (profile : Profile) (cell : ℕ → Cell) (text : List ℕ) (all : Ahead) (from stop : ℕ) (here : FillState) (words : List ℕ) → length words ≡ 1
+    → Marked profile cell text all from stop here words
+    → Marked profile cell text all from stop (record { count = get_or words 0 0; row = here.row; at = here.at }) (get_or words 0 0 ∷ [])
+Marked-counted profile cell text all from stop here words one m =
+    let n = subst (λ l. Marked profile cell text all from stop here l) (as-one words one) m in
+    record { given = n.given; reached = n.reached; below = n.below; marked = n.marked; boundary = n.boundary }

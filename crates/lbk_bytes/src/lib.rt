@@ -13,6 +13,7 @@ mod held;
 mod mark_blocks;
 mod marking;
 mod marks;
+mod one_word;
 mod pieces;
 mod profiles;
 mod raw_break;

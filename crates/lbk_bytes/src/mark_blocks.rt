@@ -44,7 +44,7 @@ pub(crate) fn mark_blocks(
         → Marked profile cell (text.now ++ more) all from (length text.now) start words.old
         → Marked profile cell (text.now ++ more) all from (length text.now) result words.new }
 {
-    if text.len() - start.at < SEEN || are_left(&text[start.at..]) {
+    if !are_told(start.at, text) {
         return start;
     }
     let mut here = start;
@@ -57,9 +57,18 @@ pub(crate) fn mark_blocks(
     }
 }
 
+/// Whether a block from a byte on seems to be of use: whether the bytes are not few, nor mostly of scalars that blocks
+/// leave to steps.
+#[inline(always)]
+pub(crate) fn are_told(at: usize, text: &[u8]) -> bool
+    requires { at ≤ length text.now }
+{
+    SEEN <= text.len() - at && !are_left(&text[at..])
+}
+
 /// Takes the bytes of one block: those that its marks tell by them, and the others by steps.
 #[inline(never)]
-fn mark_block(
+pub(crate) fn mark_block(
     pairs: &Neighbours,
     kinds: &[u8; CODES],
     steps: &Rows,
@@ -83,12 +92,14 @@ fn mark_block(
     };
     let end = start.at + BLOCK.min(text.len() - start.at);
     let mut here = start;
+    let mut least = 1;
     while here.at < end {
         let there = mark_told(pairs, start.at, marks, here, from, text, words);
         if end <= there.at {
             return there;
         }
-        let stop = behind_stops(marks.stops, start.at, there.at, end);
+        least = least_behind(there.at == here.at, least);
+        let stop = behind_stops(marks.stops, start.at, there.at, end, least);
         here = runs(Bits { from }, kinds, steps, there, stop, text, words);
         if here.at == there.at {
             return here;
@@ -97,16 +108,33 @@ fn mark_block(
     here
 }
 
-/// Up to where the bytes of a block are left to steps from one on, and such as go on with a scalar: the next byte, or a
-/// later one.
+/// How many bytes at most are taken by steps before the marks are asked again, where these told nothing.
+const MOST: usize = 8;
+
+/// How many bytes at least are taken by steps, where it was so many before: ever more, while the marks tell nothing.
+/// After a byte of which they know no row, as among control characters, they tell nothing of the next.
 #[inline(always)]
-fn behind_stops(stops: u64, at: usize, here: usize, end: usize) -> usize
-    requires { (at ≤ here) × (here < at + 64) × (here < end) }
+fn least_behind(told_nothing: bool, least: usize) -> usize
+    requires { (0 < least) × (least ≤ 8) }
+    ensures { (0 < result) × (result ≤ 8) }
+{
+    if told_nothing {
+        (2 * least).min(MOST)
+    } else {
+        1
+    }
+}
+
+/// Up to where the bytes of a block are left to steps from one on, and such as go on with a scalar: so many bytes at
+/// least, or more.
+#[inline(always)]
+fn behind_stops(stops: u64, at: usize, here: usize, end: usize, least: usize) -> usize
+    requires { (at ≤ here) × (here < at + 64) × (here < end) × (0 < least) × (least ≤ 8) }
     ensures { (here < result) × (result ≤ end) }
 {
     let told = !(stops | (stops << 1));
     let many = (told >> (here - at)).trailing_zeros() as usize;
-    (here + 1).max(here.saturating_add(many)).min(end)
+    here.saturating_add(many.max(least)).min(end)
 }
 
 /// Takes bytes of a block up to the first that is left to steps, if the row here is that of the byte before.

@@ -15,6 +15,7 @@ use crate::fill_state::FillState;
 use crate::held::take_ones;
 use crate::mark_blocks::mark_blocks;
 use crate::marks::{BITS, clear, mark};
+use crate::one_word::one_word;
 use crate::stepping::quick;
 use crate::target::Bits;
 use crate::tries::next_try;
@@ -40,8 +41,13 @@ pub fn fill_marks(
         → Marked profile cell text.now all start.at (min (length text.now) (start.at + 64 * length words.old))
         result words.new }
 {
-    clear(words);
     let stop = stop_of(start.at, text, words.len());
+    if words.len() == 1 {
+        let here = one_word(table, profile, start, stop, text, words);
+        words[0] = here.count as u64;
+        return here;
+    }
+    clear(words);
     let mut here = start;
     while here.at < stop {
         here = mark_further(table, profile, here, start.at, stop, text, words);

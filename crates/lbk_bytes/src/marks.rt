@@ -1,6 +1,6 @@
 //! Bits in words of 64, one for each byte of a text from a place on.
 
-ghost use Rattle.std.specs.Prelude.{◌≡◌, ℕ, ◌+◌, ◌-◌, ◌*◌, ◌/◌, ◌%◌, ◌<◌, ◌≤◌, ◌==◌, ◌&&◌, ◌||◌, false, length, map};
+ghost use Rattle.std.specs.Prelude.{◌≡◌, ℕ, ◌+◌, ◌-◌, ◌*◌, ◌/◌, ◌%◌, ◌<◌, ◌≤◌, ◌==◌, ◌&&◌, ◌||◌, ◌∷◌, [], false, length, map};
 ghost use Rattle.std.specs.Prelude.{nat_le, slice_index_or};
 ghost use Rattle.lbk_masks.specs.Sets.{is_set};
 ghost use Rattle.lbk_bytes.specs.Marks.{is_marked};
@@ -30,6 +30,16 @@ pub(crate) fn mark(words: &mut [u64], index: usize, is_set: bool)
     ensures { (i : ℕ) → is_marked words.new i ≡ (is_marked words.old i || (is_set && (index == i))) }
 {
     words[index / BITS] |= u64::from(is_set) << (index % BITS);
+}
+
+/// Sets a bit of one word, if it is to be set.
+#[inline(always)]
+pub(crate) fn with_bit(word: usize, index: usize, is_set: bool) -> usize
+    requires { index < 64 }
+    ensures more { word ≤ result }
+    ensures bits { (i : ℕ) → is_marked (result ∷ []) i ≡ (is_marked (word ∷ []) i || (is_set && (index == i))) }
+{
+    word | (usize::from(is_set) << index)
 }
 
 /// Sets bits of some words that are set in a number, the first of them at an index. Those behind the last word are left

@@ -1,6 +1,6 @@
 //! What is written of the positions that the loops decide: breaks into a block, or bits into words.
 
-ghost use Rattle.std.specs.Prelude.{◌≡◌, ℕ, ◌+◌, ◌*◌, ◌<◌, ◌≤◌, List, IsTrue, length};
+ghost use Rattle.std.specs.Prelude.{◌≡◌, ℕ, ◌+◌, ◌*◌, ◌<◌, ◌≤◌, ◌∷◌, [], List, IsTrue, length};
 ghost use Rattle.lbk_rules.specs.declared.Cell.{Cell};
 ghost use Rattle.lbk_values.specs.declared.profile.Profile.{Profile};
 ghost use Rattle.lbk_rules.specs.FlatTable.{KnowsTaken};
@@ -13,7 +13,7 @@ ghost use Rattle.lbk_bytes.specs.Reached.{Ahead, IsInOrder, Reached};
 ghost use Rattle.lbk_bytes.specs.Shown.{given_in};
 
 use crate::filling::put;
-use crate::marks::mark;
+use crate::marks::{mark, with_bit};
 use crate::raw_break::RawBreak;
 use lbk_rules::shows_break;
 
@@ -123,5 +123,39 @@ impl Target for Bits {
     fn put(self, words: &mut [u64], count: usize, at: usize, shown: u16) -> usize {
         mark(words, at - self.from, shows_break(shown));
         count
+    }
+}
+
+/// The same in one word, gathered in a register: what a loop counts is the word. Nothing is written to memory.
+#[derive(Clone, Copy)]
+pub(crate) struct Word {
+    /// The byte that the lowest bit is for.
+    pub(crate) from: usize,
+}
+
+impl Target for Word {
+    type Place = u64;
+
+    ghost fits = { λ word out count at stop. (word.from ≤ at) × (stop ≤ word.from + 64) };
+
+    ghost takes = { λ word out count at. (word.from ≤ at) × (at < word.from + 64) };
+
+    ghost in_order = { λ word out count from at. AreClear word.from at (count ∷ []) };
+
+    ghost reached = { λ word profile cell text all last here out. Marked profile cell text all word.from last here (here.count ∷ []) };
+
+    #[inline(always)]
+    fn has_room(self, _words: &[u64], _bits: usize) -> bool {
+        true
+    }
+
+    #[inline(always)]
+    fn is_full(self, _words: &[u64], _bits: usize) -> bool {
+        false
+    }
+
+    #[inline(always)]
+    fn put(self, _words: &mut [u64], bits: usize, at: usize, shown: u16) -> usize {
+        with_bit(bits, at - self.from, shows_break(shown))
     }
 }

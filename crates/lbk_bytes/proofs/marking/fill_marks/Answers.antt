@@ -1,5 +1,17 @@
-use Rattle.std.proofs.Common.{arith}
+use Rattle.std.proofs.Common.{◌∷◌, [], set, subst, arith}
+use Rattle.lbk_bytes.specs.Marking.{Marked}
+use Rattle.lbk_bytes.proofs.MarkLemmas.{as-other}
 use Rattle.lbk_bytes.proofs.marking.fill_marks.Goals as goal
+
+pub returns-then-words-eq1-clause-marked : goal.returns-then-words-eq1-clause-marked
+returns-then-words-eq1-clause-marked c = λ cell all flat start.
+    let a = c.args in
+    let word = c.one_word-here in
+    let here = word.result in
+    subst (λ n. Marked a.profile cell a.text.now all a.start.at n here (set word.new.words 0 here.count)) c.stop_of-stop.ensures
+    (subst (λ l. Marked a.profile cell a.text.now all a.start.at c.stop_of-stop.result here l)
+    (as-other word.new.words here.count (omega arith))
+    (word.ensures.marked cell all flat start))
 
 pub loop-here-preserved : goal.loop-here-preserved
 loop-here-preserved c =
