@@ -92,14 +92,13 @@ pub(crate) fn mark_block(
     };
     let end = start.at + BLOCK.min(text.len() - start.at);
     let mut here = start;
-    let mut least = 1;
     while here.at < end {
         let there = mark_told(pairs, start.at, marks, here, from, text, words);
         if end <= there.at {
             return there;
         }
-        least = least_behind(there.at == here.at, least);
-        let stop = behind_stops(marks.stops, start.at, there.at, end, least);
+        let untold = there.at == here.at;
+        let stop = steps_end(untold, marks.stops, start.at, there.at, end);
         here = runs(Bits { from }, kinds, steps, there, stop, text, words);
         if here.at == there.at {
             return here;
@@ -108,33 +107,32 @@ pub(crate) fn mark_block(
     here
 }
 
-/// How many bytes at most are taken by steps before the marks are asked again, where these told nothing.
-const MOST: usize = 8;
+/// How many bytes are taken by steps where the marks tell nothing. After a byte of which they know no row, as among
+/// control characters, they tell nothing of the next.
+const UNTOLD: usize = 6;
 
-/// How many bytes at least are taken by steps, where it was so many before: ever more, while the marks tell nothing.
-/// After a byte of which they know no row, as among control characters, they tell nothing of the next.
+/// Up to where bytes of a block are taken by steps, by whether its marks told nothing of those before.
 #[inline(always)]
-fn least_behind(told_nothing: bool, least: usize) -> usize
-    requires { (0 < least) × (least ≤ 8) }
-    ensures { (0 < result) × (result ≤ 8) }
+fn steps_end(told_nothing: bool, stops: u64, at: usize, here: usize, end: usize) -> usize
+    requires { (at ≤ here) × (here < at + 64) × (here < end) }
+    ensures { (here < result) × (result ≤ end) }
 {
     if told_nothing {
-        (2 * least).min(MOST)
-    } else {
-        1
+        return here.saturating_add(UNTOLD).min(end);
     }
+    behind_stops(stops, at, here, end)
 }
 
-/// Up to where the bytes of a block are left to steps from one on, and such as go on with a scalar: so many bytes at
-/// least, or more.
+/// Up to where the bytes of a block are left to steps from one on, and such as go on with a scalar: the next byte, or a
+/// later one.
 #[inline(always)]
-fn behind_stops(stops: u64, at: usize, here: usize, end: usize, least: usize) -> usize
-    requires { (at ≤ here) × (here < at + 64) × (here < end) × (0 < least) × (least ≤ 8) }
+fn behind_stops(stops: u64, at: usize, here: usize, end: usize) -> usize
+    requires { (at ≤ here) × (here < at + 64) × (here < end) }
     ensures { (here < result) × (result ≤ end) }
 {
     let told = !(stops | (stops << 1));
     let many = (told >> (here - at)).trailing_zeros() as usize;
-    here.saturating_add(many.max(least)).min(end)
+    (here + 1).max(here.saturating_add(many)).min(end)
 }
 
 /// Takes bytes of a block up to the first that is left to steps, if the row here is that of the byte before.

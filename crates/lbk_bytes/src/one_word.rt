@@ -20,7 +20,9 @@ use crate::target::Word;
 use lbk_rules::{FlatTable, Neighbours, Profile, Rows, rows_of};
 
 /// A bit for each break from the start on, before a byte that is at most 64 further, in the place of the count. The
-/// words, of which there is one, are for what is done meanwhile.
+/// words, of which there is one, are for what is done meanwhile. It stands apart, so that what its loops need stays in
+/// registers.
+#[inline(never)]
 pub(crate) fn one_word(
     table: &FlatTable,
     profile: Profile,

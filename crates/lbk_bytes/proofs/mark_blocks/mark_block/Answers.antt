@@ -23,8 +23,6 @@ loop-here-preserved c =
       row = here.within.1;
       within = here.within.2;
       onward = omega (arith, there.within.1, here.onward.0);
-      some = c.least_behind-least.ensures.0;
-      few = c.least_behind-least.ensures.1;
       none = λ clear. here.in_order 0 (λ i past. there.after i past ∙ l.invariant.none clear i (omega (arith, there.within.1)));
       marked = λ profile cell more all swift are_kinds told start.
           here.reached profile cell more all (length c.args.text.now) swift are_kinds (omega arith)

@@ -1,4 +1,4 @@
-use Rattle.std.proofs.Common.{◌≡◌, ◌+◌, ◌-◌, ◌<◌, ◌≤◌, ◌++◌, ℕ, List, length}
+use Rattle.std.proofs.Common.{◌≡◌, ◌+◌, ◌-◌, ◌≤◌, ◌++◌, ℕ, List, length}
 use Rattle.lbk_rules.specs.declared.Cell.{Cell}
 use Rattle.lbk_values.specs.declared.profile.Profile.{Profile}
 use Rattle.lbk_rules.specs.FlatTable.{AreFlatKinds}
@@ -13,8 +13,6 @@ invariant-loop-here l = record {
   row : IsPlace l.here.row;
   within : l.here.at ≤ length l.text;
   onward : l.fn.start.at ≤ l.here.at;
-  some : 0 < l.least;
-  few : l.least ≤ 8;
   none : AreClear l.from l.fn.start.at l.fn.words → AreClear l.from l.here.at l.words;
   marked : (profile : Profile) (cell : ℕ → Cell) (more : List ℕ) (all : Ahead) → l.steps ≡ steps_in profile
       → AreFlatKinds l.kinds cell → AreTold l.steps l.kinds l.pairs
