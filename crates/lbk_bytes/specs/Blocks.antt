@@ -29,12 +29,14 @@ pub record Rests (pairs : Neighbours) (here : FillState) (text : List ℕ) : Typ
 
 -- whether the byte at a place stands out behind the one before it
 abbrev pub stands_at : Neighbours → List ℕ → ℕ → Bool
-stands_at pairs text place = meets (left_in pairs.sets (byte_at text (place - 1))) (right_in pairs.sets (byte_at text place))
+stands_at pairs text place = meets (left_in pairs.sets (byte_at text (place - 1)))
+    (right_in pairs.sets (byte_at text place))
 
 -- whether the byte at a place is left to steps, in a block that begins here
 abbrev pub stops_at : Neighbours → List ℕ → ℕ → ℕ → Bool
 stops_at pairs text at i =
-    is_special pairs (byte_at text (at + i - 1)) (byte_at text (at + i)) || is_stray (take (length text - at) (drop at text)) i
+    is_special pairs (byte_at text (at + i - 1)) (byte_at text (at + i))
+    || is_stray (take (length text - at) (drop at text)) i
 
 -- behind the end of a text all bits are set
 abbrev pub AreEnded : List ℕ → ℕ → ℕ → Type 0
@@ -59,14 +61,17 @@ pub record GoesOn (text : List ℕ) (place : ℕ) : Type 0 where
 
 -- a byte of a scalar of one byte or two: with the byte before it the first of a scalar tells the step by it, and the
 -- second stands behind the first and does not stand out
-pub record IsByteTold (steps : List (List Step)) (kinds : List ℕ) (pairs : Neighbours) (text : List ℕ) (place : ℕ) : Type 0 where
+pub record IsByteTold (steps : List (List Step)) (kinds : List ℕ) (pairs : Neighbours) (text : List ℕ)
+    (place : ℕ) : Type 0 where
   pub settled : (byte_at text place < 128) ⊎ (192 ≤ byte_at text place)
       → (byte_at text (place - 1) < 192) × AreSettled steps kinds pairs (byte_at text (place - 1)) (byte_at text place)
   pub goes_on : 192 ≤ byte_at text place → GoesOn text (place + 1)
-  pub quiet : 128 ≤ byte_at text place → byte_at text place < 192 → (192 ≤ byte_at text (place - 1)) × (stands_at pairs text place ≡ false)
+  pub quiet : 128 ≤ byte_at text place → byte_at text place < 192
+      → (192 ≤ byte_at text (place - 1)) × (stands_at pairs text place ≡ false)
 
 -- from one on the first bytes of the block are scalars of one byte or two, whose last is there too
-pub record IsBlock (profile : Profile) (cell : ℕ → Cell) (steps : List (List Step)) (kinds : List ℕ) (pairs : Neighbours) (text : List ℕ) (at begin taken : ℕ) : Type 0 where
+pub record IsBlock (profile : Profile) (cell : ℕ → Cell) (steps : List (List Step)) (kinds : List ℕ)
+    (pairs : Neighbours) (text : List ℕ) (at begin taken : ℕ) : Type 0 where
   pub steps_are : steps ≡ steps_in profile
   pub kinds_are : AreFlatKinds kinds cell
   pub few : taken ≤ 64
@@ -92,7 +97,8 @@ end_at text place = if nat_le 192 (byte_at text (place - 1)) then place + 1 else
 
 -- where a call stands in a text whose scalars up to here were taken
 abbrev pub place_at : Neighbours → List ℕ → ℕ → ℕ → FillState
-place_at pairs text count place = record { count = count; row = row_before pairs text (end_at text place); at = end_at text place }
+place_at pairs text count place =
+    record { count = count; row = row_before pairs text (end_at text place); at = end_at text place }
 
 abbrev pub place_in : Neighbours → List ℕ → BlockState → FillState
 place_in pairs text here = place_at pairs text here.count here.past

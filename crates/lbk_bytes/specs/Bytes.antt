@@ -44,7 +44,8 @@ abbrev pub end_in : Bool → AtEnd
 end_in true = open_end
 end_in false = closed_end
 
--- of a part of a text these by itself: where the text goes on after it, all but the last, and what comes there at the end
+-- of a part of a text these by itself: where the text goes on after it, all but the last, and what comes there at the
+-- end
 abbrev pub of_part : Bool → List Break → List Break → List Break
 of_part false alone at_end = alone
 of_part true alone at_end = take (length alone - 1) alone ++ at_end

@@ -13,8 +13,10 @@ abbrev pub scalar_at : List ℕ → ℕ → ℕ
 scalar_at text at = or_replacement (decoded (drop at text)).char
 
 -- after the scalars taken, the position at this byte is decided, and what begins there is taken
-pub record IsDecided (profile : Profile) (cell : ℕ → Cell) (text : List ℕ) (at : ℕ) (taken : List ℕ) (found : Decided) : Type 0 where
+pub record IsDecided (profile : Profile) (cell : ℕ → Cell) (text : List ℕ) (at : ℕ) (taken : List ℕ)
+    (found : Decided) : Type 0 where
   pub moved : found.at ≡ at + (decoded (drop at text)).size
   pub knows : KnowsTaken cell found.row (taken ++ scalar_at text at ∷ [])
   pub decides : verdict_shown found.shown
-      ≡ verdict_between_in profile (map cell taken) (cell (scalar_at text at) ∷ map cell (lossy_chars (drop found.at text)))
+      ≡ verdict_between_in profile (map cell taken)
+      (cell (scalar_at text at) ∷ map cell (lossy_chars (drop found.at text)))

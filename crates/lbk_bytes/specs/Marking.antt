@@ -27,7 +27,8 @@ uncounted here = record { count = 0; row = here.row; at = here.at }
 
 -- some breaks were given, all before byte `stop`: their bits are set, counted from byte `from` on, and no others; the
 -- call stands between two scalars, of which the one before began before that byte
-pub record Marked (profile : Profile) (cell : ℕ → Cell) (text : List ℕ) (all : Ahead) (from stop : ℕ) (here : FillState) (words : List ℕ) : Type 0 where
+pub record Marked (profile : Profile) (cell : ℕ → Cell) (text : List ℕ) (all : Ahead) (from stop : ℕ)
+    (here : FillState) (words : List ℕ) : Type 0 where
   pub given : List Break
   pub reached : Reached profile cell text all (uncounted here) given
   pub below : AreBelow stop given

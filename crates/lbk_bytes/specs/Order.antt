@@ -25,8 +25,10 @@ AreBreaks block count = (k : ℕ) → k < count → IsBreak (slice_index_or bloc
 -- behind those before it
 pub record AreInOrderBy (Is : RawBreak → Type 0) (block : List RawBreak) (count from to : ℕ) : Type 0 where
   pub each : (k : ℕ) → k < count → Is (slice_index_or block k no_break)
-  pub within : (k : ℕ) → k < count → (from ≤ (slice_index_or block k no_break).at) × ((slice_index_or block k no_break).at < to)
-  pub rising : (k : ℕ) → k < count → (j : ℕ) → j < k → (slice_index_or block j no_break).at < (slice_index_or block k no_break).at
+  pub within : (k : ℕ) → k < count → (from ≤ (slice_index_or block k no_break).at)
+      × ((slice_index_or block k no_break).at < to)
+  pub rising : (k : ℕ) → k < count → (j : ℕ) → j < k
+      → (slice_index_or block j no_break).at < (slice_index_or block k no_break).at
 
 -- the same of breaks, and of positions
 abbrev pub AreInOrder : List RawBreak → ℕ → ℕ → ℕ → Type 0

@@ -54,7 +54,8 @@ position_end_in true = open_end
 position_end_in false = last_position
 
 -- of all these were given, and the others come from here on
-pub record ReachedBy (from : Onward) (profile : Profile) (cell : ℕ → Cell) (text : List ℕ) (all : List Break) (here : FillState) (given : List Break) : Type 0 where
+pub record ReachedBy (from : Onward) (profile : Profile) (cell : ℕ → Cell) (text : List ℕ) (all : List Break)
+    (here : FillState) (given : List Break) : Type 0 where
   pub taken : List ℕ
   pub knows : KnowsTaken cell here.row taken
   pub some : 0 < here.row → 0 < length taken

@@ -143,7 +143,7 @@ fn block(
     let end = start.at + BLOCK.min(text.len() - start.at);
     let mut here = start;
     while here.at < end {
-        let there = told(pairs, kinds, steps, start.at, marks, here, text, out);
+        let there = take_masked(pairs, kinds, steps, start.at, marks, here, text, out);
         if end <= there.at {
             return there;
         }
@@ -194,7 +194,7 @@ fn past_end(length: usize) -> u64
 
 /// Takes bytes of a block up to the first that is left to steps, if the row here is that of the byte before.
 #[inline(always)]
-fn told(
+fn take_masked(
     pairs: &Neighbours,
     kinds: &[u8; CODES],
     steps: &Rows,

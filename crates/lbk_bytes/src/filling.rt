@@ -71,13 +71,13 @@ fn short<const MASKS: bool>(
         return start;
     }
     let steps = rows_of(profile);
-    let begun = few::<MASKS>(table, profile, steps, start, text, out);
+    let begun = try_short_block::<MASKS>(table, profile, steps, start, text, out);
     scalars(Breaks, &table.kinds, steps, begun, text.len(), text, out)
 }
 
 /// Takes a block of a text of fewer than 64 bytes, unless they are very few or of scalars that a block leaves to steps.
 #[inline(always)]
-fn few<const MASKS: bool>(
+fn try_short_block<const MASKS: bool>(
     table: &FlatTable,
     profile: Profile,
     steps: &Rows,

@@ -93,7 +93,7 @@ pub(crate) fn mark_block(
     let end = start.at + BLOCK.min(text.len() - start.at);
     let mut here = start;
     while here.at < end {
-        let there = mark_told(pairs, start.at, marks, here, from, text, words);
+        let there = mark_masked(pairs, start.at, marks, here, from, text, words);
         if end <= there.at {
             return there;
         }
@@ -137,7 +137,7 @@ fn behind_stops(stops: u64, at: usize, here: usize, end: usize) -> usize
 
 /// Takes bytes of a block up to the first that is left to steps, if the row here is that of the byte before.
 #[inline(always)]
-fn mark_told(
+fn mark_masked(
     pairs: &Neighbours,
     at: usize,
     marks: Marks,

@@ -1,7 +1,7 @@
 //! Bits in words of 64, one for each byte of a text from a place on.
 
-ghost use Rattle.std.specs.Prelude.{◌≡◌, ℕ, ◌+◌, ◌-◌, ◌*◌, ◌/◌, ◌%◌, ◌<◌, ◌≤◌, ◌==◌, ◌&&◌, ◌||◌, ◌∷◌, [], false, length, map};
-ghost use Rattle.std.specs.Prelude.{nat_le, slice_index_or};
+ghost use Rattle.std.specs.Prelude.{◌≡◌, ℕ, ◌+◌, ◌-◌, ◌*◌, ◌/◌, ◌%◌, ◌<◌, ◌≤◌, ◌==◌, ◌&&◌, ◌||◌, ◌∷◌, [], false};
+ghost use Rattle.std.specs.Prelude.{length, map, nat_le, slice_index_or};
 ghost use Rattle.lbk_masks.specs.Sets.{is_set};
 ghost use Rattle.lbk_bytes.specs.Marks.{is_marked};
 

@@ -73,7 +73,8 @@ impl Target for Breaks {
 
     ghost in_order = { λ _ out count from at. IsInOrder out count from at };
 
-    ghost reached = { λ _ profile cell text all last here out. Reached profile cell text all here (given_in out here.count) };
+    ghost reached = { λ _ profile cell text all last here out.
+        Reached profile cell text all here (given_in out here.count) };
 
     #[inline(always)]
     fn has_room(self, out: &[RawBreak], count: usize) -> bool {
@@ -107,7 +108,8 @@ impl Target for Bits {
 
     ghost in_order = { λ bits words count from at. AreClear bits.from at words };
 
-    ghost reached = { λ bits profile cell text all last here words. Marked profile cell text all bits.from last here words };
+    ghost reached = { λ bits profile cell text all last here words.
+        Marked profile cell text all bits.from last here words };
 
     #[inline(always)]
     fn has_room(self, _words: &[u64], _count: usize) -> bool {
@@ -142,7 +144,8 @@ impl Target for Word {
 
     ghost in_order = { λ word out count from at. AreClear word.from at (count ∷ []) };
 
-    ghost reached = { λ word profile cell text all last here out. Marked profile cell text all word.from last here (here.count ∷ []) };
+    ghost reached = { λ word profile cell text all last here out.
+        Marked profile cell text all word.from last here (here.count ∷ []) };
 
     #[inline(always)]
     fn has_room(self, _words: &[u64], _bits: usize) -> bool {

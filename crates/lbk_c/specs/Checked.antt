@@ -6,7 +6,8 @@ use Rattle.lbk_rules.specs.declared.neighbours.Neighbours.{Neighbours}
 
 -- those of neighbours
 abbrev pub numbers_of_neighbours : Neighbours → List ℕ
-numbers_of_neighbours pairs = flat_map (λ row. row) pairs.sets.classes ++ pairs.sets.left ++ pairs.sets.right ++ pairs.rows
+numbers_of_neighbours pairs = flat_map (λ row. row) pairs.sets.classes ++ pairs.sets.left ++ pairs.sets.right
+    ++ pairs.rows
 
 -- all, in their order
 abbrev pub numbers_of : FlatTable → List ℕ

@@ -20,4 +20,5 @@ which_numbered number =
 -- the 96 bytes of what a file of this name is, by what it says of itself; zeros where it is no file
 abbrev pub IsClaimText : Option Which → List ℕ → List ℕ → Type 0
 IsClaimText None contents text = text ≡ padded 96 []
-IsClaimText (Some which) contents text = (cause : ClaimCause) × IsNamedWrong which contents cause × (text ≡ padded 96 (claim_text which cause))
+IsClaimText (Some which) contents text = (cause : ClaimCause) × IsNamedWrong which contents cause
+    × (text ≡ padded 96 (claim_text which cause))

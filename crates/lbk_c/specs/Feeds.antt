@@ -1,5 +1,6 @@
 -- What a call promises that takes the next piece of a stream of units: each set of clauses once.
-use Rattle.std.specs.Prelude.{◌≡◌, ℕ, suc, ◌+◌, ◌-◌, ◌<◌, ◌≤◌, ◌⊎◌, Bool, true, false, List, [], ◌++◌, drop, length, take}
+use Rattle.std.specs.Prelude.{◌≡◌, ℕ, suc, ◌+◌, ◌-◌, ◌<◌, ◌≤◌, ◌⊎◌, Bool, true, false, List, [], ◌++◌}
+use Rattle.std.specs.Prelude.{drop, length, take}
 use Rattle.bstr.specs.Utf8.{Decoded}
 use Rattle.lbk_rules.specs.declared.Break.{Break}
 use Rattle.lbk_rules.specs.declared.Cell.{Cell}
@@ -12,9 +13,11 @@ use Rattle.lbk_streams.specs.declared.stream.Stream.{Stream}
 use Rattle.lbk_streams.specs.Stands.{StreamsIn}
 use Rattle.lbk_streams.specs.Streams.{AreUnsettledIn, IsSoundIn, cut_units, most_left_in, next_place, place_of}
 
--- whatever the table and the stream, of a piece of so many units: at most one break for each unit, one that waited and the end;
--- from a stream's start on their places rise, in a call and from one call to the next; and where the stream stays
-pub record FeedsOver {A : Type 0} (carried : List ℕ → List A) (old new : Stream) (size : ℕ) (last : Bool) (room : ℕ) (out : List RawBreak) (fed : Fed) : Type 0 where
+-- whatever the table and the stream, of a piece of so many units: at most one break for each unit, one that waited and
+-- the end; from a stream's start on their places rise, in a call and from one call to the next; and where the stream
+-- stays
+pub record FeedsOver {A : Type 0} (carried : List ℕ → List A) (old new : Stream) (size : ℕ) (last : Bool) (room : ℕ)
+    (out : List RawBreak) (fed : Fed) : Type 0 where
   pub within : (fed.count ≤ room) × (fed.taken ≤ size)
   pub all_taken : fed.count < room → fed.taken ≡ size
   pub profile_same : new.profile ≡ old.profile
@@ -28,16 +31,20 @@ pub record FeedsOver {A : Type 0} (carried : List ℕ → List A) (old new : Str
   pub place : IsSoundIn carried old size → old.ended ≡ 0 → old.profile ≤ 3
       → new.at + length (cut_units carried new) ≡ old.at + length (cut_units carried old) + fed.taken
   pub only_last : last ≡ false → new.ended ≡ old.ended
-  pub closed : last ≡ true → old.ended ≡ 0 → old.profile ≤ 3 → fed.count < room → (new.cut_size ≡ 0) × (new.held_code ≡ 0)
+  pub closed : last ≡ true → old.ended ≡ 0 → old.profile ≤ 3 → fed.count < room
+      → (new.cut_size ≡ 0) × (new.held_code ≡ 0)
   pub ended : last ≡ true → fed.count < room → 0 < new.ended ⊎ (3 < old.profile)
   pub stays : 0 < old.ended ⊎ ((3 < old.profile) ⊎ (room ≡ 0)) → (fed.count ≡ 0) × (new ≡ old)
   pub no_room : room ≡ 0 → fed.taken ≡ 0
 
--- whatever units follow the piece (none, where it is the last), if these breaks are to come of all of them: what is given comes
--- first of these, and the others come next
-pub record FeedsNext {A : Type 0} (pieces_of : List A → List Decoded) (carried : List ℕ → List A) (could_go_on : List A → Bool) (cell : ℕ → Cell) (table : FlatTable) (old new : Stream) (piece more : List A) (last : Bool) (room : ℕ) (out : List RawBreak) (fed : Fed) (to_come : List Break) : Type 0 where
+-- whatever units follow the piece (none, where it is the last), if these breaks are to come of all of them: what is
+-- given comes first of these, and the others come next
+pub record FeedsNext {A : Type 0} (pieces_of : List A → List Decoded) (carried : List ℕ → List A)
+    (could_go_on : List A → Bool) (cell : ℕ → Cell) (table : FlatTable) (old new : Stream) (piece more : List A)
+    (last : Bool) (room : ℕ) (out : List RawBreak) (fed : Fed) (to_come : List Break) : Type 0 where
   pub front : (last ≡ true → more ≡ []) → given_in out fed.count ≡ take fed.count to_come
-  pub rest : (last ≡ true → more ≡ []) → StreamsIn pieces_of carried cell table new (drop fed.taken piece ++ more) (drop fed.count to_come)
+  pub rest : (last ≡ true → more ≡ []) → StreamsIn pieces_of carried cell table new (drop fed.taken piece ++ more)
+      (drop fed.count to_come)
   pub settled : last ≡ false → old.ended ≡ 0 → fed.count < room
       → AreUnsettledIn pieces_of carried could_go_on cell new more (drop fed.count to_come)
   pub seen : (last ≡ true → more ≡ []) → old.ended ≡ 0

@@ -9,4 +9,6 @@ use Rattle.lbk_bytes.specs.Bytes.{breaks_of_bytes}
 -- the last breaks of a text are those of the text that begins at this byte, moved by the bytes before it
 abbrev pub IsSafeBreak : Profile → (ℕ → Cell) → List ℕ → ℕ → Type 0
 IsSafeBreak profile cell text place =
-    (front : List Break) × (breaks_of_bytes profile cell text ≡ front ++ map (moved place) (breaks_of_bytes profile cell (drop place text)))
+    (front : List Break)
+    × (breaks_of_bytes profile cell text
+    ≡ front ++ map (moved place) (breaks_of_bytes profile cell (drop place text)))

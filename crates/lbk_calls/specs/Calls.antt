@@ -5,9 +5,10 @@ use Rattle.lbk_bytes.specs.declared.raw_break.RawBreak.{RawBreak}
 use Rattle.lbk_bytes.specs.Shown.{given_in}
 use Rattle.lbk_calls.specs.declared.interface.State.{State}
 
--- whatever the table, the state and the text, which has so many units: where what is given stands, of which `InOrder` says that it
--- is of rules and in order; how far the state goes; and where it stays
-pub record GoesOver (InOrder : List RawBreak → ℕ → ℕ → ℕ → Type 0) (old new : State) (size room : ℕ) (out : List RawBreak) (result : ℕ) : Type 0 where
+-- whatever the table, the state and the text, which has so many units: where what is given stands, of which `InOrder`
+-- says that it is of rules and in order; how far the state goes; and where it stays
+pub record GoesOver (InOrder : List RawBreak → ℕ → ℕ → ℕ → Type 0) (old new : State) (size room : ℕ)
+    (out : List RawBreak) (result : ℕ) : Type 0 where
   pub within : result ≤ room
   pub profile_same : new.profile ≡ old.profile
   pub in_order : InOrder out result old.at (suc size)
@@ -35,7 +36,8 @@ pub record GoesFrom (InOrder : List RawBreak → ℕ → ℕ → ℕ → Type 0)
   pub all : result < room → 0 < new.ended
 
 -- where these come from a state on: as many of them are given as there is room for, and the others come next
-pub record GivesNext (Come : State → List Break → Type 0) (new : State) (room : ℕ) (out : List RawBreak) (result : ℕ) (to_come : List Break) : Type 0 where
+pub record GivesNext (Come : State → List Break → Type 0) (new : State) (room : ℕ) (out : List RawBreak) (result : ℕ)
+    (to_come : List Break) : Type 0 where
   pub count : result ≡ min room (length to_come)
   pub front : given_in out result ≡ take result to_come
   pub rest : Come new (drop result to_come)

@@ -17,13 +17,15 @@ abbrev pub from_state : State → FillState
 from_state state = record { count = 0; row = state.row; at = state.at }
 
 -- from the state on these come of this text, if it has not given all
-pub record OntoBy (from : Onward) (profile : Profile) (cell : ℕ → Cell) (text : List ℕ) (state : State) (to_come : List Break) : Type 0 where
+pub record OntoBy (from : Onward) (profile : Profile) (cell : ℕ → Cell) (text : List ℕ) (state : State)
+    (to_come : List Break) : Type 0 where
   pub within : state.at ≤ length text
   pub goes_on : state.ended ≡ 0 → ReachedBy from profile cell text to_come (from_state state) []
   pub none_come : 0 < state.ended → to_come ≡ []
 
 -- the state came of the start of this text, and these are to come
-pub record ComesBy (from : Onward) (cell : ℕ → Cell) (table : FlatTable) (text : List ℕ) (state : State) (to_come : List Break) : Type 0 where
+pub record ComesBy (from : Onward) (cell : ℕ → Cell) (table : FlatTable) (text : List ℕ) (state : State)
+    (to_come : List Break) : Type 0 where
   pub profile : Profile
   pub named : profile_numbered state.profile ≡ Some profile
   pub flat : IsFlatOf table cell
@@ -40,14 +42,16 @@ pub record IsGoing (profile : Profile) (state : State) (len : ℕ) : Type 0 wher
   pub within : state.at ≤ len
 
 -- of those to come as many were given as there was room for, and the others come from the state on
-pub record GoesBy (from : Onward) (profile : Profile) (cell : ℕ → Cell) (text : List ℕ) (to_come : List Break) (state : State) (given : List Break) (count room : ℕ) : Type 0 where
+pub record GoesBy (from : Onward) (profile : Profile) (cell : ℕ → Cell) (text : List ℕ) (to_come : List Break)
+    (state : State) (given : List Break) (count room : ℕ) : Type 0 where
   pub counted : count ≡ min room (length to_come)
   pub front : given ≡ take count to_come
   pub onto : OntoBy from profile cell text state (drop count to_come)
 
 -- of the places from a byte on the bits tell at which those to come stand, and those behind come from the state on,
 -- which stands at the first scalar behind the places, or at the text's end
-pub record MarksBy (from : Onward) (profile : Profile) (cell : ℕ → Cell) (text : List ℕ) (to_come : List Break) (place : ℕ) (state : State) (words : List ℕ) : Type 0 where
+pub record MarksBy (from : Onward) (profile : Profile) (cell : ℕ → Cell) (text : List ℕ) (to_come : List Break)
+    (place : ℕ) (state : State) (words : List ℕ) : Type 0 where
   pub bits : (i : ℕ) → i < 64 * length words → is_marked words i ≡ stands_among (place + i) to_come
   pub onto : OntoBy from profile cell text state (from_on (place + 64 * length words) to_come)
   pub boundary : state.at ≡ boundary_from text place (place + 64 * length words)

@@ -8,7 +8,8 @@ use Rattle.lbk_calls.specs.Packing.{packed}
 abbrev pub BeginsIn : ℕ → List ℕ → Type 0
 BeginsIn version bytes = (rest : List ℕ) × (bytes ≡ codes "lbk" ++ (version ∷ rest))
 
--- what is wrong with bytes: in no version they begin so, in another, or in this one and they are the packed form of no kinds
+-- what is wrong with bytes: in no version they begin so, in another, or in this one and they are the packed form of no
+-- kinds
 abbrev pub IsRefusal : ℕ → List ℕ → Refusal → Type 0
 IsRefusal version bytes Foreign = ¬ ((any : ℕ) × BeginsIn any bytes)
 IsRefusal version bytes Version = (other : ℕ) × (other ≢ version) × BeginsIn other bytes

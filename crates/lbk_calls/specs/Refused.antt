@@ -19,4 +19,5 @@ PackOthers bytes = (kinds : List ℕ) × (bytes ≡ packed LAYOUT kinds) × (¬ 
 -- the cause of a refusal: they are no packed form, or pack no kinds
 abbrev pub IsCause : List ℕ → ℕ → Type 0
 IsCause bytes number =
-    ((refusal : Refusal) × IsRefusal LAYOUT bytes refusal × (number ≡ refusal_number refusal)) ⊎ ((number ≡ 13) × PackOthers bytes)
+    ((refusal : Refusal) × IsRefusal LAYOUT bytes refusal × (number ≡ refusal_number refusal))
+    ⊎ ((number ≡ 13) × PackOthers bytes)

@@ -12,7 +12,8 @@ abbrev pub rule_text_of : Rule → List ℕ
 rule_text_of Lb2 = codes "No break at the start of the text."
 rule_text_of Lb3 = codes "Always break at the end of the text."
 rule_text_of Lb4 = codes "Always break after a mandatory break (BK)."
-rule_text_of Lb5 = codes "CR LF is one line end. Break after it, and after a CR, LF or next line (NL) that stands alone."
+rule_text_of Lb5 =
+    codes "CR LF is one line end. Break after it, and after a CR, LF or next line (NL) that stands alone."
 rule_text_of Lb6 = codes "No break before a line end."
 rule_text_of Lb7 = codes "No break before a space or a zero width space."
 rule_text_of Lb8 = codes "A break is allowed after a zero width space, also where spaces follow it."

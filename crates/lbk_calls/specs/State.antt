@@ -20,4 +20,9 @@ plain state = record {
 -- the state at the start of a part of a text, which begins at a byte of it, and after which the text goes on or ends
 abbrev pub part_start : Bool → Profile → ℕ → State
 part_start goes_on profile at =
-    record { at = at; row = 0; profile = if goes_on then 2 + profile_number profile else profile_number profile; ended = 0 }
+    record {
+      at = at;
+      row = 0;
+      profile = if goes_on then 2 + profile_number profile else profile_number profile;
+      ended = 0;
+    }

@@ -13,5 +13,5 @@ returns-clause-reached g c = λ cell all flat start.
     let here = c.scalars in
     Reached-alone profile cell text all here.result (given_in here.new.out here.result.count)
     (here.ensures.reached profile cell [] all (length text) c.rows_of-steps.ensures flat.kinds (omega arith)
-    (c.few-begun.ensures.reached cell [] all flat
+    (c.try_short_block-begun.ensures.reached cell [] all flat
     (Reached-nothing profile cell text all c.args.start (given_in c.args.out.now c.args.start.count) start)))

@@ -4,20 +4,20 @@ use Rattle.lbk_bytes.proofs.mark_blocks.mark_block.Goals as goal
 pub returns-then-end-there-clause-marked : goal.returns-then-end-there-clause-marked
 returns-then-end-there-clause-marked c = λ profile cell more all swift are_kinds told start.
     let l = c.loop-here in
-    c.mark_told-there.ensures.marked profile cell c.args.steps.now c.args.kinds.now more all swift are_kinds told c.in-Some.ensures
+    c.mark_masked-there.ensures.marked profile cell c.args.steps.now c.args.kinds.now more all swift are_kinds told c.in-Some.ensures
     (l.invariant.marked profile cell more all swift are_kinds told start)
 
 pub returns-then-here-there-clause-marked : goal.returns-then-here-there-clause-marked
 returns-then-here-there-clause-marked c = λ profile cell more all swift are_kinds told start.
     let l = c.loop-here in
     c.runs-here.ensures.reached profile cell more all (length c.args.text.now) swift are_kinds (omega arith)
-    (c.mark_told-there.ensures.marked profile cell c.args.steps.now c.args.kinds.now more all swift are_kinds told c.in-Some.ensures
+    (c.mark_masked-there.ensures.marked profile cell c.args.steps.now c.args.kinds.now more all swift are_kinds told c.in-Some.ensures
     (l.invariant.marked profile cell more all swift are_kinds told start))
 
 pub loop-here-preserved : goal.loop-here-preserved
 loop-here-preserved c =
     let l = c.loop-here in
-    let there = c.mark_told-there.ensures in
+    let there = c.mark_masked-there.ensures in
     let here = c.runs-here.ensures in
     record {
       row = here.within.1;
@@ -33,5 +33,5 @@ loop-here-preserved c =
 pub returns-then-here-there-clause-none : goal.returns-then-here-there-clause-none
 returns-then-here-there-clause-none c = λ none.
     let l = c.loop-here in
-    let there = c.mark_told-there.ensures in
+    let there = c.mark_masked-there.ensures in
     c.runs-here.ensures.in_order 0 (λ i past. there.after i past ∙ l.invariant.none none i (omega (arith, there.within.1)))

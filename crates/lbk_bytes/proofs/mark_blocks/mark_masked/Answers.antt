@@ -13,7 +13,7 @@ use Rattle.lbk_bytes.proofs.BoundaryLemmas.{block-boundary}
 use Rattle.lbk_bytes.proofs.MarkBitLemmas.{none-past}
 use Rattle.lbk_bytes.proofs.MarkBlockLemmas.{block-from, block-taken, recount}
 use Rattle.lbk_bytes.proofs.MarkLemmas.{Marked-more, below-wider, marked-past, or-false}
-use Rattle.lbk_bytes.proofs.mark_blocks.mark_told.Goals as goal
+use Rattle.lbk_bytes.proofs.mark_blocks.mark_masked.Goals as goal
 
 pub behind_byte-requires : goal.behind_byte-requires
 behind_byte-requires c = (

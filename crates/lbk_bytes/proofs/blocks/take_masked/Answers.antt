@@ -7,7 +7,7 @@ use Rattle.lbk_bytes.proofs.BlockBeginLemmas.{is-block}
 use Rattle.lbk_bytes.proofs.BlockLemmas.{are-left}
 use Rattle.lbk_bytes.proofs.BlockOrderLemmas.{ahead-begins}
 use Rattle.lbk_bytes.proofs.BlockScalarLemmas.{arrive, end-low, rest-row}
-use Rattle.lbk_bytes.proofs.blocks.told.Goals as goal
+use Rattle.lbk_bytes.proofs.blocks.take_masked.Goals as goal
 
 pub finish-requires-clause-place : goal.finish-requires-clause-place
 finish-requires-clause-place c =

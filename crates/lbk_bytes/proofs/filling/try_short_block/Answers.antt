@@ -3,7 +3,7 @@ use Rattle.lbk_bytes.specs.declared.fill_state.FillState.{FillState}
 use Rattle.lbk_bytes.specs.Reached.{Reached}
 use Rattle.lbk_bytes.specs.Shown.{given_in}
 use Rattle.lbk_bytes.proofs.StepLemmas.{told-as}
-use Rattle.lbk_bytes.proofs.filling.few.Goals as goal
+use Rattle.lbk_bytes.proofs.filling.try_short_block.Goals as goal
 
 pub blocks-requires-clause-steps : goal.blocks-requires-clause-steps
 blocks-requires-clause-steps g c = (c.args.profile, c.requires.steps)
