@@ -1,4 +1,4 @@
-//! Blocks of up to 64 bytes whose breaks the sets of their bytes tell, so that no step waits for the one before it.
+//! Breaks in blocks of up to 64 bytes from the sets of their bytes, so that no step waits for the one before it.
 
 ghost use Rattle.std.specs.Prelude.{◌≡◌, ℕ, ◌+◌, ◌-◌, ◌<◌, ◌≤◌, ◌++◌, List, length, nat_le, IfSome};
 ghost use Rattle.lbk_rules.specs.declared.Cell.{Cell};
@@ -34,7 +34,7 @@ pub(crate) const LEAST: usize = 20;
 /// What is known of the bytes of a block, a bit each.
 #[derive(Clone, Copy)]
 pub(crate) struct Marks {
-    /// Which stand out after the byte before.
+    /// Bytes with a candidate break before them.
     pub(crate) standing: u64,
     /// Which are left to steps: those that are special, or of no scalar of one or two bytes in the block. Behind the
     /// text's end all bits are set.
@@ -44,7 +44,7 @@ pub(crate) struct Marks {
 /// How far a block of bytes was taken.
 #[derive(Clone, Copy)]
 pub(crate) struct BlockState {
-    /// How many breaks stand in the front of the block of breaks.
+    /// How many breaks are at the front of the block of breaks.
     pub(crate) count: usize,
     /// Up to here the bytes were taken.
     pub(crate) past: usize,

@@ -201,7 +201,7 @@ fn is_second(first: u8, next: u8) -> bool
     }
 }
 
-/// Whether a byte may stand after the first of a scalar.
+/// Whether a byte may follow the first byte of a scalar.
 #[inline(always)]
 fn is_continuation(byte: u8) -> bool
     ensures { result ≡ continues byte }

@@ -203,7 +203,7 @@ fn further<const MASKS: bool>(
 /// How far a part of a text was taken, and up to where it goes.
 #[derive(Clone, Copy)]
 pub(crate) struct Part {
-    /// How far a call has come.
+    /// How far a call got.
     pub(crate) here: FillState,
     /// Where blocks are tried again.
     pub(crate) until: usize,

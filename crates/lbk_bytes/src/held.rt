@@ -23,7 +23,7 @@ pub(crate) fn take_ones<T: Target>(
     start: FillState,
     stop: usize,
     text: &[u8],
-    out: &mut [T::Place],
+    out: &mut [T::Entry],
 ) -> FillState
     requires { T.takes target out.old start.count start.at × T.fits target out.old start.count start.at stop
         × IsPlace start.row × (start.at < stop) × (stop ≤ length text.now) }
@@ -53,7 +53,7 @@ fn take_one<T: Target>(
     profile: Profile,
     here: FillState,
     text: &[u8],
-    out: &mut [T::Place],
+    out: &mut [T::Entry],
 ) -> FillState
     requires { T.takes target out.old here.count here.at × IsPlace here.row × (here.at < length text.now) }
     ensures within { IsPlace result.row × (here.at < result.at) × (result.at ≤ length text.now) }

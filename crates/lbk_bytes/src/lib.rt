@@ -1,5 +1,5 @@
-//! The breaks of bytes in memory: a block of breaks is filled from a place of the text on, by the steps of a table,
-//! with nothing allocated and no state kept. The calls of the library for C stand on it.
+//! The breaks of bytes in memory: fills a block of breaks from an offset of the text on, by the steps of a table. It
+//! allocates nothing and keeps no state. The library for C uses it.
 #![tactic(auto)]
 
 mod ahead;

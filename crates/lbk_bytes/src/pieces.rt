@@ -29,7 +29,7 @@ pub(crate) fn pieces<T: Target>(
     start: FillState,
     stop: usize,
     text: &[u8],
-    out: &mut [T::Place],
+    out: &mut [T::Entry],
 ) -> FillState
     requires place { T.fits target out.old start.count start.at stop × IsPlace start.row
         × (start.at ≤ length text.now) × (stop ≤ length text.now) }

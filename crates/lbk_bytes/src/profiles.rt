@@ -5,7 +5,7 @@ ghost use Rattle.lbk_bytes.specs.Profiles.{goes_on, plain_number, profile_number
 
 use lbk_rules::Profile;
 
-/// The profile of a number: 0 for the first, 1 for the second. None comes for any other.
+/// The profile of a number: 0 for the first, 1 for the second; `None` for any other.
 pub fn profile_numbered(number: u8) -> Option<Profile>
     ensures { result ≡ profile_numbered number }
 {

@@ -4,7 +4,7 @@
 #[repr(C)]
 #[derive(Clone, Copy)]
 pub struct RawBreak {
-    /// The byte that it stands before, counted from the text's start; the text's length at its end.
+    /// The offset of the byte after it; the text's length at its end.
     pub at: usize,
     /// Whether the line may or must end there: 1 for May, 2 for Must.
     pub kind: u8,

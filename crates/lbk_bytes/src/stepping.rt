@@ -24,7 +24,7 @@ pub(crate) fn quick<T: Target>(
     start: FillState,
     stop: usize,
     text: &[u8],
-    out: &mut [T::Place],
+    out: &mut [T::Entry],
 ) -> FillState
     requires place { T.fits target out.old start.count start.at stop × IsPlace start.row
         × (start.at ≤ length text.now) × (stop ≤ length text.now) }
@@ -63,7 +63,7 @@ pub(crate) fn scalars<T: Target>(
     start: FillState,
     stop: usize,
     text: &[u8],
-    out: &mut [T::Place],
+    out: &mut [T::Entry],
 ) -> FillState
     requires place { T.fits target out.old start.count start.at stop × IsPlace start.row
         × (start.at ≤ length text.now) × (stop ≤ length text.now) }
@@ -99,7 +99,7 @@ pub(crate) fn runs<T: Target>(
     start: FillState,
     stop: usize,
     text: &[u8],
-    out: &mut [T::Place],
+    out: &mut [T::Entry],
 ) -> FillState
     requires place { T.fits target out.old start.count start.at stop × IsPlace start.row
         × (start.at ≤ length text.now) × (stop ≤ length text.now) }
@@ -154,7 +154,7 @@ fn run<T: Target>(
     start: FillState,
     stop: usize,
     text: &[u8],
-    out: &mut [T::Place],
+    out: &mut [T::Entry],
 ) -> FillState
     requires place { T.fits target out.old start.count start.at stop × IsPlace start.row
         × (start.at ≤ length text.now) × (stop ≤ length text.now) }

@@ -19,32 +19,32 @@ use lbk_rules::shows_break;
 
 /// What is written, and where. Loops are the same for each.
 pub(crate) trait Target: Copy {
-    /// Where a break stands, or bits.
-    type Place;
+    /// An entry of a block of breaks, or a word of bits.
+    type Entry;
 
     // After so many breaks, all that is written before bytes from `at` to `stop` has its place.
-    ghost fits: { Self → List Self.Place → ℕ → ℕ → ℕ → Type 0 };
+    ghost fits: { Self → List Self.Entry → ℕ → ℕ → ℕ → Type 0 };
 
     // After so many breaks, a verdict before byte `at` has its place.
-    ghost takes: { Self → List Self.Place → ℕ → ℕ → Type 0 };
+    ghost takes: { Self → List Self.Entry → ℕ → ℕ → Type 0 };
 
     // So many breaks stand in order, from byte `from` on and before byte `at`.
-    ghost in_order: { Self → List Self.Place → ℕ → ℕ → ℕ → Type 0 };
+    ghost in_order: { Self → List Self.Entry → ℕ → ℕ → ℕ → Type 0 };
 
     // The call stands here in the text, and what it gave of all is what was written. Its scalars begin before `last`.
-    ghost reached: { Self → Profile → (ℕ → Cell) → List ℕ → Ahead → ℕ → FillState → List Self.Place → Type 0 };
+    ghost reached: { Self → Profile → (ℕ → Cell) → List ℕ → Ahead → ℕ → FillState → List Self.Entry → Type 0 };
 
     /// Whether there is a place for a position more.
-    fn has_room(self, out: &[Self::Place], count: usize) -> bool
+    fn has_room(self, out: &[Self::Entry], count: usize) -> bool
         ensures { (at stop : ℕ) → at < stop → fits self out.now count at stop → IsTrue result
             → takes self out.now count at };
 
     /// Whether there is none, whatever the position.
-    fn is_full(self, out: &[Self::Place], count: usize) -> bool
+    fn is_full(self, out: &[Self::Entry], count: usize) -> bool
         ensures { IsTrue result → (at : ℕ) → ¬ (takes self out.now count at) };
 
     /// Writes the verdict of a number, before a byte, and returns how many breaks are counted then.
-    fn put(self, out: &mut [Self::Place], count: usize, at: usize, shown: u16) -> usize
+    fn put(self, out: &mut [Self::Entry], count: usize, at: usize, shown: u16) -> usize
         requires room { takes self out.old count at }
         requires shown { IsShown shown }
         ensures counts { count ≤ result }
@@ -65,7 +65,7 @@ pub(crate) trait Target: Copy {
 pub(crate) struct Breaks;
 
 impl Target for Breaks {
-    type Place = RawBreak;
+    type Entry = RawBreak;
 
     ghost fits = { λ _ out count at stop. count ≤ length out };
 
@@ -100,7 +100,7 @@ pub(crate) struct Bits {
 }
 
 impl Target for Bits {
-    type Place = u64;
+    type Entry = u64;
 
     ghost fits = { λ bits words count at stop. (bits.from ≤ at) × (stop ≤ bits.from + 64 * length words) };
 
@@ -136,7 +136,7 @@ pub(crate) struct Word {
 }
 
 impl Target for Word {
-    type Place = u64;
+    type Entry = u64;
 
     ghost fits = { λ word out count at stop. (word.from ≤ at) × (stop ≤ word.from + 64) };
 

@@ -18,13 +18,13 @@ use lbk_bytes::RawBreak;
 use lbk_calls::{State, give_breaks};
 use lbk_rules::FlatTable;
 
-/// Puts the next breaks of a text (UAX #14, section 3) into the front of the block, from the state on, and returns
-/// how many: as many as the block holds, or all that are left. The text may be any bytes: each longest piece that
-/// begins no scalar is read as U+FFFD (Unicode Standard, section 3.9).
+/// Writes the next breaks of a text (UAX #14, section 3) to the front of the block, from the state on, and returns how
+/// many: as many as the block holds, or all that are left. The text may be any bytes; each maximal subpart of
+/// ill-formed bytes is read as U+FFFD (Unicode Standard, section 3.9).
 ///
-/// Where the block has no room, or the state is past the text or at its end, or names no profile, the state stays and
-/// no break comes. What stands in the block after the breaks is unspecified. With any table and state, the breaks are
-/// breaks of rules, in order, from the state's place on, and the state goes forward with them.
+/// Returns 0 and leaves the state unchanged if the block has no room, if the state is at or past the end of the text,
+/// or if its profile is unknown. The entries of the block after the breaks are unspecified. With any table and state,
+/// the breaks are breaks of rules, in order, from the state's offset on, and the state advances with them.
 #[unsafe(no_mangle)]
 pub extern "C" fn lbk_breaks(
     table: &FlatTable,

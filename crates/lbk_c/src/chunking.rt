@@ -12,12 +12,12 @@ ghost use Rattle.lbk_chunks.specs.Cuts.{cuts_of};
 use lbk_chunks::{Chunk, ChunkState, Limits, chunks};
 use lbk_rules::FlatTable;
 
-/// Puts the next chunks of a text into the front of the block, from the state on, and returns how many: as many as
-/// the block holds, or all that are left. The text may be any bytes.
+/// Writes the next chunks of a text to the front of the block, from the state on, and returns how many: as many as the
+/// block holds, or all that are left. The text may be any bytes.
 ///
-/// Where the block has no room, no chunk is left, or the limits are out of range, the state stays and no chunk comes.
-/// What stands in the block after the chunks is unspecified. With any table and state, each chunk starts at the end
-/// of the one before or earlier, and ends past it and within the text.
+/// Returns 0 and leaves the state unchanged if the block has no room, if no chunk is left, or if the limits are out of
+/// range. The entries of the block after the chunks are unspecified. With any table and state, each chunk starts at or
+/// before the end of the one before it, and ends after that and within the text.
 #[unsafe(no_mangle)]
 pub extern "C" fn lbk_chunks(
     table: &FlatTable,

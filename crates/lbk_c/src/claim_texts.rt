@@ -1,4 +1,4 @@
-//! What a property file is that is not the published one, in words.
+//! A description of a property file that is not the published one.
 
 ghost use Rattle.std.specs.Prelude.{◌≡◌};
 ghost use Rattle.lbk_calls.specs.Padding.{padded};
@@ -8,8 +8,8 @@ ghost use Rattle.lbk_c.specs.ClaimTexts.{IsClaimText, which_numbered};
 use lbk_calls::{Text, padded};
 use lbk_ucd::{Which, claim_of, claim_text, remedy_text};
 
-/// What is wrong with the file of a number that is not the one that Unicode 15.0.0 published: it is of another version,
-/// it was changed or cut, or it is another file. ASCII, then zeros; only zeros for a number that no file has.
+/// Describes a file, by its number, that Unicode 15.0.0 did not publish: it is of another version, it was changed or
+/// truncated, or it is another file. ASCII, padded by zeros; only zeros for any other number.
 #[unsafe(no_mangle)]
 pub extern "C" fn lbk_claim_text(file: u32, contents: &[u8]) -> Text
     ensures { IsClaimText (which_numbered file) contents.now result.text }
@@ -23,7 +23,7 @@ pub extern "C" fn lbk_claim_text(file: u32, contents: &[u8]) -> Text
     }
 }
 
-/// Where the published files are: ASCII, filled up by zeros.
+/// Where to get the published files: ASCII, padded by zeros.
 #[unsafe(no_mangle)]
 pub extern "C" fn lbk_remedy_text() -> Text
     ensures { result.text ≡ padded 96 remedy_text }
@@ -33,7 +33,7 @@ pub extern "C" fn lbk_remedy_text() -> Text
     }
 }
 
-/// The property file that has a number.
+/// The property file with a number.
 fn which_numbered(file: u32) -> Option<Which>
     ensures { result ≡ which_numbered file }
 {

@@ -11,8 +11,8 @@ ghost use Rattle.lbk_calls.specs.Padding.{padded};
 use lbk_calls::ClassLabel;
 use lbk_rules::FlatTable;
 
-/// The line breaking class of a scalar value once rule LB1 has resolved it (UAX #14, sections 5.1 and 6.1), as `AL`:
-/// ASCII, filled up by zeros. For a number that is no scalar value it is zeros. With any table, it is the name of
+/// The line breaking class of a scalar value, as rule LB1 resolves it (UAX #14, sections 5.1 and 6.1), for example
+/// `AL`: ASCII, padded by zeros. Only zeros for a number that is not a scalar value. With any table it is the name of
 /// some class.
 #[unsafe(no_mangle)]
 pub extern "C" fn lbk_class(table: &FlatTable, scalar: u32) -> ClassLabel

@@ -9,12 +9,12 @@ ghost use Rattle.lbk_streams.specs.Cuts.{IsCutAfter, IsCutBefore, IsPieceStart, 
 use lbk_rules::FlatTable;
 use lbk_streams::{cut, cut_before};
 
-/// The first byte at or after `at` at which a part of a text may begin: one before which a line must end (UAX #14,
-/// section 6.1, rules LB4 and LB5), or the end of the text. A place past the text counts as its end, and 0 is its
-/// start, at which the first part begins.
+/// The first offset at or after `at` at which a part of a text may begin: one with a required break (UAX #14, section
+/// 6.1, rules LB4 and LB5), or the end of the text. An `at` past the text counts as its end; for 0 the result is 0,
+/// where the first part begins.
 ///
-/// The breaks of the parts are those of the whole: the places of a later part count from its start, and where another
-/// part follows a part, its end is by rule 4 or 5, in the place of 3.
+/// The breaks of the parts are those of the text: the offsets of a later part count from its start, and the end of each
+/// part except the last is a break by rule 4 or 5 instead of 3.
 #[unsafe(no_mangle)]
 pub extern "C" fn lbk_cut(table: &FlatTable, text: &[u8], at: usize) -> usize
     ensures within { result ≤ length text.now }
@@ -31,7 +31,7 @@ pub extern "C" fn lbk_cut(table: &FlatTable, text: &[u8], at: usize) -> usize
     cut(table, text, at)
 }
 
-/// The last byte at or before `at` at which a part of a text may begin. A place past the text counts as its end.
+/// The last offset at or before `at` at which a part of a text may begin. An `at` past the text counts as its end.
 #[unsafe(no_mangle)]
 pub extern "C" fn lbk_cut_before(table: &FlatTable, text: &[u8], at: usize) -> usize
     ensures within { result ≤ length text.now }

@@ -24,14 +24,14 @@ pub(crate) fn given_fault(fault: UcdFault) -> Fault
     }
 }
 
-/// That memory was refused while a table was made of well-formed files.
+/// Out of memory while a table was made from well-formed files.
 pub(crate) const UNMADE_FAULT: Fault = Fault {
     file: 0,
     line: 0,
     cause: 8,
 };
 
-/// That a file is not the published one.
+/// A file is not the published one.
 pub(crate) fn unpublished_fault(which: Which) -> Fault
     ensures { result ≡ unpublished_fault which }
 {

@@ -1,5 +1,4 @@
-//! What holds of states, of digests and of empty files, over definitions only. Each law is the contract of a function
-//! that does nothing.
+//! Laws about states, digests and empty files. Each is the contract of a function that does nothing.
 
 ghost use Rattle.std.specs.Prelude.{◌≡◌, ℕ, ◌^◌, ◌<◌, ◌≤◌, List, [], drop, length};
 ghost use Rattle.lbk_rules.specs.declared.Break.{Break};
@@ -15,9 +14,8 @@ ghost use Rattle.lbk_calls.specs.Coming.{Comes};
 ghost use Rattle.lbk_calls.specs.UnitsComing.{PositionsCome, UnitsCome};
 ghost use Rattle.lbk_words.specs.Words.{words_on};
 
-/// What comes from a state on hangs on the state and on the bytes of the text from its place on. Whatever stands
-/// before the place, as many bytes as there were: the same breaks come. So it is of units, of positions, and of
-/// words.
+/// What is returned from a state on depends only on the state and on the bytes of the text from its offset on. The
+/// bytes before the offset may change, but not their number. The same holds for units, positions and words.
 pub fn only_bytes_from_a_state_on()
     ensures breaks { (cell : ℕ → Cell) (table : FlatTable) (text other : List ℕ) (state : State) (to_come : List Break)
         → Comes cell table text state to_come → state.at ≤ length other → drop state.at other ≡ drop state.at text
@@ -41,7 +39,7 @@ pub fn only_bytes_from_a_state_on()
         ≡ words_on text at }
 {}
 
-/// No step of a table's digest (FNV-1a) leads two numbers from one digest to the same, nor two digests by one number.
+/// A step of a table's digest (FNV-1a) is injective in the number and in the digest before it.
 pub fn no_step_leads_two_to_one()
     ensures numbers { (digest one other : ℕ) → digest < 2 ^ 64 → one < 2 ^ 64 → other < 2 ^ 64
         → digest_with digest one ≡ digest_with digest other → one ≡ other }
@@ -49,8 +47,8 @@ pub fn no_step_leads_two_to_one()
         → digest_with one number ≡ digest_with other number → one ≡ other }
 {}
 
-/// A whole table of which one number is given another value is no longer whole, whether that is the digest or one
-/// that the digest is of.
+/// An intact table with one number changed is no longer intact, whether the number is the digest or one of those that
+/// it covers.
 pub fn one_changed_number_is_found()
     ensures content { (table other : FlatTable) (one changed : ℕ) → IsWhole table → IsWhole other → other.digest
         ≡ table.digest
@@ -59,7 +57,7 @@ pub fn one_changed_number_is_found()
         → other.digest ≡ table.digest }
 {}
 
-/// An empty property file has no fault, and gives each code the value of codes that no file lists.
+/// An empty property file has no fault, and each code then has the property's default value.
 pub fn empty_files_list_no_code<V: Copy>()
     ensures lawful { (format : Format V) → IsLawful format [] }
     ensures unlisted { (format : Format V) (code : ℕ) → property_of format [] code ≡ format.unlisted }

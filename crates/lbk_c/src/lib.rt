@@ -1,9 +1,8 @@
 //! The library for C: the breaks and the words of a text by calls that C, C++, Rust and Python can make.
 //!
-//! A caller's [`FlatTable`](lbk_rules::FlatTable) is filled once by `lbk_read`. `lbk_breaks` then goes over a text a
-//! block of breaks at a time, from a state that the caller keeps. No memory is kept between calls, and nothing is to
-//! be freed.
-//! `include/lbk.h` declares the calls.
+//! `lbk_read` fills a caller's [`FlatTable`](lbk_rules::FlatTable) once. `lbk_breaks` then goes over a text a block of
+//! breaks at a time, from a state that the caller keeps. The library keeps no memory between calls, and there is
+//! nothing to free. `include/lbk.h` declares the calls.
 #![tactic(auto)]
 
 mod breaking;

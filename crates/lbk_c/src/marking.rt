@@ -20,14 +20,14 @@ use lbk_rules::{FlatTable, Profile, number_at, place_by};
 /// How many bits a word has.
 const BITS: usize = 64;
 
-/// Sets a bit for each of the next places of a text, from the state's on, at which `lbk_breaks` gives a break: the
-/// lowest bit of the first word for the state's place, and all other bits are cleared. Returns of how many places the
-/// words tell, the text's end being one: of as many as they have bits, or of all that are left. The state goes on at
-/// the first scalar after those.
+/// Sets a bit for each of the next offsets of a text, from the state's on, at which `lbk_breaks` returns a break, and
+/// clears all other bits. The lowest bit of the first word is for the state's offset. Returns how many offsets the
+/// words cover, including the text's end: as many as they have bits, or all that are left. The state advances to the
+/// first scalar after those.
 ///
-/// Where there are no words, or the state is past the text or at its end, or names no profile, the state stays and
-/// all bits are cleared. With any table and state, no bit is set of a place that is not told of, and the state goes
-/// on at most three bytes after the last that is.
+/// Returns 0, clears all bits and leaves the state unchanged if there are no words, if the state is at or past the end
+/// of the text, or if its profile is unknown. With any table and state, no bit after the covered offsets is set, and
+/// the state advances at most three bytes past them.
 #[unsafe(no_mangle)]
 pub extern "C" fn lbk_marks(
     table: &FlatTable,
@@ -79,7 +79,7 @@ pub extern "C" fn lbk_marks(
     go_on(table, profile, state, text, words)
 }
 
-/// Sets the bits from a state from which breaks may come, and returns of how many places they tell.
+/// Sets the bits from a state from which breaks may be left, and returns how many offsets they cover.
 fn go_on(
     table: &FlatTable,
     profile: Profile,

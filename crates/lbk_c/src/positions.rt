@@ -24,14 +24,14 @@ use lbk_calls::{State, next_of};
 use lbk_rules::FlatTable;
 use lbk_units::Positions;
 
-/// Puts the next positions of a text into the front of the block, from the state on, and returns how many: as many as
-/// the block holds, or all that are left. A text of n scalars has n + 1 positions (UAX #14, section 6): one before
-/// each scalar, and one at the end. Each comes once, with the verdict of the first rule that matches there, No among
-/// them. The text may be any bytes, read as `lbk_breaks` reads them.
+/// Writes the next positions of a text to the front of the block, from the state on, and returns how many: as many as
+/// the block holds, or all that are left. A text of n scalars has n + 1 positions (UAX #14, section 6): one before each
+/// scalar, and one at the end. Each is returned once, with the verdict of the first rule that matches there, also No.
+/// The text may be any bytes, read as `lbk_breaks` reads them.
 ///
-/// Where the block has no room, or the state is past the text or at its end, or names no profile, the state stays and
-/// no position comes. With any table and state, the positions are of rules and in order, from the state's place on,
-/// and the state goes forward with them.
+/// Returns 0 and leaves the state unchanged if the block has no room, if the state is at or past the end of the text,
+/// or if its profile is unknown. With any table and state, the positions are by rules and in order, from the state's
+/// offset on, and the state advances with them.
 #[unsafe(no_mangle)]
 pub extern "C" fn lbk_positions(
     table: &FlatTable,
@@ -64,13 +64,12 @@ pub extern "C" fn lbk_positions(
     lbk_calls::lbk_positions(table, state, text, out)
 }
 
-/// Puts the next positions of a text in UTF-16 into the front of the block, as `lbk_positions` does of one in UTF-8,
-/// and returns how many. Places are in units of 16 bits. The text may be any units, read as `lbk_breaks_utf16` reads
-/// them.
+/// Writes the next positions of a text in UTF-16 to the front of the block, as `lbk_positions` does for UTF-8, and
+/// returns how many. Offsets count units of 16 bits. The text may be any units, read as `lbk_breaks_utf16` reads them.
 ///
-/// Where the block has no room, or the state is past the text or at its end, or names no profile, the state stays and
-/// no position comes. With any table and state, the positions are of rules and in order, from the state's place on,
-/// and the state goes forward with them.
+/// Returns 0 and leaves the state unchanged if the block has no room, if the state is at or past the end of the text,
+/// or if its profile is unknown. With any table and state, the positions are by rules and in order, from the state's
+/// offset on, and the state advances with them.
 #[unsafe(no_mangle)]
 pub extern "C" fn lbk_positions_utf16(
     table: &FlatTable,
@@ -103,13 +102,12 @@ pub extern "C" fn lbk_positions_utf16(
     next_of::<Positions, u16>(table, state, text, out)
 }
 
-/// Puts the next positions of a text in UTF-32 into the front of the block, as `lbk_positions` does of one in UTF-8,
-/// and returns how many. Places are in units of 32 bits. The text may be any units, read as `lbk_breaks_utf32` reads
-/// them.
+/// Writes the next positions of a text in UTF-32 to the front of the block, as `lbk_positions` does for UTF-8, and
+/// returns how many. Offsets count units of 32 bits. The text may be any units, read as `lbk_breaks_utf32` reads them.
 ///
-/// Where the block has no room, or the state is past the text or at its end, or names no profile, the state stays and
-/// no position comes. With any table and state, the positions are of rules and in order, from the state's place on,
-/// and the state goes forward with them.
+/// Returns 0 and leaves the state unchanged if the block has no room, if the state is at or past the end of the text,
+/// or if its profile is unknown. With any table and state, the positions are by rules and in order, from the state's
+/// offset on, and the state advances with them.
 #[unsafe(no_mangle)]
 pub extern "C" fn lbk_positions_utf32(
     table: &FlatTable,

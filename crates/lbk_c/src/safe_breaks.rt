@@ -1,4 +1,4 @@
-//! Where the rest of a text may be decided by itself.
+//! Where the rest of a text can be broken alone.
 
 ghost use Rattle.std.specs.Prelude.{◌≡◌, ◌∷◌, [], ℕ, ◌<◌, ◌≤◌, true, List, MatchOption, IfSome, drop, length, map};
 ghost use Rattle.lbk_rules.specs.declared.Break.{Break};
@@ -18,8 +18,9 @@ use lbk_calls::{State, give_breaks};
 use lbk_rules::FlatTable;
 use lbk_streams::cut_before;
 
-/// A byte before the end of a text after which its breaks are those of the text that begins there: the last break of
-/// which the next break and the state after it tell so, and else the last cut. It goes over the last line of the text.
+/// An offset before the end of a text such that the breaks after it are those of the text that begins there: the last
+/// break for which the next break and the state after it show this, or else the last cut. It reads the last paragraph
+/// of the text.
 #[unsafe(no_mangle)]
 pub extern "C" fn lbk_safe_break(table: &FlatTable, profile: u8, text: &[u8]) -> usize
     ensures within { result ≤ length text.now }
@@ -53,7 +54,7 @@ pub extern "C" fn lbk_safe_break(table: &FlatTable, profile: u8, text: &[u8]) ->
     safe
 }
 
-/// Whether a text that begins at this byte has that break first, and comes to this state by it.
+/// Whether a text that begins at this byte has that break first, and reaches this state with it.
 fn begins_alike(
     table: &FlatTable,
     profile: u8,
@@ -80,7 +81,7 @@ fn begins_alike(
     }
 }
 
-/// The next break from a state on, to which the state goes.
+/// The next break from a state on; the state advances to it.
 fn next_break(table: &FlatTable, state: &mut State, text: &[u8]) -> Option<RawBreak>
     ensures comes { (cell : ℕ → Cell) (to_come : List Break) → Comes cell table.now text.now state.old to_come
         → MatchOption result (to_come ≡ []) (λ next. (rest : List Break) × (to_come ≡ shown next ∷ rest)

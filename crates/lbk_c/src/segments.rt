@@ -19,36 +19,36 @@ use lbk_rules::FlatTable;
 /// How many breaks are found at a time.
 const BLOCK: usize = 64;
 
-/// A part of a text between two breaks: the bytes from `start` up to `end`, not counting that one.
+/// A part of a text between two breaks: the bytes from `start` up to and without `end`.
 #[repr(C)]
 #[derive(Clone, Copy)]
 pub struct Segment {
-    /// The byte that it begins with, counted from the text's start.
+    /// The offset of its first byte.
     pub start: usize,
-    /// The byte after its last one, before which the break stands.
+    /// The offset of the break at its end.
     pub end: usize,
-    /// Whether the line may or must end there: 1 for May, 2 for Must.
+    /// Whether a line may or must end there: 1 for May, 2 for Must.
     pub kind: u8,
     /// The number of the rule that decided there.
     pub rule: u8,
 }
 
-/// How far a text was cut into segments. One of zeros stands at the start of a text, in the first profile.
+/// How far a text was cut into segments. All zeros mean the start of a text, in the first profile.
 #[repr(C)]
 #[derive(Clone, Copy)]
 pub struct SegmentState {
-    /// How far its breaks were taken.
+    /// How far its breaks were read.
     pub breaks: State,
     /// Where the next segment starts.
     pub start: usize,
 }
 
-/// Puts the next segments of a text into the front of the block, from the state on, and returns how many: as many as
+/// Writes the next segments of a text to the front of the block, from the state on, and returns how many: as many as
 /// the block holds, or all that are left. A segment ends at each break of `lbk_breaks`, and begins where the one before
 /// it ends.
 ///
-/// Where the block has no room, or no break comes from the state on, the state stays and no segment comes. What stands
-/// in the block after the segments is unspecified.
+/// Returns 0 and leaves the state unchanged if the block has no room, or if there is no break from the state on. The
+/// entries of the block after the segments are unspecified.
 #[unsafe(no_mangle)]
 pub extern "C" fn lbk_segments(
     table: &FlatTable,
@@ -103,7 +103,7 @@ pub extern "C" fn lbk_segments(
     }
 }
 
-/// Puts the segments that end at some breaks into a block, from a place on, and returns where the next one starts.
+/// Writes the segments that end at some breaks to a block, from an index on, and returns where the next one starts.
 fn put_segments(breaks: &[RawBreak], start: usize, out: &mut [Segment], from: usize) -> usize
     requires { from + length breaks.now ≤ length out.old }
     ensures front { take (from + length breaks.now) out.new ≡ take from out.old ++ segments_between start breaks.now }

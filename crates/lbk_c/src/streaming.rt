@@ -1,4 +1,4 @@
-//! A text that comes in pieces.
+//! A text that arrives in pieces.
 
 ghost use Rattle.std.specs.Prelude.{◌≡◌, ◌⊎◌, ℕ, Bool, suc, ◌+◌, ◌-◌, ◌^◌, ◌<◌, ◌≤◌, ◌++◌, true, false, [], List};
 ghost use Rattle.std.specs.Prelude.{drop, length, map, take};
@@ -18,15 +18,15 @@ use lbk_bytes::RawBreak;
 use lbk_rules::FlatTable;
 use lbk_streams::{Fed, Stream, feed};
 
-/// Takes the next piece of a stream, and puts the breaks that it settles (UAX #14, section 3) into the front of the
-/// block, as many as that holds. All bytes of the piece are taken, unless the block is full. Where `last`, nothing
-/// follows the piece: the breaks left are settled then, and the end is the last of them.
+/// Takes the next piece of a stream, and writes the breaks that it settles (UAX #14, section 3) to the front of the
+/// block, as many as it holds. It takes all bytes of the piece, unless the block is full. If `last` is set, nothing
+/// follows the piece: then all breaks are settled, and the end is the last one.
 ///
-/// The bytes may be any: over all calls the breaks are those of the joined pieces, as in `lbk_breaks`, at places from
-/// the start of the stream, or of the text of which it is a part. Where the block has no room, nothing is taken and
-/// the stream stays. Where the stream has ended or names no profile, all is taken and no break comes. With any table
-/// and stream, the breaks are breaks of rules, and calls while the block is full come to an end. With any table, the
-/// places of a stream rise from its start on.
+/// The bytes may be any. The breaks of all calls are those of `lbk_breaks` for the joined pieces, with offsets from the
+/// start of the stream, or of the text that it is a part of. If the block has no room, nothing is taken and the stream
+/// is unchanged. If the stream has ended or its profile is unknown, all is taken and no break is returned. With any
+/// table and stream, the breaks are breaks of rules, and a loop of calls while the block is full terminates. With any
+/// table, the offsets of a stream rise from its start.
 #[unsafe(no_mangle)]
 pub extern "C" fn lbk_feed(
     table: &FlatTable,

@@ -1,4 +1,4 @@
-//! A table out of property files: the one module whose call takes memory from the heap.
+//! A table from property files: the only module with calls that allocate.
 
 ghost use Rattle.std.specs.Prelude.{◌≡◌, ◌<◌, ℕ};
 ghost use Rattle.lbk_ucd.specs.Files.{AreLawful};
@@ -15,11 +15,11 @@ use lbk_rules::FlatTable;
 use lbk_ucd::{Files, Tables, first_unpublished};
 use std::alloc::Global;
 
-/// Fills the table by the four property files LineBreak.txt, EastAsianWidth.txt, DerivedGeneralCategory.txt and
-/// emoji-data.txt (UAX #44, section 4.2), and returns zeros; or the first fault of the first file that has one.
+/// Fills the table from the four property files LineBreak.txt, EastAsianWidth.txt, DerivedGeneralCategory.txt and
+/// emoji-data.txt (UAX #44, section 4.2), and returns zeros; or returns the first fault of the first file that has one.
 ///
-/// Cause 8 comes where an allocation was refused: at a line of a file, or at none while the table was made. After a
-/// fault the table is as it was.
+/// Cause 8 means a refused allocation: at a line of a file, or at no line while the table was made. After a fault the
+/// table is unchanged.
 #[unsafe(no_mangle)]
 pub extern "C" fn lbk_read(
     alloc: Global,
@@ -60,10 +60,10 @@ pub extern "C" fn lbk_read(
     }
 }
 
-/// Does what `lbk_read` does, of the four files that Unicode 15.0.0 published and of no others; CR LF counts as LF.
+/// Does what `lbk_read` does, but accepts only the four files that Unicode 15.0.0 published; CR LF counts as LF.
 ///
-/// Cause 10 comes for the first file that is not the published one, whatever else is wrong with the four. After a
-/// fault the table is as it was.
+/// Returns cause 10 for the first file that is not the published one, whatever else is wrong with the files. After a
+/// fault the table is unchanged.
 #[unsafe(no_mangle)]
 pub extern "C" fn lbk_read_published(
     alloc: Global,

@@ -8,7 +8,7 @@ ghost use Rattle.lbk_c.specs.Texts.{cause_numbered, file_numbered, version};
 use lbk_calls::{Text, padded};
 use lbk_ucd::{UcdCause, Which, cause_text, cut_text, file_name};
 
-/// What the cause of a number says: ASCII, filled up by zeros. For a number that no cause has it is zeros.
+/// What the cause with a number means: ASCII, padded by zeros. Only zeros for any other number.
 #[unsafe(no_mangle)]
 pub extern "C" fn lbk_cause_text(cause: u32) -> Text
     ensures { result.text ≡ padded 96 (cause_numbered cause) }
@@ -18,8 +18,7 @@ pub extern "C" fn lbk_cause_text(cause: u32) -> Text
     }
 }
 
-/// What the rule that has a number says, in one line: ASCII, filled up by zeros. For a number that no rule has it is
-/// zeros.
+/// What the rule with a number says, in one line: ASCII, padded by zeros. Only zeros for any other number.
 #[unsafe(no_mangle)]
 pub extern "C" fn lbk_rule_text(rule: u8) -> Text
     ensures { result.text ≡ rule_text_numbered rule }

@@ -10,9 +10,9 @@ ghost use Rattle.lbk_streams.specs.Cuts.{BeginsIn, IsCutAfterIn, IsCutBeforeIn, 
 use lbk_rules::FlatTable;
 use lbk_streams::{cut_before_utf16, cut_utf16};
 
-/// The first unit at or after `at` at which a part of a text in UTF-16 may begin: one before which a line must end
-/// (UAX #14, section 6.1, rules LB4 and LB5), or the end of the text. A place past the text counts as its end, and 0
-/// is its start, at which the first part begins.
+/// The first offset at or after `at` at which a part of a text in UTF-16 may begin: one with a required break (UAX #14,
+/// section 6.1, rules LB4 and LB5), or the end of the text. An `at` past the text counts as its end; for 0 the result
+/// is 0, where the first part begins.
 #[unsafe(no_mangle)]
 pub extern "C" fn lbk_cut_utf16(table: &FlatTable, text: &[u16], at: usize) -> usize
     ensures within { result ≤ length text.now }
@@ -30,7 +30,7 @@ pub extern "C" fn lbk_cut_utf16(table: &FlatTable, text: &[u16], at: usize) -> u
     cut_utf16(table, text, at)
 }
 
-/// The last unit at or before `at` at which a part of a text in UTF-16 may begin. A place past the text counts as its
+/// The last offset at or before `at` at which a part of a text in UTF-16 may begin. An `at` past the text counts as its
 /// end.
 #[unsafe(no_mangle)]
 pub extern "C" fn lbk_cut_before_utf16(table: &FlatTable, text: &[u16], at: usize) -> usize

@@ -1,4 +1,4 @@
-//! A text in UTF-16 that comes in pieces.
+//! A text in UTF-16 that arrives in pieces.
 
 ghost use Rattle.std.specs.Prelude.{◌≡◌, ℕ, Bool, ◌+◌, ◌^◌, ◌<◌, ◌≤◌, ◌++◌, true, List, length, map};
 ghost use Rattle.lbk_rules.specs.declared.Break.{Break};
@@ -15,14 +15,13 @@ use lbk_bytes::RawBreak;
 use lbk_rules::FlatTable;
 use lbk_streams::{Fed, Stream, feed};
 
-/// Takes the next piece of a stream in UTF-16, as `lbk_feed` does of one in UTF-8: places are in units of 16 bits, and
-/// a piece may end between the halves of a surrogate pair. The units may be any: over all calls the breaks are those
-/// of the joined pieces, as in `lbk_breaks_utf16`. A surrogate without its other half is read as U+FFFD at its place
-/// (Unicode Standard, section 3.9, D91).
+/// Takes the next piece of a stream in UTF-16, as `lbk_feed` does for UTF-8: offsets count units of 16 bits, and a
+/// piece may end inside a surrogate pair. The units may be any. The breaks of all calls are those of `lbk_breaks_utf16`
+/// for the joined pieces. A lone surrogate is read as U+FFFD (Unicode Standard, section 3.9, D91).
 ///
-/// Where the block has no room, nothing is taken and the stream stays. Where the stream has ended or names no profile,
-/// all is taken and no break comes. With any table and stream, the breaks are breaks of rules, and calls while the
-/// block is full come to an end. With any table, the places of a stream rise from its start on.
+/// If the block has no room, nothing is taken and the stream is unchanged. If the stream has ended or its profile is
+/// unknown, all is taken and no break is returned. With any table and stream, the breaks are breaks of rules, and a
+/// loop of calls while the block is full terminates. With any table, the offsets of a stream rise from its start.
 #[unsafe(no_mangle)]
 pub extern "C" fn lbk_feed_utf16(
     table: &FlatTable,

@@ -5,13 +5,12 @@ ghost use Rattle.lbk_words.specs.Words.{AreRising, IsBoundary, words_on};
 
 use lbk_words::{Word, WordState, fill};
 
-/// Puts the next words of a text (UAX #29, section 4) into the front of the block, from the state
-/// on, and returns how many: as many as the block holds, or all that are left. The text may be any
-/// bytes: each longest piece that begins no scalar is read as U+FFFD (Unicode Standard, section
-/// 3.9).
+/// Writes the next words of a text (UAX #29, section 4) to the front of the block, from the state on, and returns how
+/// many: as many as the block holds, or all that are left. The text may be any bytes; each maximal subpart of
+/// ill-formed bytes is read as U+FFFD (Unicode Standard, section 3.9).
 ///
-/// Where the block has no room, or the state is at the text's end or past it, the state stays and
-/// no word comes. What stands in the block after the words is unspecified.
+/// Returns 0 and leaves the state unchanged if the block has no room, or if the state is at or past the end of the
+/// text. The entries of the block after the words are unspecified.
 #[unsafe(no_mangle)]
 pub extern "C" fn lbk_words(state: &mut WordState, text: &[u8], out: &mut [Word]) -> usize
     ensures count { result ≡ min (length out.old) (length (words_on text.now state.old.at)) }

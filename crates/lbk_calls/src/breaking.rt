@@ -21,13 +21,13 @@ use crate::interface::State;
 use lbk_bytes::{FillState, RawBreak, fill, goes_on, plain_number, profile_numbered, put_end};
 use lbk_rules::{FlatTable, Profile, number_at, place_by};
 
-/// Puts the next breaks of a text (UAX #14, section 3) into the front of the block, from the state on, and returns
-/// how many: as many as the block holds, or all that are left. The text may be any bytes: each longest piece that
-/// begins no scalar is read as U+FFFD (Unicode Standard, section 3.9).
+/// Writes the next breaks of a text (UAX #14, section 3) to the front of the block, from the state on, and returns how
+/// many: as many as the block holds, or all that are left. The text may be any bytes; each maximal subpart of
+/// ill-formed bytes is read as U+FFFD (Unicode Standard, section 3.9).
 ///
-/// Where the block has no room, or the state is past the text or at its end, or names no profile, the state stays and
-/// no break comes. What stands in the block after the breaks is unspecified. With any table and state, the breaks are
-/// breaks of rules, in order, from the state's place on, and the state goes forward with them.
+/// Returns 0 and leaves the state unchanged if the block has no room, if the state is at or past the end of the text,
+/// or if its profile is unknown. The entries of the block after the breaks are unspecified. With any table and state,
+/// the breaks are breaks of rules, in order, from the state's offset on, and the state advances with them.
 #[unsafe(no_mangle)]
 pub extern "C" fn lbk_breaks(
     table: &FlatTable,
@@ -70,7 +70,7 @@ pub fn give_breaks<const MASKS: bool>(
     go_on::<MASKS>(table, profile, state, text, out)
 }
 
-/// The state with only the profile in its number.
+/// The state with only the profile in its profile number.
 pub fn plain(state: &State) -> State
     ensures { result ≡ plain state.now }
 {
@@ -78,8 +78,8 @@ pub fn plain(state: &State) -> State
     State { profile, ..*state }
 }
 
-/// The profile of a state from which breaks may come of a text of this length: none where the state names no profile,
-/// has given all, or is past the text.
+/// The profile of a state, if a text of this length may have breaks from it on: none if the profile is unknown, all
+/// breaks were returned, or the state is past the text.
 pub fn going_profile(state: &State, len: usize) -> Option<Profile>
     ensures { MatchOption result (IsSpent state.now len) (λ profile. IsGoing profile state.now len) }
 {
@@ -93,7 +93,7 @@ pub fn going_profile(state: &State, len: usize) -> Option<Profile>
     Some(profile)
 }
 
-/// Puts the next breaks into the front of the block, and returns how many.
+/// Writes the next breaks to the front of the block, and returns how many.
 fn go_on<const MASKS: bool>(
     table: &FlatTable,
     profile: Profile,

@@ -5,9 +5,9 @@ ghost use Rattle.lbk_calls.specs.Columns.{no_break};
 
 use lbk_bytes::RawBreak;
 
-/// Writes the breaks in the front of a block into columns, as many as each column holds, and returns how many: the
-/// low 32 bits of their places, counted from `from` on, and the numbers of their kinds and rules. What stands in the
-/// columns after them stays.
+/// Writes the breaks at the front of a block to columns, as many as each column holds, and returns how many: the low 32
+/// bits of their offsets, counted from `from` on, and the numbers of their kinds and rules. The rest of the columns is
+/// unchanged.
 #[unsafe(no_mangle)]
 pub extern "C" fn lbk_columns(
     breaks: &[RawBreak],

@@ -14,9 +14,9 @@ use lbk_bytes::{END, RawBreak, START, end_shown};
 use lbk_rules::shows_break;
 use lbk_units::put_position;
 
-/// Writes what comes at an end after the positions in the front of the block, and returns how many these are now.
-/// Where the text ends, that is its last position; where it goes on, a position by rule 4 or 5, if a line must end
-/// there whatever follows.
+/// Writes the position at an end, if any, after those at the front of the block, and returns how many there are now. If
+/// the text ends, that is its last position; if it goes on, a position by rule 4 or 5, if a line must end there
+/// whatever follows.
 pub(crate) fn put_last(
     goes_on: bool,
     row: usize,
@@ -40,7 +40,7 @@ pub(crate) fn put_last(
     put_position(out, count, at, shown)
 }
 
-/// The same where the text goes on.
+/// The same if the text goes on.
 fn put_open(row: usize, out: &mut [RawBreak], count: usize, at: usize) -> usize
     requires { (count < length out.old) × IsPlace row }
     ensures within { (result ≤ length out.old) × (count ≤ result) × (result ≤ count + 1) }

@@ -1,11 +1,11 @@
-//! The calls that take no memory, for a caller in another language: the breaks and the positions of a text, a block
-//! at a time, the names of rules and classes, what rules say, whether a table is whole, and breaks as columns. And the
+//! The calls that allocate nothing, for callers in other languages: the breaks and the positions of a text, a block at
+//! a time, the names of rules and classes, what rules say, whether a table is intact, and breaks as columns. Also the
 //! kinds of all codes in a few kilobytes: [`pack`] writes a head, and a record for each run of codes of one kind;
-//! [`unpack`] takes this form and nothing else. What a table has besides its kinds follows from them.
+//! [`unpack`] accepts only this form. The rest of a table follows from its kinds.
 //!
-//! The functions under `no_mangle` are the exports of the module for JavaScript, which `scripts/module` builds: this
-//! very crate for WebAssembly. Their loops go without masks, since that target has no vectors. The library for C
-//! (`lbk_c`) calls the same functions, and breaks come by masks there.
+//! The `no_mangle` functions are the exports of the module for JavaScript, which `scripts/module` builds from this
+//! crate for WebAssembly. Their loops do not use masks, because that target has no vectors. The library for C (`lbk_c`)
+//! calls the same functions, with loops that use masks.
 #![tactic(auto)]
 
 mod breaking;

@@ -13,8 +13,8 @@ use lbk_rules::{FlatTable, LAYOUT};
 /// The version of the packed form.
 const VERSION: u8 = LAYOUT as u8;
 
-/// Writes a table to the front of the bytes, packed, and returns how many bytes it has then. Where these are more than
-/// there is room for nothing is written, nor for a table that is not whole, of which 0 is returned.
+/// Writes a table in its packed form to the front of the bytes, and returns the size of that form. If it exceeds the
+/// room, nothing is written. For a corrupt table it writes nothing and returns 0.
 #[unsafe(no_mangle)]
 pub extern "C" fn lbk_pack(table: &FlatTable, bytes: &mut [u8]) -> usize
     ensures corrupt { ¬ (IsWhole table.now) → result ≡ 0 }
@@ -29,10 +29,9 @@ pub extern "C" fn lbk_pack(table: &FlatTable, bytes: &mut [u8]) -> usize
     pack(VERSION, &table.kinds, bytes)
 }
 
-/// Makes it the table that is packed in the bytes: 0. Bytes in which no table of this version is packed are refused, by
-/// the number of a cause.
+/// Fills the table from its packed form, and returns 0. All other bytes are refused: it returns the number of a cause.
 ///
-/// After cause 11 or 12 the table is as it was, after cause 13 its layout is 0.
+/// After cause 11 or 12 the table is unchanged, after cause 13 its layout is 0.
 #[unsafe(no_mangle)]
 pub extern "C" fn lbk_unpack(table: &mut FlatTable, bytes: &[u8]) -> u32
     ensures form { result ≡ 0 → bytes.now ≡ packed LAYOUT table.new.kinds }
@@ -53,7 +52,7 @@ pub extern "C" fn lbk_unpack(table: &mut FlatTable, bytes: &[u8]) -> u32
     }
 }
 
-/// Has `lbk_check` refuse the table, and returns the cause.
+/// Makes the table one that `lbk_check` refuses, and returns the cause.
 fn spoilt(table: &mut FlatTable) -> u32
     ensures cause { result ≡ 13 }
     ensures layout { table.new.layout ≡ 0 }

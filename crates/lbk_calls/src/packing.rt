@@ -11,8 +11,8 @@ use lbk_rules::digest_of_bytes;
 /// How many bytes the head has.
 pub(crate) const HEAD: usize = 12;
 
-/// Writes the packed form of kinds to the front of the bytes, and returns how many bytes it has. Where these are more
-/// than there is room for nothing is written.
+/// Writes the packed form of kinds to the front of the bytes, and returns its size. If it exceeds the room, nothing is
+/// written.
 pub fn pack(version: u8, kinds: &[u8; KINDS_SIZE], bytes: &mut [u8]) -> usize
     ensures size { result ≡ length (packed version kinds.now) }
     ensures form { result ≤ length bytes.old → bytes.new ≡ packed version kinds.now ++ drop result bytes.old }
@@ -27,7 +27,7 @@ pub fn pack(version: u8, kinds: &[u8; KINDS_SIZE], bytes: &mut [u8]) -> usize
     size
 }
 
-/// Writes what stands before the records.
+/// Writes the head before the records.
 fn put_head(version: u8, digest: u64, bytes: &mut [u8])
     requires { 12 ≤ length bytes.old }
     ensures { bytes.new ≡ codes "lbk" ++ (version ∷ (to_le_bytes w64 digest ++ drop 12 bytes.old)) }
@@ -37,8 +37,7 @@ fn put_head(version: u8, digest: u64, bytes: &mut [u8])
     bytes[..HEAD].copy_from_slice(&head);
 }
 
-/// Writes the records of kinds to the front of the bytes where there is room for all of them, and returns how many
-/// bytes they have.
+/// Writes the records of kinds to the front of the bytes if there is room for all of them, and returns their size.
 fn put_records(kinds: &[u8], bytes: &mut [u8]) -> usize
     requires { length kinds.now ≤ 0x11_0000 }
     ensures size { result ≡ length (records_of kinds.now) }
@@ -55,7 +54,7 @@ fn put_records(kinds: &[u8], bytes: &mut [u8]) -> usize
     size
 }
 
-/// Writes some bytes at a place where there is room for them, and returns the place after them.
+/// Writes some bytes at an offset if there is room for them, and returns the offset after them.
 fn put(bytes: &mut [u8], at: usize, part: &[u8]) -> usize
     requires place { at ≤ 0x44_0000 }
     requires few { length part.now ≤ 4 }

@@ -23,14 +23,14 @@ use lbk_bytes::RawBreak;
 use lbk_rules::FlatTable;
 use lbk_units::Positions;
 
-/// Puts the next positions of a text into the front of the block, from the state on, and returns how many: as many as
-/// the block holds, or all that are left. A text of n scalars has n + 1 positions (UAX #14, section 6): one before
-/// each scalar, and one at the end. Each comes once, with the verdict of the first rule that matches there, No among
-/// them. The text may be any bytes, read as `lbk_breaks` reads them.
+/// Writes the next positions of a text to the front of the block, from the state on, and returns how many: as many as
+/// the block holds, or all that are left. A text of n scalars has n + 1 positions (UAX #14, section 6): one before each
+/// scalar, and one at the end. Each is returned once, with the verdict of the first rule that matches there, also No.
+/// The text may be any bytes, read as `lbk_breaks` reads them.
 ///
-/// Where the block has no room, or the state is past the text or at its end, or names no profile, the state stays and
-/// no position comes. With any table and state, the positions are of rules and in order, from the state's place on,
-/// and the state goes forward with them.
+/// Returns 0 and leaves the state unchanged if the block has no room, if the state is at or past the end of the text,
+/// or if its profile is unknown. With any table and state, the positions are by rules and in order, from the state's
+/// offset on, and the state advances with them.
 #[unsafe(no_mangle)]
 pub extern "C" fn lbk_positions(
     table: &FlatTable,

@@ -51,7 +51,7 @@ impl Record {
     }
 }
 
-/// The run of the first record of some bytes, and what follows it. Nothing is returned where no record is whole.
+/// The run of the first record of some bytes, and what follows it; none if there is no complete record.
 pub(crate) fn first_record(bytes: &[u8]) -> Option<(Run, &[u8])>
     ensures run { (run : Run) (rest : List ℕ) → 0 < run.length → run.length ≤ 0x11_0000
         → bytes.now ≡ record_of run ++ rest → IsSomeAnd result (λ read. (read.0 ≡ run) × (read.1.now ≡ rest)) }

@@ -7,8 +7,7 @@ use crate::interface::Text;
 use crate::padding::padded;
 use lbk_rules::Rule;
 
-/// What the rule that has a number says, in one line: ASCII, filled up by zeros. For a number that no rule has it is
-/// zeros.
+/// What the rule with a number says, in one line: ASCII, padded by zeros. Only zeros for any other number.
 #[unsafe(no_mangle)]
 pub extern "C" fn lbk_rule_text(rule: u8) -> Text
     ensures { result.text ≡ rule_text_numbered rule }

@@ -22,13 +22,13 @@ use lbk_bytes::RawBreak;
 use lbk_rules::FlatTable;
 use lbk_units::Breaks;
 
-/// Puts the next breaks of a text in UTF-16 into the front of the block, as `lbk_breaks` does of one in UTF-8, and
-/// returns how many. Places are in units of 16 bits. The text may be any units: a surrogate without its other half is
-/// read as U+FFFD at its place (Unicode Standard, section 3.9, D91).
+/// Writes the next breaks of a text in UTF-16 to the front of the block, as `lbk_breaks` does for UTF-8, and returns
+/// how many. Offsets count units of 16 bits. The text may be any units; a lone surrogate is read as U+FFFD (Unicode
+/// Standard, section 3.9, D91).
 ///
-/// Where the block has no room, or the state is past the text or at its end, or names no profile, the state stays and
-/// no break comes. With any table and state, the breaks are breaks of rules, in order, from the state's place on, and
-/// the state goes forward with them.
+/// Returns 0 and leaves the state unchanged if the block has no room, if the state is at or past the end of the text,
+/// or if its profile is unknown. With any table and state, the breaks are breaks of rules, in order, from the state's
+/// offset on, and the state advances with them.
 #[unsafe(no_mangle)]
 pub extern "C" fn lbk_breaks_utf16(
     table: &FlatTable,

@@ -1,4 +1,4 @@
-//! Kinds out of their packed form.
+//! Kinds from their packed form.
 
 ghost use Rattle.std.specs.Prelude.{◌≡◌, ◌≤◌, ℕ, List, Ok, Err, IfErr, OnOk, IsTrue, ◌↔◌, length};
 ghost use Rattle.lbk_calls.specs.Packing.{body_of, packed, records_of};
@@ -8,20 +8,20 @@ use crate::records::{Record, first_record};
 use crate::runs::{KINDS_SIZE, run_at};
 use lbk_rules::digest_of_bytes;
 
-/// Why bytes are not unpacked.
+/// Why bytes are refused.
 #[derive(Clone, Copy, PartialEq, Eq, Debug)]
 pub enum Refusal {
     /// They do not begin as the packed form does.
     Foreign,
     /// They are of another version.
     Version,
-    /// They were changed or cut.
+    /// They were changed or truncated.
     Damaged,
 }
 
-/// Takes kinds out of their packed form in this version, and refuses all other bytes.
+/// Reads kinds from their packed form of this version, and refuses all other bytes.
 ///
-/// After `Foreign` and `Version` the kinds are as they were, after `Damaged` they may be any.
+/// After `Foreign` and `Version` the kinds are unchanged, after `Damaged` unspecified.
 pub fn unpack(version: u8, bytes: &[u8], kinds: &mut [u8; KINDS_SIZE]) -> Result<(), Refusal>
     ensures form { OnOk result (bytes.now ≡ packed version kinds.new) }
     ensures each { (all : List ℕ) → length all ≡ 0x11_0000 → bytes.now ≡ packed version all
@@ -44,7 +44,7 @@ pub fn unpack(version: u8, bytes: &[u8], kinds: &mut [u8; KINDS_SIZE]) -> Result
     }
 }
 
-/// Takes kinds out of what stands after the version in their packed form, and returns whether it was that.
+/// Reads kinds from what follows the version in their packed form, and returns whether it was well-formed.
 fn unpack_body(body: &[u8], kinds: &mut [u8; KINDS_SIZE]) -> bool
     ensures form { IsTrue result → body.now ≡ body_of kinds.new }
     ensures each { (all : List ℕ) → length all ≡ 0x11_0000 → body.now ≡ body_of all
@@ -58,7 +58,7 @@ fn unpack_body(body: &[u8], kinds: &mut [u8; KINDS_SIZE]) -> bool
     digest == digest_of_bytes(records).to_le_bytes().as_slice() && are_records(kinds, records)
 }
 
-/// Writes the runs of some records. Where these are the records of so many kinds, all kinds are these then.
+/// Writes the runs of some records. If these are the records of so many kinds, all kinds are then written.
 fn fill_runs(records: &[u8], kinds: &mut [u8])
     requires { length kinds.old ≤ 0x11_0000 }
     ensures { (all : List ℕ) → length all ≡ length kinds.old → records.now ≡ records_of all → kinds.new ≡ all }

@@ -74,7 +74,8 @@ pub record IsPassed (text : List ℕ) (at : ℕ) (old new : Place) : Type 0 wher
       → cuts_among new.words (words_ahead text new) (b ∷ bs) ≡ cuts_among old.words (words_ahead text old) (b ∷ bs)
 
 -- these cuts are left from a place on
-pub record IsAhead (cell : ℕ → Cell) (table : FlatTable) (text : List ℕ) (place : Place) (cuts : List Cut) : Type 0 where
+pub record IsAhead (cell : ℕ → Cell) (table : FlatTable) (text : List ℕ) (place : Place) (cuts : List Cut) : Type
+    0 where
   pub breaks : List Break
   pub comes : Comes cell table text place.breaks breaks
   pub counted : AreCounted text place
@@ -122,19 +123,22 @@ abbrev pub early_in : List Cut → Option Cut → ℕ → Option Cut
 early_in out early k = if k == 0 then early else Some (slice_index_or out (k - 1) no_cut)
 
 -- the first breaks fill the front of a block, or are all, and the others are left from a state on
-pub record AreNext (cell : ℕ → Cell) (table : FlatTable) (text : List ℕ) (breaks : List Break) (room : ℕ) (block : List RawBreak) (next : NextBreaks) : Type 0 where
+pub record AreNext (cell : ℕ → Cell) (table : FlatTable) (text : List ℕ) (breaks : List Break) (room : ℕ)
+    (block : List RawBreak) (next : NextBreaks) : Type 0 where
   pub counted : next.count ≡ min room (length breaks)
   pub shown : map raw_of (take next.count breaks) ≡ take next.count block
   pub onward : Comes cell table text next.state (drop next.count breaks)
 
 -- the cuts at the front of a block were found, and the others are among these breaks
-pub record AreAmong (text : List ℕ) (cuts : List Cut) (breaks : List Break) (filled : Filled) (out : List Cut) : Type 0 where
+pub record AreAmong (text : List ℕ) (cuts : List Cut) (breaks : List Break) (filled : Filled) (out : List Cut) : Type
+    0 where
   pub counted : AreCounted text filled.place
   pub rising : AreBreaksPast 0 breaks
   pub joined : cuts ≡ take filled.count out ++ cuts_among filled.place.words (words_ahead text filled.place) breaks
 
 -- the first cuts fill the front of a block, or are all, and the others are left from a place on
-pub record AreFirst (cell : ℕ → Cell) (table : FlatTable) (text : List ℕ) (cuts : List Cut) (room : ℕ) (out : List Cut) (filled : Filled) : Type 0 where
+pub record AreFirst (cell : ℕ → Cell) (table : FlatTable) (text : List ℕ) (cuts : List Cut) (room : ℕ) (out : List Cut)
+    (filled : Filled) : Type 0 where
   pub rest : List Cut
   pub joined : cuts ≡ take filled.count out ++ rest
   pub onward : IsAhead cell table text filled.place rest
@@ -161,10 +165,12 @@ pub record IsSafe (text : List ℕ) (block : CutBlock) : Type 0 where
   pub room : block.room ≤ 64
   pub few : block.count ≤ block.room
   pub within : StandWithin (length text) block.count block.cuts
-  pub end : block.behind.at ≡ (if block.count == 0 then block.before.at else (slice_index_or block.cuts (block.count - 1) no_cut).at)
+  pub end : block.behind.at ≡ (if block.count == 0 then block.before.at
+      else (slice_index_or block.cuts (block.count - 1) no_cut).at)
 
 -- the first cuts past a byte are in the block
-pub record IsBlock (cell : ℕ → Cell) (table : FlatTable) (text : List ℕ) (cuts : List Cut) (block : CutBlock) : Type 0 where
+pub record IsBlock (cell : ℕ → Cell) (table : FlatTable) (text : List ℕ) (cuts : List Cut) (block : CutBlock) : Type
+    0 where
   pub before : IsMark cell table text cuts block.before
   pub rest : List Cut
   pub joined : cuts_past block.before.at cuts ≡ take block.count block.cuts ++ rest
@@ -176,7 +182,8 @@ pub record IsKept (text : List ℕ) (window : Window) : Type 0 where
   pub newer : IsSafe text window.newer
   pub words : AreRead text window.words
 
-pub record AreKept (cell : ℕ → Cell) (table : FlatTable) (text : List ℕ) (cuts : List Cut) (window : Window) : Type 0 where
+pub record AreKept (cell : ℕ → Cell) (table : FlatTable) (text : List ℕ) (cuts : List Cut) (window : Window) : Type
+    0 where
   pub older : IsBlock cell table text cuts window.older
   pub newer : IsBlock cell table text cuts window.newer
   pub home : IsMark cell table text cuts window.home
@@ -189,14 +196,16 @@ pub record KeepsCuts (table : FlatTable) (text : List ℕ) (old new : Window) : 
       → AreKept cell table text cuts new
 
 -- the window has the cuts of a text from the start of a chunk on
-pub record Knows (cell : ℕ → Cell) (table : FlatTable) (text : List ℕ) (cuts : List Cut) (window : Window) (here : Here) : Type 0 where
+pub record Knows (cell : ℕ → Cell) (table : FlatTable) (text : List ℕ) (cuts : List Cut) (window : Window)
+    (here : Here) : Type 0 where
   pub rising : AreCutsPast 0 cuts
   pub kept : AreKept cell table text cuts window
   pub home : window.home.at ≤ here.start
   pub told : here.start ≤ here.told
 
 -- a state is at a cut of a text with these cuts, or at its start
-pub record IsAt (cell : ℕ → Cell) (table : FlatTable) (text : List ℕ) (cuts : List Cut) (state : ChunkState) : Type 0 where
+pub record IsAt (cell : ℕ → Cell) (table : FlatTable) (text : List ℕ) (cuts : List Cut) (state : ChunkState) : Type
+    0 where
   pub ahead : IsAhead cell table text state.place (cuts_past state.start cuts)
   pub counted : (c : Cut) → c.at ≡ state.start → IsCutOf cuts c → state.place.words ≡ c.words
   pub rising : AreCutsPast 0 cuts
@@ -228,14 +237,16 @@ state_start profile = record {
 }
 
 -- these chunks are left from a state on
-pub record ChunksCome (cell : ℕ → Cell) (table : FlatTable) (text : List ℕ) (limits : Limits) (state : ChunkState) (to_come : List Chunk) : Type 0 where
+pub record ChunksCome (cell : ℕ → Cell) (table : FlatTable) (text : List ℕ) (limits : Limits) (state : ChunkState)
+    (to_come : List Chunk) : Type 0 where
   pub in_range : are_limits limits ≡ true
   pub cuts : List Cut
   pub stands : IsAt cell table text cuts state
   pub chunks : AreChunks limits cuts (here_of state) to_come
 
 -- the chunks that a call returned, and the state from which the others are left
-pub record AreGiven (cell : ℕ → Cell) (table : FlatTable) (text : List ℕ) (limits : Limits) (cuts : List Cut) (to_come : List Chunk) (count : ℕ) (out : List Chunk) (window : Window) (here : Here) : Type 0 where
+pub record AreGiven (cell : ℕ → Cell) (table : FlatTable) (text : List ℕ) (limits : Limits) (cuts : List Cut)
+    (to_come : List Chunk) (count : ℕ) (out : List Chunk) (window : Window) (here : Here) : Type 0 where
   pub few : count ≤ length to_come
   pub front : take count out ≡ take count to_come
   pub rest : AreChunks limits cuts here (drop count to_come)
@@ -257,7 +268,8 @@ pub record IsEnding (limits : Limits) (cuts : List Cut) (here : Here) (last : Cu
   pub fits_first : fits limits here first ≡ true
   pub all : list_all (fits limits here) (cuts_past first.at cuts) ≡ list_all (fits limits here) (cuts_past last.at cuts)
   pub whole : last_of first (cuts_past first.at cuts) ≡ last_of last (cuts_past last.at cuts)
-  pub full : last_of first (fitting limits here (cuts_past first.at cuts)) ≡ last_of last (fitting limits here (cuts_past last.at cuts))
+  pub full : last_of first (fitting limits here (cuts_past first.at cuts))
+      ≡ last_of last (fitting limits here (cuts_past last.at cuts))
   pub early_end : last_early limits here None (first ∷ fitting limits here (cuts_past first.at cuts))
       ≡ last_early limits here early (fitting limits here (cuts_past last.at cuts))
   pub cut : IsCutOf cuts last

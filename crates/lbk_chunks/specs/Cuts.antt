@@ -24,7 +24,12 @@ cuts_among count words [] = []
 cuts_among count words (b ∷ bs) =
     let others = cuts_among count words bs in
     if is_within words b.at then others
-    else record { at = b.at; words = count + words_before words b.at; kind = kind_number b.kind; rule = rule_number b.rule } ∷ others
+    else record {
+      at = b.at;
+      words = count + words_before words b.at;
+      kind = kind_number b.kind;
+      rule = rule_number b.rule;
+    } ∷ others
 
 abbrev pub cuts_of : Profile → (ℕ → Cell) → List ℕ → List Cut
 cuts_of profile cell text = cuts_among 0 (words_of text) (breaks_of_bytes profile cell text)

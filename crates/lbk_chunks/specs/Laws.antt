@@ -21,7 +21,8 @@ BeginsUnfit l here (c ∷ cs) = fits l here c ≡ false
 
 -- no longer chunk would do: the last cut ends it, or an early end does, or the next cut does not fit
 abbrev pub IsFull : Limits → List Cut → Here → Cut → Type 0
-IsFull l cuts here end = (cuts_past end.at cuts ≡ []) ⊎ ((is_early l here end ≡ true) ⊎ BeginsUnfit l here (cuts_past end.at cuts))
+IsFull l cuts here end = (cuts_past end.at cuts ≡ [])
+    ⊎ ((is_early l here end ≡ true) ⊎ BeginsUnfit l here (cuts_past end.at cuts))
 
 -- the first starts at this place, and each other one where the one before it ends
 abbrev pub AreJoined : ℕ → List Chunk → Type 0

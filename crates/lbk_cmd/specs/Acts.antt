@@ -12,7 +12,8 @@ use Rattle.lbk_passage.specs.declared.faults.PassageFault.{PassageFault}
 use Rattle.lbk_notation.specs.Replay.{IsReplayRun, IsReplayed, fault_in, is_read_fault}
 use Rattle.lbk_notation.specs.Replay as replay
 use Rattle.lbk_cmd.specs.Engines.{engine_of, lines_of, marking, segmenting, showing}
-use Rattle.lbk_cmd.specs.Run.{Engine as TextEngine, IsRun, Writing, by_passage, failed_reads_with, failed_writes_with, is_failed_read}
+use Rattle.lbk_cmd.specs.Run.{Engine as TextEngine, IsRun, Writing, by_passage, failed_reads_with, failed_writes_with}
+use Rattle.lbk_cmd.specs.Run.{is_failed_read}
 use Rattle.lbk_cmd.specs.Ranges.{RangeRuns}
 use Rattle.lbk_cmd.specs.Chunk.{AreLinesOf, chunking, limits_of}
 use Rattle.lbk_chunks.specs.declared.chunk.Limits.{Limits}
@@ -105,7 +106,8 @@ form_of kinds = if kinds then Kinds else Plain
 
 -- the run ends before an engine runs: nothing was read or written
 abbrev pub StopsBefore : (NotReady → Type 0) → Devices → Devices → Ending → Type 0
-StopsBefore IsStop before after ending = (stop : NotReady) × IsStop stop × (ending ≡ ending_of_stop stop) × (after ≡ before)
+StopsBefore IsStop before after ending = (stop : NotReady) × IsStop stop × (ending ≡ ending_of_stop stop)
+    × (after ≡ before)
 
 -- without arguments: `show` with the cells of the sample files, or out of memory for these, with nothing read or
 -- written

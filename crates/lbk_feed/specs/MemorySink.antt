@@ -26,7 +26,8 @@ sink_tally s = s.tally
 pub record Accepts (old new : MemorySink) (bytes : List ℕ) (result : Result ℕ Failed) : Type 0 where
   pub within : IfOk result (λ n. n ≤ length bytes)
   pub some : 0 < length bytes → IfOk result (λ n. 0 < n)
-  pub size : IfOk result (λ n. n ≡ min (min (length bytes) (most_in_a_write old)) (sink_room old - length (sink_bytes old)))
+  pub size : IfOk result (λ n. n ≡ min (min (length bytes) (most_in_a_write old))
+      (sink_room old - length (sink_bytes old)))
   pub fails : IsErr result ↔ ((0 < length bytes) × (sink_room old ≤ length (sink_bytes old)))
   pub put : Puts (Some (sink_bytes old)) (Some (sink_bytes new)) result bytes
   pub room : sink_room new ≡ sink_room old

@@ -15,6 +15,8 @@ pub record AreEdges (text : List ℕ) (known : ℕ) (edges : Edges) : Type 0 whe
 
 -- `before` is the left set of what stands before the text
 pub record AreFound (sets : ByteSets) (before : ℕ) (text : List ℕ) (known : ℕ) (found : Found) : Type 0 where
-  pub standing : AreBits known (λ i. meets (left_before sets before text i) (right_in sets (get_or text i 0))) found.standing
-  pub special : AreBits known (λ i. meets (left_before sets before text i) (bit_and (right_in sets (get_or text i 0)) 3)) found.special
+  pub standing : AreBits known (λ i. meets (left_before sets before text i) (right_in sets (get_or text i 0)))
+      found.standing
+  pub special : AreBits known (λ i. meets (left_before sets before text i)
+      (bit_and (right_in sets (get_or text i 0)) 3)) found.special
   pub edges : AreEdges text known found.edges

@@ -22,7 +22,7 @@ use Rattle.lbk_passage.specs.declared.faults.PassageFault.{PassageFault}
 use Rattle.lbk_passage.specs.declared.faults.PassageFault.TheVariants.{Read, ParagraphTooLong}
 use Rattle.lbk_passage.specs.declared.paragraph.Paragraph.{Paragraph}
 use Rattle.lbk_passage.specs.declared.reach.Reach.{Reach}
-use Rattle.lbk_passage.specs.declared.reach.Stop.TheVariants.{PieceEnds, LineEnds, NoRoom}
+use Rattle.lbk_passage.specs.declared.reach.ReachEnd.TheVariants.{PieceEnds, LineEnds, NoRoom}
 use Rattle.lbk_passage.proofs.Reading.{HasRead-none, HasRead-step, few-step, each-step}
 use Rattle.lbk_passage.proofs.Staying.{stays-append, last_class-append}
 use Rattle.lbk_passage.proofs.Taking.{string_len-is}

@@ -13,8 +13,8 @@ use Rattle.lbk_passage.specs.State.{State, state_with, text_held}
 use Rattle.lbk_passage.specs.Stays.{IsWholeText, end_before, ends_at, last_class, stays}
 use Rattle.lbk_passage.specs.declared.paragraph.Paragraph.{Paragraph}
 use Rattle.lbk_passage.specs.declared.reach.Reach.{Reach}
-use Rattle.lbk_passage.specs.declared.reach.Stop.{Stop}
-use Rattle.lbk_passage.specs.declared.reach.Stop.TheVariants.{PieceEnds, LineEnds, NoRoom}
+use Rattle.lbk_passage.specs.declared.reach.ReachEnd.{ReachEnd}
+use Rattle.lbk_passage.specs.declared.reach.ReachEnd.TheVariants.{PieceEnds, LineEnds, NoRoom}
 use Rattle.lbk_passage.proofs.Gathered.{whole-line}
 use Rattle.lbk_passage.proofs.Marking.{few_passages, begins_with_all}
 use Rattle.lbk_passage.proofs.Staying.{stays-snoc, length-encode_more}
@@ -97,7 +97,7 @@ module _ (cell : ℕ → Cell) (profile : Profile) (old : Paragraph) (fresh : (o
   pub still_open : ¬ (r.stop ≡ LineEnds) → IsOpen (state_with cell profile old)
   still_open goes = by r.stop refl
     where
-      by : (stop : Stop) → r.stop ≡ stop → IsOpen (state_with cell profile old)
+      by : (stop : ReachEnd) → r.stop ≡ stop → IsOpen (state_with cell profile old)
       by LineEnds is = absurd (goes is)
       by PieceEnds is =
           open_by reaches.taken reaches.rest reaches.all reaches.none_ends

@@ -10,8 +10,8 @@ use Rattle.lbk_rules.specs.declared.Cell.{Cell}
 use Rattle.lbk_passage.specs.Gathering.{Reaches, Moves, Takes, StopsBefore}
 use Rattle.lbk_passage.specs.declared.paragraph.Paragraph.{Paragraph}
 use Rattle.lbk_passage.specs.declared.reach.Reach.{Reach}
-use Rattle.lbk_passage.specs.declared.reach.Stop.{Stop}
-use Rattle.lbk_passage.specs.declared.reach.Stop.TheVariants.{PieceEnds, LineEnds, NoRoom}
+use Rattle.lbk_passage.specs.declared.reach.ReachEnd.{ReachEnd}
+use Rattle.lbk_passage.specs.declared.reach.ReachEnd.TheVariants.{PieceEnds, LineEnds, NoRoom}
 use Rattle.lbk_passage.proofs.Booleans.{both-left, both-right}
 
 -- the length that a string keeps is that of its bytes
@@ -59,7 +59,7 @@ module _ (cell : ℕ → Cell) (last : Option Class) (piece : List ℕ) (room : 
       ap (λ n. drop n piece) reaches.len ∙ ap (drop (length (encode_utf8_all reaches.taken))) parts
       ∙ drop-append_seam (encode_utf8_all reaches.taken) (encode_utf8_all reaches.rest)
 
-StopsBefore-room : (cell : ℕ → Cell) (last : Option Class) (len room len' room' : ℕ) (stop : Stop) (rest : List ℕ)
+StopsBefore-room : (cell : ℕ → Cell) (last : Option Class) (len room len' room' : ℕ) (stop : ReachEnd) (rest : List ℕ)
     → ((n : ℕ) → room < len + n → room' < len' + n) → StopsBefore cell last len room stop rest → StopsBefore cell last len' room' stop rest
 StopsBefore-room cell last len room len' room' PieceEnds rest more stops = stops
 StopsBefore-room cell last len room len' room' LineEnds rest more stops = stops

@@ -16,7 +16,8 @@ pub record AreQuiet (cell : ℕ → Cell) (is_quiet : List Bool) : Type 0 where
 
 -- each byte from the place `start` to the place `end` has true in the list
 abbrev pub ArePassed : List Bool → List ℕ → ℕ → ℕ → Type 0
-ArePassed is_quiet bytes start end = (k : ℕ) → start ≤ k → k < end → slice_index_or is_quiet (slice_index_or bytes k 0) false ≡ true
+ArePassed is_quiet bytes start end = (k : ℕ) → start ≤ k → k < end
+    → slice_index_or is_quiet (slice_index_or bytes k 0) false ≡ true
 
 -- each byte below `count` has true in the list exactly if it is a letter or a number, and the others have false
 pub record AreLettersTo (count : ℕ) (cell : ℕ → Cell) (is_letter : List Bool) : Type 0 where
@@ -34,7 +35,8 @@ is_end (Some class) = ends_line class
 
 -- the scalars of a piece up to the byte `len`, behind one of class `first`, belong to its paragraph, and the last of
 -- all is of class `last`
-pub record Passes (cell : ℕ → Cell) (first : Option Class) (piece : List ℕ) (room len : ℕ) (last : Option Class) : Type 0 where
+pub record Passes (cell : ℕ → Cell) (first : Option Class) (piece : List ℕ) (room len : ℕ) (last : Option Class) : Type
+    0 where
   pub taken : List ℕ
   pub all : chars piece ≡ taken ++ chars (drop len piece)
   pub len_is : len ≡ length (encode_utf8_all taken)

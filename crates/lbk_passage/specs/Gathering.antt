@@ -25,17 +25,18 @@ use Rattle.lbk_passage.specs.declared.faults.PassageFault.{PassageFault}
 use Rattle.lbk_passage.specs.declared.faults.PassageFault.TheVariants.{Read, Spent}
 use Rattle.lbk_passage.specs.declared.paragraph.Paragraph.{Paragraph}
 use Rattle.lbk_passage.specs.declared.reach.Reach.{Reach}
-use Rattle.lbk_passage.specs.declared.reach.Stop.{Stop}
-use Rattle.lbk_passage.specs.declared.reach.Stop.TheVariants.{PieceEnds, LineEnds, NoRoom}
+use Rattle.lbk_passage.specs.declared.reach.ReachEnd.{ReachEnd}
+use Rattle.lbk_passage.specs.declared.reach.ReachEnd.TheVariants.{PieceEnds, LineEnds, NoRoom}
 
 -- why scalars whose last is of class `last` go no further into what follows them in a piece, where `room` bytes
 -- were left before they came
-abbrev pub StopsBefore : (ℕ → Cell) → Option Class → ℕ → ℕ → Stop → List ℕ → Type 0
+abbrev pub StopsBefore : (ℕ → Cell) → Option Class → ℕ → ℕ → ReachEnd → List ℕ → Type 0
 StopsBefore cell last len room PieceEnds rest = rest ≡ []
 StopsBefore cell last len room LineEnds rest =
     (c : ℕ) × (cs : List ℕ) × (rest ≡ c ∷ cs) × (ends_at last (cell c).class ≡ true)
 StopsBefore cell last len room NoRoom rest =
-    (c : ℕ) × (cs : List ℕ) × (rest ≡ c ∷ cs) × (ends_at last (cell c).class ≡ false) × (room < len + length (encode_utf8 c))
+    (c : ℕ) × (cs : List ℕ) × (rest ≡ c ∷ cs) × (ends_at last (cell c).class ≡ false)
+    × (room < len + length (encode_utf8 c))
 
 -- of the scalars of a piece that stands behind one of class `last`, those taken belong to its paragraph
 pub record Reaches (cell : ℕ → Cell) (last : Option Class) (piece : List ℕ) (room : ℕ) (r : Reach) : Type 0 where
@@ -50,7 +51,11 @@ pub record Reaches (cell : ℕ → Cell) (last : Option Class) (piece : List ℕ
 
 -- the first bytes that the feed has ready went to the text
 pub record Moves (old new : Paragraph) (len : ℕ) : Type 0 where
-  pub feed : new.feed ≡ record old.feed { held = drop len old.feed.held; ready = drop len old.feed.ready; given = old.feed.given + len }
+  pub feed : new.feed ≡ record old.feed {
+    held = drop len old.feed.held;
+    ready = drop len old.feed.ready;
+    given = old.feed.given + len;
+  }
   pub text : string_bytes new.text ≡ string_bytes old.text ++ take len old.feed.ready
   pub limit : new.limit ≡ old.limit
   pub held : new.is_held ≡ old.is_held
@@ -114,14 +119,16 @@ pub record WasOpen (cell : ℕ → Cell) (limit : ℕ) (old : View) (all : List 
   pub each_gave : reads'.count + length old.held ≤ reads.count + (length text + length rest + 1)
 
 -- what was read from when nothing was gathered, where `all` are the bytes gathered and held
-pub record HasRead (cell : ℕ → Cell) (limit : ℕ) (old : View) (all : List ℕ) (unread unread' : Option (List ℕ)) (reads reads' : Reads)
+pub record HasRead (cell : ℕ → Cell) (limit : ℕ) (old : View) (all : List ℕ) (unread unread' : Option (List ℕ))
+    (reads reads' : Reads)
     (fault : Option PassageFault) : Type 0 where
   pub got : List ℕ
   pub grown : all ≡ old.held ++ got
   pub ahead_kept : KeepsAhead fault (prepend_known old.held unread) (prepend_known all unread')
   pub begins : BeginsWith all (prepend_known old.held unread)
   pub but_one : reads'.count + length old.held ≤ reads.count + length all + 1
-  pub within : reads.count < reads'.count → reads'.count + (old.given + length old.held) ≤ reads.count + (longest_text + 1)
+  pub within : reads.count < reads'.count → reads'.count + (old.given + length old.held) ≤ reads.count
+      + (longest_text + 1)
   pub due : IsStill old.held all reads reads' ⊎ WasOpen cell limit old all reads reads'
 
 -- a paragraph that is being gathered, from when nothing was
@@ -136,7 +143,8 @@ pub record Gathering (cell : ℕ → Cell) (old now : Paragraph) (last : Option 
   pub few : reads'.count ≤ reads.count + (length (string_bytes now.text) + 4)
   pub agrees : feed.Agrees old.feed ended unread → feed.Agrees now.feed ended' unread'
   pub notices : now.feed.is_ended ≡ false → ended' ≡ ended
-  pub quiet : old.feed.is_ended ≡ true → (string_bytes now.text ++ now.feed.held ≡ old.feed.held) × (now.feed.is_ended ≡ true) × (reads' ≡ reads)
+  pub quiet : old.feed.is_ended ≡ true → (string_bytes now.text ++ now.feed.held ≡ old.feed.held)
+      × (now.feed.is_ended ≡ true) × (reads' ≡ reads)
   pub none_ends : stays cell None (chars (string_bytes now.text)) ≡ true
   pub last_is : last ≡ last_class cell None (chars (string_bytes now.text))
 
@@ -148,14 +156,16 @@ pub record Gathers (cell : ℕ → Cell) (old new : Paragraph) (unread unread' :
   pub open_end : new.is_held ≡ false
   pub spent : new.is_spent ≡ ends_run (fault_in r)
   pub given : new.feed.given ≡ old.feed.given + length (string_bytes new.text)
-  pub read : HasRead cell old.limit old.feed (string_bytes new.text ++ new.feed.held) unread unread' reads reads' (fault_in r)
+  pub read : HasRead cell old.limit old.feed (string_bytes new.text ++ new.feed.held) unread unread' reads reads'
+      (fault_in r)
   pub each_gave : (ends_run (fault_in r) || new.feed.is_ended) ≡ false
       → reads'.count + length old.feed.held ≤ reads.count + length (string_bytes new.text ++ new.feed.held)
   pub few : reads'.count ≤ reads.count + (old.limit + 4)
   pub agrees : feed.Agrees old.feed ended unread → feed.Agrees new.feed ended' unread'
   pub notices : new.feed.is_ended ≡ false → ended' ≡ ended
   pub quiet : old.feed.is_ended ≡ true
-      → (string_bytes new.text ++ new.feed.held ≡ old.feed.held) × (new.feed.is_ended ≡ true) × (reads' ≡ reads) × (¬ (fault_in r ≡ Some Read))
+      → (string_bytes new.text ++ new.feed.held ≡ old.feed.held) × (new.feed.is_ended ≡ true) × (reads' ≡ reads)
+      × (¬ (fault_in r ≡ Some Read))
   pub whole : IfOk r (λ end. IsWholeText cell (string_bytes new.text) new.feed end)
   pub stops : IfErr r (λ fault. (profile : Profile) → Stops (state_with cell profile new) fault)
 
@@ -165,7 +175,8 @@ pub record IsFirst (s : State) (p : Paragraph) (end : Verdict) : Type 0 where
   pub broken : is_no end.kind ≡ false
   pub comes : ComesFirst s (ended end (marks s.profile s.cell (chars (string_bytes p.text)))) p.feed.held
   pub counted : s.start + length (string_bytes p.text) ≤ longest_text
-  pub near : (next : ℕ) (rest : List ℕ) → p.feed.held ≡ encode_utf8 next ++ rest → p.feed.given + length (encode_utf8 next) ≤ longest_text
+  pub near : (next : ℕ) (rest : List ℕ) → p.feed.held ≡ encode_utf8 next ++ rest
+      → p.feed.given + length (encode_utf8 next) ≤ longest_text
 
 -- what the answer of a call that fills a paragraph says
 abbrev pub FillAnswers : State → Paragraph → Bool → Result (Option Verdict) PassageFault → Type 0
@@ -184,15 +195,19 @@ pub record Fills (cell : ℕ → Cell) (profile : Profile) (old new : Paragraph)
   pub spent : new.is_spent ≡ (old.is_spent || ends_run (fault_in r))
   pub got : List ℕ
   pub grown : (state_with cell profile new).held ≡ (state_with cell profile old).held ++ got
-  pub ahead_kept : KeepsAhead (fault_in r) (prepend_known (state_with cell profile old).held unread) (prepend_known (state_with cell profile new).held unread')
+  pub ahead_kept : KeepsAhead (fault_in r) (prepend_known (state_with cell profile old).held unread)
+      (prepend_known (state_with cell profile new).held unread')
   pub begins : BeginsWith (state_with cell profile new).held (prepend_known (state_with cell profile old).held unread)
-  pub costs : Costs (state_with cell profile old) (state_with cell profile new) (state_with cell profile new).held (ends_run (fault_in r)) reads reads'
+  pub costs : Costs (state_with cell profile old) (state_with cell profile new) (state_with cell profile new).held
+      (ends_run (fault_in r)) reads reads'
   pub agrees : feed.Agrees old.feed ended unread → feed.Agrees new.feed ended' unread'
   pub notices : new.feed.is_ended ≡ false → ended' ≡ ended
   pub quiet : old.feed.is_ended ≡ true
-      → ((state_with cell profile new).held ≡ (state_with cell profile old).held) × (new.feed.is_ended ≡ true) × (reads' ≡ reads) × (¬ (fault_in r ≡ Some Read))
+      → ((state_with cell profile new).held ≡ (state_with cell profile old).held) × (new.feed.is_ended ≡ true)
+      × (reads' ≡ reads) × (¬ (fault_in r ≡ Some Read))
   pub still : (old.is_held || old.is_spent) ≡ true
-      → IsStill (state_with cell profile old).held (state_with cell profile new).held reads reads' × (¬ (fault_in r ≡ Some Read))
+      → IsStill (state_with cell profile old).held (state_with cell profile new).held reads reads'
+      × (¬ (fault_in r ≡ Some Read))
 
 -- the same paragraph, but for whether it is held, and whether it is spent
 pub record IsSame (old new : Paragraph) (is_held is_spent : Bool) : Type 0 where

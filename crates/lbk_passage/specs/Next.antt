@@ -134,7 +134,8 @@ LiesBehind Spent s seen rest = ⊥
 -- the scalars seen are all well-formed bytes held, but where the paragraph is too long, which is known sooner
 abbrev pub IsAllSeen : PassageFault → State → List ℕ → Type 0
 IsAllSeen (ParagraphTooLong start) s seen = Unit {0}
-IsAllSeen _ s seen = AfterEach s.start (λ used. used ++ encode_utf8_all seen ≡ well_formed_prefix (counted (used ++ s.held)))
+IsAllSeen _ s seen = AfterEach s.start (λ used. used ++ encode_utf8_all seen
+    ≡ well_formed_prefix (counted (used ++ s.held)))
 
 -- the segmenter stops by a fault of its reader or its text. The scalars seen, which begin the bytes held, are at most
 -- one passage, and begin the first passage of every text that goes on from them. All of them lie within the bytes
@@ -219,10 +220,13 @@ pub record AfterNext (old new : State) (unread unread' : Option (List ℕ)) (end
   pub settled : new.is_settled ≡ not (lends r)
   pub got : List ℕ
   pub grown : lent_text r ++ new.held ≡ old.held ++ got
-  pub ahead_kept : KeepsAhead (fault_in r) (prepend_known old.held unread) (prepend_known (lent_text r ++ new.held) unread')
+  pub ahead_kept : KeepsAhead (fault_in r) (prepend_known old.held unread)
+      (prepend_known (lent_text r ++ new.held) unread')
   pub begins : BeginsWith (lent_text r ++ new.held) (prepend_known old.held unread)
   pub costs : Costs old new (lent_text r ++ new.held) (ends_run (fault_in r)) reads reads'
   pub agrees : Agrees old ended unread → Agrees new ended' unread'
   pub notices : new.is_ended ≡ false → ended' ≡ ended
-  pub quiet : old.is_ended ≡ true → (lent_text r ++ new.held ≡ old.held) × (new.is_ended ≡ true) × (reads' ≡ reads) × (¬ (fault_in r ≡ Some Read))
-  pub still : old.is_settled ≡ true → IsStill old.held (lent_text r ++ new.held) reads reads' × (¬ (fault_in r ≡ Some Read))
+  pub quiet : old.is_ended ≡ true → (lent_text r ++ new.held ≡ old.held) × (new.is_ended ≡ true) × (reads' ≡ reads)
+      × (¬ (fault_in r ≡ Some Read))
+  pub still : old.is_settled ≡ true → IsStill old.held (lent_text r ++ new.held) reads reads'
+      × (¬ (fault_in r ≡ Some Read))

@@ -25,7 +25,8 @@ abbrev pub onward_in : Profile → (ℕ → Cell) → List ℕ → List ℕ → 
 onward_in profile cell text before at = onward profile cell before at (chars (drop at text))
 
 -- of the breaks from the byte `start` of a text on these were given, and the others come from the byte `at` on
-pub record Filled (Fits : List ℕ → Type 0) (profile : Profile) (cell : ℕ → Cell) (text before : List ℕ) (start at : ℕ) (given : List Break) : Type 0 where
+pub record Filled (Fits : List ℕ → Type 0) (profile : Profile) (cell : ℕ → Cell) (text before : List ℕ) (start at : ℕ)
+    (given : List Break) : Type 0 where
   pub taken : List ℕ
   pub fits : Fits (before ++ taken)
   pub joined : onward_in profile cell text before start ≡ given ++ onward_in profile cell text (before ++ taken) at
@@ -36,13 +37,15 @@ FillsTo true Fits profile cell text before start at given = onward_in profile ce
 FillsTo false Fits profile cell text before start at given = Filled Fits profile cell text before start at given
 
 -- until the end is given: what was taken of the text, and that the breaks from there on are to come
-pub record Comes (Fits : List ℕ → Type 0) (profile : Profile) (cell : ℕ → Cell) (text : List ℕ) (at given : ℕ) : Type 0 where
+pub record Comes (Fits : List ℕ → Type 0) (profile : Profile) (cell : ℕ → Cell) (text : List ℕ) (at given : ℕ) : Type
+    0 where
   pub taken : List ℕ
   pub fits : Fits taken
   pub to_come : drop given (breaks profile cell (chars text)) ≡ onward_in profile cell text taken at
 
 -- what stays so: what comes until the end is given, and that nothing comes from then on
-pub record IsKept (Fits : Profile → (ℕ → Cell) → List ℕ → Type 0) (profile : Profile) (cell : ℕ → Cell) (text : List ℕ) (at given : ℕ) (ended : Bool) : Type 0 where
+pub record IsKept (Fits : Profile → (ℕ → Cell) → List ℕ → Type 0) (profile : Profile) (cell : ℕ → Cell) (text : List ℕ)
+    (at given : ℕ) (ended : Bool) : Type 0 where
   pub few : length text < 2 ^ 64
   pub place : IsCharBoundary text at
   pub within : given ≤ length (breaks profile cell (chars text))

@@ -14,7 +14,8 @@ use Rattle.lbk_passage.specs.declared.passage.Segment.{Segment}
 -- the passages of a part: where another part follows, the last of them ends by rule 4 or 5
 abbrev pub passages_in : Profile → (ℕ → Cell) → Bool → List ℕ → List (List Marked)
 passages_in profile cell follows part =
-    if follows then with_last (ended (end_before_more cell part)) (passages profile cell part) else passages profile cell part
+    if follows then with_last (ended (end_before_more cell part)) (passages profile cell part)
+    else passages profile cell part
 
 -- what is said of passages one after another, joined: `say at ms` of one that begins at byte `at` of the text. The
 -- first begins at byte `at`

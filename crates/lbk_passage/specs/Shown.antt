@@ -45,7 +45,8 @@ pub record LacksRoom (found : Found) (s : State) : Type 0 where
   pub behind : List ℕ
   pub bytes : s.held ≡ text_of marks ++ behind
   pub comes : ComesFirst s marks behind
-  pub full : (found.room_for_segments < length (segments_of marks)) ⊎ (found.room_for_pieces < length (pieces_of s.cell (text_of marks)))
+  pub full : (found.room_for_segments < length (segments_of marks))
+      ⊎ (found.room_for_pieces < length (pieces_of s.cell (text_of marks)))
 
 -- room that was there stays, and it grows to at most twice of what is found; a call is out of memory only where it
 -- lacked some; `s` is the state after it

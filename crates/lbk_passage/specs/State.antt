@@ -24,7 +24,16 @@ pub record State : Type 0 where
 
 -- before any call
 abbrev pub new_state : (ℕ → Cell) → Profile → ℕ → State
-new_state cell profile limit = record { cell = cell; profile = profile; limit = limit; start = 0; held = []; is_ended = false; is_settled = false; is_spent = false }
+new_state cell profile limit = record {
+  cell = cell;
+  profile = profile;
+  limit = limit;
+  start = 0;
+  held = [];
+  is_ended = false;
+  is_settled = false;
+  is_spent = false;
+}
 
 -- the text of the paragraph in progress: none, once it was given
 abbrev pub text_held : Paragraph → List ℕ

@@ -34,7 +34,7 @@ pub struct Breaks<'a, C: CellSource> {
     ended: bool,
 }
 
-// A value of it is the list of the breaks that are still to come.
+// Its value is the list of the breaks that are left.
 impl<'a, C: CellSource> Model for Breaks<'a, C> {
     ghost use Rattle.std.specs.Prelude.{List, drop};
     ghost use Rattle.std.specs.Str.{chars};
@@ -51,8 +51,7 @@ impl<'a, C: CellSource> Model for Breaks<'a, C> {
 }
 
 impl<'a, C: CellSource> Breaks<'a, C> {
-    /// The breaks of a text by these cells and the rules of the profile (UAX #14, section 6), none of which was
-    /// returned yet.
+    /// All breaks of a text by these cells and the rules of the profile (UAX #14, section 6).
     pub fn new(cells: &'a C, text: &'a str, profile: Profile) -> Breaks<'a, C>
         ensures { result ≡ breaks profile (C.cell_of cells.now) (chars text.now) }
     {
@@ -67,8 +66,8 @@ impl<'a, C: CellSource> Breaks<'a, C> {
         }
     }
 
-    /// Puts the next breaks into the front of the block, as many as it holds or all that are left, and returns how
-    /// many: 0 at the end, or where the block has no room. What stands in the block after them is unspecified.
+    /// Writes the next breaks to the front of the block, as many as it holds or all that are left, and returns how
+    /// many: 0 at the end, or if the block has no room. The entries of the block after them are unspecified.
     pub fn fill(&mut self, block: &mut [Break]) -> usize
         ensures count { result ≡ min (length block.old) (length self.old) }
         ensures front { take result block.new ≡ take result self.old }

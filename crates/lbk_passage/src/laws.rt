@@ -20,9 +20,8 @@ ghost use Rattle.lbk_passage.specs.State.{State};
 ghost use Rattle.lbk_passage.specs.Next.{ComesFirst, IsDone, Stops};
 ghost use Rattle.lbk_passage.specs.Runs.{HasGiven};
 
-/// The paragraph law, for passages: after an earlier text that is empty, or after whose last scalar a line must end,
-/// the passages of a text are those that it has by itself, with the same marks (UAX #14, section 6.1, rules LB4 and
-/// LB5).
+/// The paragraph law, for passages: after an earlier text that is empty or ends with a required break, the passages of
+/// a text are those of the text alone, with the same marks (UAX #14, section 6.1, rules LB4 and LB5).
 pub fn behind_an_earlier_text()
     ensures { (profile : Profile) (cell : ℕ → Cell) (earlier text : List ℕ)
         → (earlier ≡ []) ⊎ ((verdict_between_in profile (map cell earlier) (map cell text)).kind ≡ Must)
@@ -59,8 +58,9 @@ pub fn run_begins()
     ensures { (profile : Profile) (cell : ℕ → Cell) (left : List ℕ) → HasGiven profile cell [] left }
 {}
 
-/// A passage more: where it comes first in the rest of the text, those given before it and it are the first ones of
-/// the whole text. The bytes left before it are its own, those after it, and those unread; at the end none are unread.
+/// One more passage: if it is the first of the rest of the text, then it and the passages returned before it are the
+/// first ones of the whole text. The bytes left before it are its own, those after it, and those unread; at the end
+/// none are unread.
 pub fn run_goes_on()
     ensures { (s : State) (given : List (List Marked)) (passage : List Marked) (behind unread : List ℕ)
         → 0 < length passage → IsUtf8 (text_of passage) → (s.is_ended ≡ true → unread ≡ [])
@@ -101,7 +101,7 @@ pub fn joined_texts()
         ++ pieces_in profile cell (length (encode_utf8_all first)) false second }
 {}
 
-/// So may any number of parts: each is cut by itself, with the byte at which it begins and whether another follows it.
+/// The same for any number of parts: each is cut alone, given its offset and whether another part follows.
 pub fn joined_parts()
     ensures passages { (profile : Profile) (cell : ℕ → Cell) (parts : List (List ℕ)) → AreParts cell parts
         → passages profile cell (flat_map (λ part. part) parts) ≡ of_parts (λ at. passages_in profile cell) 0 parts }

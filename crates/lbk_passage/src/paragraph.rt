@@ -6,7 +6,7 @@ ghost use Rattle.lbk_feed.specs.Text.{greatest_limit};
 use crate::ends::end_before;
 use crate::faults::{PassageFault, from_feed};
 use crate::flags::ByteFlags;
-use crate::reach::{Reach, Stop, reach_in};
+use crate::reach::{Reach, ReachEnd, reach_in};
 use lbk_feed::{Feed, Source};
 use lbk_rules::{CellSource, Class, Verdict};
 use std::alloc::{AllocError, Global};
@@ -141,7 +141,7 @@ impl Paragraph {
         }
         self.text.clear();
         let reach = self.reach(cells, flags, None);
-        let Stop::LineEnds = reach.stop else {
+        let ReachEnd::LineEnds = reach.stop else {
             return false;
         };
         self.move_up(reach.len);
@@ -173,9 +173,9 @@ impl Paragraph {
             let reach = self.take(cells, flags, last);
             last = reach.last;
             match reach.stop {
-                Stop::PieceEnds => {}
-                Stop::LineEnds => return Ok(end_before(last, true)),
-                Stop::NoRoom => return Err(self.refuse()),
+                ReachEnd::PieceEnds => {}
+                ReachEnd::LineEnds => return Ok(end_before(last, true)),
+                ReachEnd::NoRoom => return Err(self.refuse()),
             }
         }
         Ok(end_before(last, false))

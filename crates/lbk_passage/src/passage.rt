@@ -28,7 +28,7 @@ pub struct Passage<'a> {
     pub end: Verdict,
 }
 
-/// The text of a passage, whose segments and words were not found.
+/// The text of a passage, without its segments and words.
 #[derive(Clone, Copy, Debug)]
 pub struct PassageText<'a> {
     /// The number of bytes of the whole text before it.
@@ -44,7 +44,7 @@ pub struct PassageText<'a> {
 pub struct Segment {
     /// Where it begins.
     pub start: u32,
-    /// Where the break stands.
+    /// The offset of the break.
     pub end: u32,
     /// The kind of the break at its end.
     pub kind: Kind,
@@ -59,6 +59,6 @@ pub struct Piece {
     pub start: u32,
     /// Where it ends, and the next one begins.
     pub end: u32,
-    /// Whether it holds a letter or a number: a scalar whose cell has `letter`.
+    /// Whether it has a letter or a number: a scalar with `letter` in its cell.
     pub word: bool,
 }

@@ -9,7 +9,7 @@ use lbk_rules::{Break, Kind, Verdict};
 /// How far a block is filled with the breaks of a text.
 #[derive(Clone, Copy)]
 pub(crate) struct FilledTo {
-    /// How many breaks stand in its front.
+    /// How many breaks are at its front.
     pub(crate) count: usize,
     /// How many bytes of the text were taken.
     pub(crate) at: usize,

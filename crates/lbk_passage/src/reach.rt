@@ -10,7 +10,7 @@ use lbk_rules::{CellSource, Class};
 
 /// Why a paragraph reaches no further into a piece.
 #[derive(Clone, Copy, PartialEq, Eq, Debug)]
-pub enum Stop {
+pub enum ReachEnd {
     /// The piece is all of the paragraph.
     PieceEnds,
     /// A line must end before the next scalar.
@@ -24,20 +24,20 @@ pub enum Stop {
 pub struct Reach {
     pub len: usize,
     pub last: Option<Class>,
-    pub stop: Stop,
+    pub stop: ReachEnd,
 }
 
 ghost use Rattle.lbk_passage.specs.Gathering.{Reaches};
 
-/// A place in a piece up to which all belongs to a paragraph, and the class of the scalar before it.
+/// How much of a piece belongs to a paragraph, as far as it was read, and the class of the scalar before that end.
 #[derive(Clone, Copy)]
-struct Place {
+struct Scanned {
     len: usize,
     last: Option<Class>,
 }
 
-impl Place {
-    fn stops(self, stop: Stop) -> Reach
+impl Scanned {
+    fn stops(self, stop: ReachEnd) -> Reach
         ensures { (result.len ≡ self.len) × (result.last ≡ self.last) × (result.stop ≡ stop) }
     {
         Reach {
@@ -60,23 +60,23 @@ pub fn reach_in<C: CellSource>(
     ensures { Reaches (C.cell_of cells.now) last piece.now room result }
 {
     let most = piece.floor_char_boundary(room);
-    let mut here = Place { len: 0, last };
+    let mut here = Scanned { len: 0, last };
     loop {
         // Scalars after which no line must end come in runs.
         let quiet = pass_quiet(cells, flags, piece, most, here);
         let mut scalars = piece[quiet.len..].chars();
         let Some(c) = scalars.next() else {
-            return quiet.stops(Stop::PieceEnds);
+            return quiet.stops(ReachEnd::PieceEnds);
         };
         let class = cells.cell(c).class;
         if ends_at(quiet.last, class) {
-            return quiet.stops(Stop::LineEnds);
+            return quiet.stops(ReachEnd::LineEnds);
         }
         let next = piece.len() - scalars.as_str().len();
         if next > room {
-            return quiet.stops(Stop::NoRoom);
+            return quiet.stops(ReachEnd::NoRoom);
         }
-        here = Place {
+        here = Scanned {
             len: next,
             last: Some(class),
         };
@@ -91,8 +91,8 @@ fn pass_quiet<C: CellSource>(
     flags: &ByteFlags,
     piece: &str,
     most: usize,
-    here: Place,
-) -> Place
+    here: Scanned,
+) -> Scanned
     requires quiet { AreQuiet (C.cell_of cells.now) flags.now.is_quiet }
     requires order { here.len ≤ most }
     requires most { IsCharBoundary piece.now most }
@@ -111,7 +111,7 @@ fn pass_quiet<C: CellSource>(
     let Some(last) = piece[..len].chars().next_back() else {
         return here;
     };
-    Place {
+    Scanned {
         len,
         last: Some(cells.cell(last).class),
     }

@@ -18,7 +18,7 @@ use lbk_feed::{LIMIT_MAX, Source};
 use lbk_rules::{Break, CellSource, Profile, Verdict};
 use std::alloc::{AllocError, Global};
 
-/// Cuts a text of any length into passages, of which it holds one at a time.
+/// Cuts a text of any length into passages, and holds one at a time.
 ///
 /// One reader serves all calls. The text of a paragraph has at most as many bytes as the limit says.
 ///
@@ -89,11 +89,10 @@ impl<'a, C: CellSource> Segmenter<'a, C> {
 
     /// The next passage, or `None` at the end of the text and from then on.
     ///
-    /// It is given once the scalar after it, or the end of the text, was seen, after at most `limit + 8` reads. A
-    /// fault of the reader or of the text (`Read`, `NotUtf8`, `TextTooLong`, `ParagraphTooLong`) comes at its place,
-    /// once the passages before it were given, and `Spent` from then on. `Memory` is returned if the passage has more
-    /// segments or pieces than there was room for, and memory could not grow; it stays, and the same call made again
-    /// reads nothing.
+    /// It is returned once the scalar after it, or the end of the text, was read, after at most `limit + 8` reads. A
+    /// fault of the reader or of the text (`Read`, `NotUtf8`, `TextTooLong`, `ParagraphTooLong`) is returned exactly at
+    /// its offset, after the passages before it, and then `Spent`. `Memory` is returned if an allocation for the
+    /// passage's segments or pieces fails; nothing is lost, and the same call again reads nothing.
     pub fn next<R: Source>(&mut self, reader: &mut R) -> Result<Option<Passage<'_>>, PassageFault>
         ensures* after_borrow { sem 𝓛
             (Rests (the_row (record { mir = named 1; lft = [] }) C.row C.CellSource) self.entry (λ new.

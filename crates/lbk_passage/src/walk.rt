@@ -12,7 +12,7 @@ use lbk_rules::{Break, CellSource, RowMachine};
 /// What was put into a block.
 #[derive(Clone, Copy)]
 pub(crate) struct Filling {
-    /// How many breaks stand in its front.
+    /// How many breaks are at its front.
     pub(crate) count: usize,
     /// How many bytes of the text were taken.
     pub(crate) at: usize,

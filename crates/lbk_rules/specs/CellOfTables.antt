@@ -8,4 +8,5 @@ use Rattle.lbk_uax14.specs.Resolve.{cell_of_properties}
 -- the cell that tables give a scalar value
 unfoldable pub cell_of_tables : Tables → ℕ → Cell
 cell_of_tables tables code =
-    cell_of_properties (line_break_of tables code) (east_asian_of tables code) (category_of tables code) (is_pictographic_of tables code)
+    cell_of_properties (line_break_of tables code) (east_asian_of tables code) (category_of tables code)
+    (is_pictographic_of tables code)

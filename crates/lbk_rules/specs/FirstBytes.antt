@@ -10,8 +10,10 @@ first_byte code = slice_index_or (encode_utf8 code) 0 0
 
 -- a line must end behind no scalar whose first byte has true in the list
 abbrev pub AreQuiet : (ℕ → Cell) → List Bool → Type 0
-AreQuiet cell quiet = (code : ℕ) → IsScalar code → slice_index_or quiet (first_byte code) false ≡ true → ends_line (cell code).class ≡ false
+AreQuiet cell quiet = (code : ℕ) → IsScalar code → slice_index_or quiet (first_byte code) false ≡ true
+    → ends_line (cell code).class ≡ false
 
 -- the same of the codes before one
 abbrev pub AreQuietTo : (ℕ → Cell) → List Bool → ℕ → Type 0
-AreQuietTo cell quiet count = (code : ℕ) → code < count → IsScalar code → slice_index_or quiet (first_byte code) false ≡ true → ends_line (cell code).class ≡ false
+AreQuietTo cell quiet count = (code : ℕ) → code < count → IsScalar code → slice_index_or quiet (first_byte code) false
+    ≡ true → ends_line (cell code).class ≡ false

@@ -41,7 +41,8 @@ pub record IsFlatStep (left : Left) (cell : Cell) (one other : Step) : Type 0 wh
 
 -- these kinds are those of the cells that `cell` gives
 abbrev pub AreFlatKinds : List ℕ → (ℕ → Cell) → Type 0
-AreFlatKinds kinds cell = (code : ℕ) → IsScalar code → kind_cell (real_kind (slice_index kinds code)) ≡ normal (cell code)
+AreFlatKinds kinds cell = (code : ℕ) → IsScalar code → kind_cell (real_kind (slice_index kinds code))
+    ≡ normal (cell code)
 
 -- each number is that of a kind
 abbrev pub AreKinds : List ℕ → Type 0

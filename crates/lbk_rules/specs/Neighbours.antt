@@ -1,5 +1,6 @@
 -- What sets of bytes tell of the steps by two bytes that stand side by side.
-use Rattle.std.specs.Prelude.{◌≡◌, ◌⊎◌, ℕ, zero, suc, ◌+◌, ◌-◌, ◌*◌, ◌^◌, ◌<◌, ◌≤◌, ◌%◌, ◌==◌, ◌&&◌, Bool, true, false, not}
+use Rattle.std.specs.Prelude.{◌≡◌, ◌⊎◌, ℕ, zero, suc, ◌+◌, ◌-◌, ◌*◌, ◌^◌, ◌<◌, ◌≤◌, ◌%◌, ◌==◌, ◌&&◌, Bool, true, false}
+use Rattle.std.specs.Prelude.{not}
 use Rattle.std.specs.Prelude.{List, [], bit_and, bit_xor, fold, if◌then◌else◌, nat_le, nat_lt, slice_index_or}
 use Rattle.lbk_rules.specs.Letters.{StandsForAll}
 use Rattle.lbk_masks.specs.Sets.{left_in, meets, right_in}
@@ -48,7 +49,8 @@ row_of_byte kinds byte = row_of_kind (if nat_lt byte 128 then slice_index_or kin
 pub record AreNeighboursOf (kinds : List ℕ) (pairs : Neighbours) : Type 0 where
   pub left : pairs.sets.left ≡ LEFT
   pub right : pairs.sets.right ≡ RIGHT
-  pub classes : (row place : ℕ) → row < 8 → place < 16 → slice_index_or (slice_index_or pairs.sets.classes row []) place 0
+  pub classes : (row place : ℕ) → row < 8 → place < 16
+      → slice_index_or (slice_index_or pairs.sets.classes row []) place 0
       ≡ class_of_byte kinds (16 * row + place) + 16 * class_of_byte kinds (128 + (16 * row + place))
   pub rows : (byte : ℕ) → byte < 256 → slice_index_or pairs.rows byte 0 ≡ row_of_byte kinds byte
 
@@ -91,5 +93,6 @@ digest_with digest number = (bit_xor digest number * 0x100_0000_01b3) % 2 ^ 64
 unfoldable pub digest_of_neighbours : ℕ → Neighbours → ℕ
 digest_of_neighbours digest pairs =
     fold digest_with
-    (fold digest_with (fold digest_with (fold (λ sum row. fold digest_with sum row) digest pairs.sets.classes) pairs.sets.left) pairs.sets.right)
+    (fold digest_with (fold digest_with (fold (λ sum row. fold digest_with sum row) digest pairs.sets.classes)
+    pairs.sets.left) pairs.sets.right)
     pairs.rows

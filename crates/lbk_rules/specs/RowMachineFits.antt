@@ -9,7 +9,8 @@ use Rattle.lbk_rules.specs.Rows.{left_at}
 pub use Rattle.lbk_uax14.specs.Normal.{normals}
 
 -- it sees the scalars by these cells and in this profile, and its row knows of those taken what the rules ask
-pub record RowMachineFits {C : Type 0} (cell_of : C → ℕ → Cell) (machine : RowMachine C) (profile : Profile) (cell : ℕ → Cell) (taken : List ℕ) : Type 0 where
+pub record RowMachineFits {C : Type 0} (cell_of : C → ℕ → Cell) (machine : RowMachine C) (profile : Profile) (cell : ℕ
+    → Cell) (taken : List ℕ) : Type 0 where
   pub cell_same : cell ≡ cell_of machine.cells.now
   pub kinds_same : AreKindsOf (cell_of machine.cells.now) machine.kinds.now
   pub profile_same : machine.row.profile ≡ profile

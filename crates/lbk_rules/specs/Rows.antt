@@ -80,4 +80,5 @@ left_at place = row_left (place / 128)
 pub record IsStepFrom (profile : Profile) (place kind : ℕ) (step : Step) : Type 0 where
   pub begins : IsPlace step.next
   pub leads : (side : Side) → facts side ≡ left_at place → facts (kind_cell kind ∷ side) ≡ left_at step.next
-  pub shows : (side : Side) → facts side ≡ left_at place → step.shown ≡ shown_of (from_cells profile side (kind_cell kind ∷ []))
+  pub shows : (side : Side) → facts side ≡ left_at place
+      → step.shown ≡ shown_of (from_cells profile side (kind_cell kind ∷ []))

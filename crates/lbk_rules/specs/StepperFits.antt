@@ -34,7 +34,8 @@ Holds profile (Some held) (Some waits) = IsHeldRow profile held waits
 Holds profile _ _ = ⊥
 
 -- its machine fits, its steps are counted, and it holds the position that waits
-pub record StepperFits {C : Type 0} (cell_of : C → ℕ → Cell) (stepper : Stepper C) (profile : Profile) (cell : ℕ → Cell) (taken : List ℕ) : Type 0 where
+pub record StepperFits {C : Type 0} (cell_of : C → ℕ → Cell) (stepper : Stepper C) (profile : Profile) (cell : ℕ
+    → Cell) (taken : List ℕ) : Type 0 where
   pub machine_fits : RowMachineFits cell_of stepper.machine profile cell taken
   pub steps_same : stepper.steps ≡ length taken
   pub held_same : Holds profile stepper.held (waiting profile (reverse (normals cell taken)))

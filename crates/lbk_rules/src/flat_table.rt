@@ -1,5 +1,5 @@
-//! A table as plain numbers in one block, which a caller may keep where it likes: what the property files say. What the
-//! rules say stands in the code.
+//! A table as plain numbers in one block, in a caller's memory. It has what the property files say; the rules are in
+//! the code.
 
 ghost use Rattle.std.specs.Prelude.{◌≡◌, ℕ, ◌↔◌, false, nat_lt, IsTrue, IfOk, OnErr, fold};
 ghost use Rattle.std.specs.List.{list_all};
@@ -47,8 +47,8 @@ pub struct FlatTable {
 }
 
 impl FlatTable {
-    /// Makes it the table of the cells that these property tables give (UAX #14, section 6), whole. An error comes only
-    /// where memory was refused; the table then stays as it was.
+    /// Fills the table with the cells of these property tables (UAX #14, section 6). Returns an error only if an
+    /// allocation fails; the table is then unchanged.
     pub fn fill(&mut self, alloc: Global, tables: &Tables) -> Result<(), AllocError>
         ensures table { IfOk result (λ _. IsFlatOf self.new (cell_of_tables tables.now)) }
         ensures whole { IfOk result (λ _. IsWhole self.new) }

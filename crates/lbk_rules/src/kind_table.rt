@@ -27,8 +27,7 @@ impl KindTable {
         Ok(KindTable { kinds })
     }
 
-    /// The kinds of the cells that the source gives all codes. An error comes only where
-    /// memory was refused.
+    /// The kinds of all codes' cells in the source. Returns an error only if an allocation fails.
     pub(crate) fn build<C: CellRuns>(alloc: Global, source: &C) -> Result<KindTable, AllocError>
         ensures complete { IfOk result (λ table. length table.kinds.items ≡ 0x11_0000) }
         ensures kinds { IfOk result (λ table. (code : ℕ) → code < 0x11_0000

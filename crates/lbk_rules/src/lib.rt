@@ -1,13 +1,12 @@
-//! The door to the rules of line breaking: Unicode Standard Annex #14, Unicode 15.0, with all that decides by them.
+//! The interface to the rules of line breaking: Unicode Standard Annex #14, Unicode 15.0, and to what applies them.
 //!
-//! What callers need of the rules stands here: a text is seen as a list of [`Cell`]s, one a scalar, which a
-//! [`CellSource`] gives; [`decide`] returns for a position in it whether the line may break, must break or must not,
-//! and the rule that decided; [`Machine`] and [`LateMachine`] do so cell by cell, holding a few fields. The rules are
-//! written down in `lbk_uax14`.
+//! A text is a list of [`Cell`]s, one for each scalar, from a [`CellSource`]. [`decide`] returns, for a position in it,
+//! whether the line may break, must break or must not, and the rule that decided; [`Machine`] and [`LateMachine`] do so
+//! cell by cell, with a few fields of state. `lbk_uax14` has the rules.
 //!
-//! A [`CellSource`] knows the cells of all scalars: the tables of the property files, or [`CellPages`] made of them,
-//! which is fast. [`Stepper`] decides a text scalar by scalar by such a source and by constant steps; the crate
-//! `lbk_passage` finds the breaks of a text in memory, and is faster.
+//! A [`CellSource`] has the cells of all scalars: the tables of the property files, or [`CellPages`] made from them,
+//! which are faster. [`Stepper`] decides a text scalar by scalar with such a source and constant steps. The crate
+//! `lbk_passage` finds the breaks of a text in memory, and is faster still.
 #![tactic(auto)]
 
 mod ahead;

@@ -53,8 +53,8 @@ impl CellPages {
     ghost use Rattle.lbk_rules.specs.CellPages.{page_cell};
     ghost use Rattle.lbk_rules.specs.CellOfTables.{cell_of_tables};
 
-    /// The pages of these tables, which give each scalar value the cell that the tables give it. An
-    /// error comes only where memory was refused.
+    /// The pages of these tables: each scalar value has its cell of the tables. Returns an error only if an allocation
+    /// fails.
     pub fn build(alloc: Global, tables: &Tables) -> Result<CellPages, AllocError>
         ensures { IfOk result (λ pages. (code : ℕ) → IsScalar code
             → page_cell pages code ≡ cell_of_tables tables.now code) }

@@ -98,8 +98,8 @@ impl<'a, C: CellSource> RowMachine<'a, C> {
         verdict_of(step.shown)
     }
 
-    /// Takes the next scalar, if what follows does not decide the position before it: the verdict there. None comes
-    /// where the position is held, and the scalar is not taken then.
+    /// Takes the next scalar and returns the verdict before it. Returns `None`, and does not take the scalar, if that
+    /// position is held.
     #[inline(always)]
     pub fn step_unless_held(&mut self, c: char) -> Option<Verdict>
         ensures decides { (profile : Profile) (cell : ℕ → Cell) (taken : List ℕ) (more : List Cell)

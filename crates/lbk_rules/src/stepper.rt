@@ -9,8 +9,8 @@ use crate::source::CellSource;
 use lbk_uax14::{End, Out, Profile, Verdict, unless_held};
 use std::alloc::AllocError;
 
-/// A position whose verdict waits for the unit after a closing quotation mark, with both its verdicts:
-/// where that unit leaves the mark closed, or none comes, and where it does not.
+/// A position that waits for the unit after a closing quotation mark, with both its verdicts: if that unit leaves the
+/// mark closed or there is none, and if not.
 #[derive(Clone, Copy, PartialEq, Eq, Debug)]
 struct HeldRow {
     position: u64,
@@ -153,8 +153,8 @@ impl<'a, C: CellSource> Stepper<'a, C> {
         }
     }
 
-    /// The position that was held until now, and its verdict. `closes`: the unit that comes leaves the
-    /// quotation mark closed, or none comes.
+    /// The position that was held until now, and its verdict. `closes`: the next unit leaves the quotation mark closed,
+    /// or there is none.
     fn answer(&self, closes: bool) -> Option<(u64, Verdict)>
         ensures { (profile : Profile) (cell : ℕ → Cell) (taken : List ℕ) (more : List Cell)
             → StepperFits C.cell_of self.now profile cell taken

@@ -1,6 +1,6 @@
-//! Texts in parts: the breaks of a text that comes in pieces, cut at any byte or unit of UTF-16, from a stream that is
-//! a value of plain fields. The calls of the library for C stand on it. And where a text of any bytes or units may be
-//! cut into parts, so that the breaks of the parts, one after another, are those of the text.
+//! Texts in parts. The breaks of a text that arrives in pieces, cut at any byte or unit of UTF-16, by a stream that is
+//! a value of plain fields. And where a text of any bytes or units may be cut into parts, so that the breaks of the
+//! parts, joined, are those of the text. The library for C uses both.
 #![tactic(auto)]
 
 mod cutting;

@@ -1,25 +1,25 @@
-//! A text that comes in pieces, and how far it was taken.
+//! How far a text that arrives in pieces was read.
 
-/// How far a text of units was taken that comes in pieces. One of zeros stands at its start, in the first profile.
+/// How far a text that arrives in pieces of units was read. All zeros mean its start, in the first profile.
 #[repr(C)]
 #[derive(Clone, Copy)]
 pub struct Stream {
-    /// How many units of the stream were taken as scalars.
+    /// How many units of the stream were read as scalars.
     pub at: u64,
-    /// The unit before which the position stands that waits for what follows, if one waits.
+    /// The offset of the position that waits for what follows, if one does.
     pub held_at: u64,
-    /// The place of the table's row that knows of the scalars what the rules ask.
+    /// The index of the row that has what the rules need to know of the scalars.
     pub row: u16,
-    /// The number of the verdict at the position that waits, where what follows leaves the quotation open. 0 where none
+    /// The number of the verdict at the position that waits, if what follows leaves the quotation open; 0 if none
     /// waits.
     pub held_code: u16,
-    /// The units that came after those taken as scalars, as bytes: in UTF-16 two a unit, the low one first.
+    /// The units after those read as scalars, as bytes: in UTF-16 two bytes a unit, the low one first.
     pub cut: [u8; 4],
     /// How many units these are.
     pub cut_size: u8,
     /// The number of the profile: 0 for the first, 1 for the second.
     pub profile: u8,
-    /// 1 once nothing more is to come.
+    /// 1 once the end was returned.
     pub ended: u8,
 }
 
@@ -29,7 +29,7 @@ pub struct Stream {
 pub struct Fed {
     /// How many of its units were taken.
     pub taken: usize,
-    /// How many breaks stand in the front of the block.
+    /// How many breaks are at the front of the block.
     pub count: usize,
 }
 
@@ -58,13 +58,13 @@ pub struct Cut<U> {
     pub size: usize,
 }
 
-/// How far a call has come.
+/// How far a call got.
 #[derive(Clone, Copy)]
 pub(crate) struct Feeding<U> {
     pub(crate) place: StreamPosition,
     pub(crate) cut: Cut<U>,
     /// How many units of the piece were taken.
     pub(crate) taken: usize,
-    /// How many breaks stand in the front of the block.
+    /// How many breaks are at the front of the block.
     pub(crate) count: usize,
 }

@@ -1,4 +1,4 @@
-//! Code units of which a stream is made.
+//! The code units of a stream.
 
 ghost use Rattle.std.specs.Prelude.{◌≡◌, ℕ, ◌<◌, ◌≤◌, ◌++◌, Bool, true, false, List, length, take};
 ghost use Rattle.lbk_rules.specs.declared.Cell.{Cell};
@@ -16,7 +16,7 @@ use lbk_bytes::{FillState, RawBreak};
 use lbk_rules::{FlatTable, Profile};
 use lbk_units::{Unit, UnitScalar};
 
-/// A code unit of a text that comes in pieces.
+/// A code unit of a text that arrives in pieces.
 pub trait StreamUnit: Unit {
     ghost could_go_on: { List Self → Bool };
 

@@ -22,15 +22,15 @@ use crate::stream_unit::StreamUnit;
 use lbk_bytes::{RawBreak, goes_on, plain_number, profile_numbered, put_end};
 use lbk_rules::{FlatTable, Profile, place_by};
 
-/// Takes the next piece of a stream, and puts the breaks that it settles (UAX #14, section 3) into the front of the
-/// block, as many as that holds. All units of the piece are taken, unless the block is full. Where `last`, nothing
-/// follows the piece: the breaks left are settled then, and the end is the last of them.
+/// Takes the next piece of a stream, and writes the breaks that it settles (UAX #14, section 3) to the front of the
+/// block, as many as it holds. It takes all units of the piece, unless the block is full. If `last` is set, nothing
+/// follows the piece: then all breaks are settled, and the end is the last one.
 ///
-/// The units may be any: over all calls the breaks are those of the joined pieces, as in `lbk_breaks`, at places from
-/// the start of the stream, or of the text of which it is a part. Where the block has no room, nothing is taken and
-/// the stream stays. Where the stream has ended or names no profile, all is taken and no break comes. With any table
-/// and stream, the breaks are breaks of rules, and calls while the block is full come to an end. With any table, the
-/// places of a stream rise from its start on.
+/// The units may be any. The breaks of all calls are those of `lbk_breaks` for the joined pieces, with offsets from the
+/// start of the stream, or of the text that it is a part of. If the block has no room, nothing is taken and the stream
+/// is unchanged. If the stream has ended or its profile is unknown, all is taken and no break is returned. With any
+/// table and stream, the breaks are breaks of rules, and a loop of calls while the block is full terminates. With any
+/// table, the offsets of a stream rise from its start.
 pub fn feed<U: StreamUnit>(
     table: &FlatTable,
     stream: &mut Stream,

@@ -24,7 +24,8 @@ version_text which v = codes "this is Unicode " ++ three_numbers v (codes ", and
 abbrev pub claim_text : Which → ClaimCause → List ℕ
 claim_text which Title = codes "this is not " ++ (file_name which ++ codes " of the Unicode Character Database")
 claim_text which (Version v) = version_text which v
-claim_text which Changed = codes "the file was changed or truncated: it differs from Unicode 15.0.0's " ++ file_name which
+claim_text which Changed = codes "the file was changed or truncated: it differs from Unicode 15.0.0's "
+    ++ file_name which
 
 -- the text about a truncated file
 abbrev pub cut_text : List ℕ

@@ -35,7 +35,8 @@ goes_on c = begins c || c.low_line
 
 -- the byte in the middle is of a run of letters, digits and low lines, or of a mark within one
 abbrev pub is_joined : Class → Class → Class → Bool
-is_joined before c after = goes_on c || ((c.mid_letter && (before.letter && after.letter)) || (c.mid_digit && (before.digit && after.digit)))
+is_joined before c after = goes_on c || ((c.mid_letter && (before.letter && after.letter))
+    || (c.mid_digit && (before.digit && after.digit)))
 
 -- byte i of 64 and the next one spell a letter
 abbrev pub is_first : List ℕ → ℕ → Bool
@@ -99,6 +100,8 @@ runs_before bytes first i = nat_lt first i && runs_at bytes (i - 1)
 pub record AreEdges (bytes : List ℕ) (first : ℕ) (found : Edges) : Type 0 where
   pub few : found.stop < 64
   pub fit : (i : ℕ) → get_or bytes i 0 < 256
-  pub edges : (i : ℕ) → i < 64 → is_set found.edges i ≡ (nat_lt i found.stop && (nat_le first i && differ (runs_at bytes i) (runs_before bytes first i)))
+  pub edges : (i : ℕ) → i < 64 → is_set found.edges i
+      ≡ (nat_lt i found.stop && (nat_le first i && differ (runs_at bytes i) (runs_before bytes first i)))
   pub plain : (i : ℕ) → first ≤ i → i < found.stop → ArePlain bytes i
-  pub begins : (i : ℕ) → first ≤ i → i < found.stop → runs_at bytes i ≡ true → runs_before bytes first i ≡ false → begins_at bytes i ≡ true
+  pub begins : (i : ℕ) → first ≤ i → i < found.stop → runs_at bytes i ≡ true → runs_before bytes first i ≡ false
+      → begins_at bytes i ≡ true

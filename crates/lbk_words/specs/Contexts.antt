@@ -35,11 +35,23 @@ context_of before = record {
 -- after one more scalar, of this value
 abbrev pub context_after : Context → WordBreak → Context
 context_after context value =
-    if is_ignored value then record { last = value; left = context.left; far_left = context.far_left; half_flag = context.half_flag }
-    else record { last = value; left = value; far_left = context.left; half_flag = is_regional value && not context.half_flag }
+    if is_ignored value then record {
+      last = value;
+      left = context.left;
+      far_left = context.far_left;
+      half_flag = context.half_flag;
+    }
+    else record {
+      last = value;
+      left = value;
+      far_left = context.left;
+      half_flag = is_regional value
+          && not context.half_flag;
+    }
 
 -- there is a boundary before `next`, where the first value behind it that WB4 does not pass over is `far_right`
 abbrev pub breaks_by : Context → ℕ → WordBreak → Bool
 breaks_by context next far_right =
     unwrap_or (break_by_pair context.last (word_break next) (is_extended_pictographic next))
-    (not (joins context.far_left context.left (word_break next) far_right || (context.half_flag && is_regional (word_break next))))
+    (not (joins context.far_left context.left (word_break next) far_right
+    || (context.half_flag && is_regional (word_break next))))

@@ -1,5 +1,6 @@
 -- Where the parts of a text end, as bits of 64 bytes tell it.
-use Rattle.std.specs.Prelude.{◌≡◌, ◌⊎◌, ℕ, ◌+◌, ◌-◌, ◌<◌, ◌≤◌, Bool, true, false, not, ◌&&◌, ◌||◌, ◌==◌, nat_lt, List, [], ◌∷◌}
+use Rattle.std.specs.Prelude.{◌≡◌, ◌⊎◌, ℕ, ◌+◌, ◌-◌, ◌<◌, ◌≤◌, Bool, true, false, not, ◌&&◌, ◌||◌, ◌==◌, nat_lt, List}
+use Rattle.std.specs.Prelude.{[], ◌∷◌}
 use Rattle.std.specs.Prelude.{drop, get_or, length, take}
 use Rattle.lbk_masks.specs.Sets.{is_set}
 use Rattle.lbk_words.specs.Blocks.{ArePlain, begins_at, runs_at}
@@ -20,7 +21,8 @@ pub record AreEnds (bytes : List ℕ) (first stop ends : ℕ) : Type 0 where
   pub fit : (i : ℕ) → get_or bytes i 0 < 256
   pub told : (i : ℕ) → i < 64 → is_set ends i ≡ (nat_lt i stop && (nat_lt first i && not (goes_on_at bytes i)))
   pub plain : (i : ℕ) → first ≤ i → i < stop → ArePlain bytes i
-  pub begins : (i : ℕ) → first ≤ i → i < stop → runs_at bytes i ≡ true → (i ≡ first) ⊎ (runs_at bytes (i - 1) ≡ false) → begins_at bytes i ≡ true
+  pub begins : (i : ℕ) → first ≤ i → i < stop → runs_at bytes i ≡ true → (i ≡ first) ⊎ (runs_at bytes (i - 1) ≡ false)
+      → begins_at bytes i ≡ true
 
 -- bits tell the ends of the next parts of a text from the byte `base` on
 pub record AreTold (text : List ℕ) (base bits : ℕ) : Type 0 where

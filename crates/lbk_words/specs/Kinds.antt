@@ -35,8 +35,10 @@ kind_at c = kind_number (word_break c) (is_letter_or_number c) (is_extended_pict
 -- what a kind tells
 abbrev pub kind_values : List WordBreak
 kind_values =
-    Cr ∷ DoubleQuote ∷ ExtendNumLet ∷ Extend ∷ Format ∷ HebrewLetter ∷ Katakana ∷ ALetter ∷ Lf ∷ MidNumLet ∷ MidLetter ∷ MidNum ∷ Newline ∷ Numeric
-    ∷ RegionalIndicator ∷ SingleQuote ∷ WSegSpace ∷ Other ∷ Zwj ∷ Extend ∷ HebrewLetter ∷ Katakana ∷ ALetter ∷ Numeric ∷ Other ∷ ALetter ∷ ALetter ∷ Other ∷ []
+    Cr ∷ DoubleQuote ∷ ExtendNumLet ∷ Extend ∷ Format ∷ HebrewLetter ∷ Katakana ∷ ALetter ∷ Lf ∷ MidNumLet ∷ MidLetter
+    ∷ MidNum ∷ Newline ∷ Numeric
+    ∷ RegionalIndicator ∷ SingleQuote ∷ WSegSpace ∷ Other ∷ Zwj ∷ Extend ∷ HebrewLetter ∷ Katakana ∷ ALetter ∷ Numeric
+    ∷ Other ∷ ALetter ∷ ALetter ∷ Other ∷ []
 
 abbrev pub kind_value : ℕ → WordBreak
 kind_value kind = slice_index_or kind_values kind Other

@@ -1,6 +1,8 @@
 -- The rows, written by scripts/word-tables: what the rules ask of a part so far, and whether it has a letter or a number.
 use Rattle.std.specs.Prelude.{Bool, true, false, List, [], ◌∷◌}
-use Rattle.ucd_breaks.specs.declared.WordBreak.TheVariants.{ALetter, Cr, DoubleQuote, ExtendNumLet, HebrewLetter, Katakana, Lf, MidLetter, MidNum, Numeric, Other, WSegSpace, Zwj}
+use Rattle.ucd_breaks.specs.declared.WordBreak.TheVariants.{ALetter, Cr, DoubleQuote, ExtendNumLet, HebrewLetter}
+use Rattle.ucd_breaks.specs.declared.WordBreak.TheVariants.{Katakana, Lf, MidLetter, MidNum, Numeric, Other, WSegSpace}
+use Rattle.ucd_breaks.specs.declared.WordBreak.TheVariants.{Zwj}
 use Rattle.lbk_words.specs.Contexts.{Context}
 
 abbrev pub rows : List (Context × Bool)

@@ -46,7 +46,12 @@ like_far DoubleQuote far = if is_hebrew_letter far then HebrewLetter else Other
 like_far _ far = Other
 
 abbrev pub canonical : Context → Context
-canonical x = record { last = near x.last; left = like_left x.left x.far_left; far_left = like_far x.left x.far_left; half_flag = x.half_flag }
+canonical x = record {
+  last = near x.last;
+  left = like_left x.left x.far_left;
+  far_left = like_far x.left x.far_left;
+  half_flag = x.half_flag;
+}
 
 -- a value ahead that the rules do not tell from this one
 abbrev pub answer_like : WordBreak → WordBreak
@@ -69,7 +74,8 @@ start_context = record { last = Other; left = Other; far_left = Other; half_flag
 
 -- whether there is a boundary, by the value and Extended_Pictographic of the next scalar
 abbrev pub breaks_value : Context → WordBreak → Bool → WordBreak → Bool
-breaks_value x value pict far = unwrap_or (break_by_pair x.last value pict) (not (joins x.far_left x.left value far || (x.half_flag && is_regional value)))
+breaks_value x value pict far = unwrap_or (break_by_pair x.last value pict)
+    (not (joins x.far_left x.left value far || (x.half_flag && is_regional value)))
 
 -- Rows
 
@@ -95,7 +101,8 @@ pub record IsStep (row c : ℕ) (far : WordBreak) (step : Step) : Type 0 where
   pub next : step.next < 43
   pub counts : step.counts ≡ (step.cuts && row_word row)
   pub cuts : (x : Context) → canonical x ≡ row_context row → breaks_by x c far ≡ step.cuts
-  pub joined : step.cuts ≡ false → (x : Context) → canonical x ≡ row_context row → canonical (context_after x (word_break c)) ≡ row_context step.next
+  pub joined : step.cuts ≡ false → (x : Context) → canonical x ≡ row_context row
+      → canonical (context_after x (word_break c)) ≡ row_context step.next
   pub fresh : step.cuts ≡ true → canonical (context_after start_context (word_break c)) ≡ row_context step.next
   pub word : row_word step.next ≡ (if step.cuts then is_letter_or_number c else (row_word row || is_letter_or_number c))
 

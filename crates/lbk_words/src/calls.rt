@@ -7,21 +7,20 @@ ghost use Rattle.lbk_words.specs.Words.{AreRising, IsBoundary, words_on};
 use crate::filling::fill;
 use crate::word::Word;
 
-/// How far the words of a text were asked for. One of zeros stands at the start of a text.
+/// How far the words of a text were read. All zeros mean the start of a text.
 #[repr(C)]
 #[derive(Clone, Copy)]
 pub struct WordState {
-    /// The byte from which the next words come. The text after it is taken as a text of its own.
+    /// The offset from which the next words are read. The text from there on counts as a whole text.
     pub at: usize,
 }
 
-/// Puts the next words of a text (UAX #29, section 4) into the front of the block, from the state
-/// on, and returns how many: as many as the block holds, or all that are left. The text may be any
-/// bytes: each longest piece that begins no scalar is read as U+FFFD (Unicode Standard, section
-/// 3.9).
+/// Writes the next words of a text (UAX #29, section 4) to the front of the block, from the state on, and returns how
+/// many: as many as the block holds, or all that are left. The text may be any bytes; each maximal subpart of
+/// ill-formed bytes is read as U+FFFD (Unicode Standard, section 3.9).
 ///
-/// Where the block has no room, or the state is at the text's end or past it, the state stays and
-/// no word comes. What stands in the block after the words is unspecified.
+/// Returns 0 and leaves the state unchanged if the block has no room, or if the state is at or past the end of the
+/// text. The entries of the block after the words are unspecified.
 #[unsafe(no_mangle)]
 pub extern "C" fn lbk_words(state: &mut WordState, text: &[u8], out: &mut [Word]) -> usize
     ensures count { result ≡ min (length out.old) (length (words_on text.now state.old.at)) }

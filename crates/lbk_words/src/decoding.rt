@@ -63,7 +63,7 @@ pub(crate) fn scalar_of_three(bytes: &[u8]) -> Option<Coded>
     Some(Coded { code, size: 3 })
 }
 
-/// Whether a byte may stand after the first of a scalar.
+/// Whether a byte may follow the first byte of a scalar.
 #[inline(always)]
 fn is_continuation(byte: u8) -> bool
     ensures { result ≡ continues byte }

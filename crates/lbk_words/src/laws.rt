@@ -10,8 +10,8 @@ pub fn words_of_text()
     ensures { (text : List ℕ) → IsUtf8 text → words_of text ≡ words_in 0 (word_bounds text) }
 {}
 
-/// After a word boundary the parts of a text are those of what comes, as a text of its own: nothing before changes them
-/// (UAX #29, section 4.1). `before` has the scalars before the place, nearest first.
+/// After a word boundary the parts of a text are those of the rest as a whole text: nothing before changes them (UAX
+/// #29, section 4.1). `before` has the scalars before the place, nearest first.
 pub fn behind_a_boundary()
     ensures { (before after : List ℕ) → is_word_break before after ≡ true → cut is_word_break before after []
         ≡ parts_of after }

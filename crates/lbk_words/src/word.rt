@@ -13,7 +13,7 @@ pub struct Word {
 /// How far a block was filled.
 #[derive(Clone, Copy)]
 pub struct Filled {
-    /// How many words stand in the front of the block.
+    /// How many words are at the front of the block.
     pub count: usize,
     /// The byte from which the other words come.
     pub at: usize,
