@@ -1,4 +1,4 @@
-/* Calls lbk_read with files of each size up to 4,096 bytes, and of sizes that are drawn at random, with ample
+/* Calls lbk_read with files of each size up to 16,384 bytes, and of sizes that are drawn at random, with ample
  * memory: it must take them all, and say of those that have a row twice at which line.
  *
  *     sizes SECONDS SEED
@@ -11,7 +11,7 @@
 
 #include <time.h>
 
-enum { SMALL_FILE = 4096, MOST_FILE = 8388608, POWERS = 24, COMMENT = 1000 };
+enum { SMALL_FILE = 16384, MOST_FILE = 8388608, POWERS = 24, COMMENT = 1000 };
 
 static const char *const rows[4] = {"0061;ID\n", "0028;W\n", "0E31;Mn\n", "1FAFF;Extended_Pictographic\n"};
 
@@ -83,7 +83,7 @@ static void free_files(bytes *files)
         free(files[k].at);
 }
 
-/* All four files of each size up to 4,096 bytes. */
+/* All four files of each size up to 16,384 bytes. */
 static void read_small_files(void)
 {
     for (size_t size = 0; size <= SMALL_FILE; size++) {
@@ -93,7 +93,7 @@ static void read_small_files(void)
         int is_read = read_files(files).cause == LBK_CAUSE_NONE;
         if (!is_read)
             printf("files of %zu bytes\n", size);
-        report("files of each size up to 4,096 bytes are taken", is_read);
+        report("files of each size up to 16,384 bytes are taken", is_read);
         free_files(files);
     }
 }
