@@ -21,6 +21,7 @@ FLAGS = "flags"
 QUOTES = "a run of quotation marks"
 LINES = "Arabic with CRLF"
 WORDLESS = "a text without words"
+SHIFT_JIS = "Japanese in Shift-JIS"
 
 # A text, a call, and the least ratio of its speed to the loop's. `-2` is the second profile, `-8` eight bytes a call,
 # `-60` a line of at most sixty, `-1` a word of bits a call, `lbk_cut` a call for each 4,096 bytes or units: over a text
@@ -125,6 +126,7 @@ SLOW = {
     QUOTES: "\u00bb".encode(),
     LINES: "\u0627\u0644\u0633\u0644\u0627\u0645 \u0639\u0644\u064a\u0643\u0645\u060c \u0645\u0631\u062d\u0628\u0627\r\n".encode(),
     WORDLESS: b". - ",
+    SHIFT_JIS: "\u3072\u3089\u304c\u306a".encode("shift_jis"),
 }
 SLOW_CALLS = "".join(f" {call} " for call in sorted({call for _, call, _ in ACROSS}))
 
