@@ -1,5 +1,5 @@
 -- Any piece of a text: a scalar, or ill-formed bytes that are read as U+FFFD.
-use Rattle.std.proofs.Common.{◌≡◌, ℕ, ◌+◌, ◌-◌, ◌<◌, ◌≤◌, List, [], ◌∷◌, ◌++◌, length, get_or, map, drop, take, reverse, refl, sym, ap, subst, ◌∙◌, length-append, length-drop, arith}
+use Rattle.std.proofs.Common.{◌≡◌, ℕ, ◌+◌, ◌-◌, ◌<◌, ◌≤◌, List, [], ◌∷◌, ◌++◌, length, get_or, map, drop, take, reverse, sym, ap, subst, ◌∙◌, length-append, length-drop, arith}
 use Rattle.std.specs.Char.{IsScalar}
 use Rattle.std.proofs.lemmas.List.{drop-append-le}
 use Rattle.bstr.specs.Utf8.{Decoded, decoded, lossy_chars, or_replacement}

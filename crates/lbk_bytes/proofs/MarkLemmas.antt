@@ -1,5 +1,5 @@
 -- Bits that are set for breaks.
-use Rattle.std.proofs.Common.{◌≡◌, ℕ, suc, ◌+◌, ◌-◌, ◌*◌, ◌/◌, ◌%◌, ◌^◌, ◌==◌, ◌<◌, ◌≤◌, ◌&&◌, ◌||◌, Bool, true, false, cond, not, List, [], ◌∷◌, ◌++◌, length, map, take, drop, get_or, set, append_assoc, get_or-set_other, get_or-set_same, refl, sym, ap, ap₂, subst, ◌∙◌, ⊎_elim, arith}
+use Rattle.std.proofs.Common.{◌≡◌, ℕ, ◌+◌, ◌-◌, ◌*◌, ◌/◌, ◌%◌, ◌^◌, ◌==◌, ◌<◌, ◌≤◌, ◌&&◌, ◌||◌, Bool, true, false, cond, not, List, [], ◌∷◌, ◌++◌, length, take, drop, get_or, set, append_assoc, get_or-set_other, get_or-set_same, refl, sym, ap, ap₂, subst, ◌∙◌, ⊎_elim, arith}
 use Rattle.std.specs.Int.{from_bool}
 use Rattle.std.specs.Int.Bits.{bit_or}
 use Rattle.std.proofs.lemmas.Bool.{and_right, cases_eq, eq-eqb, ne_eqb}
@@ -15,13 +15,10 @@ use Rattle.lbk_rules.specs.declared.Verdict.{Verdict}
 use Rattle.lbk_rules.specs.Breaks.{break_by, is_no}
 use Rattle.lbk_values.specs.declared.profile.Profile.{Profile}
 use Rattle.lbk_bytes.specs.declared.fill_state.FillState.{FillState}
-use Rattle.lbk_bytes.specs.declared.raw_break.RawBreak.{RawBreak}
 use Rattle.lbk_bytes.specs.Bytes.{with_break}
 use Rattle.lbk_bytes.specs.Marking.{AreBelow, Marked, uncounted}
 use Rattle.lbk_bytes.specs.Marks.{boundary_from, is_marked, stands_among}
-use Rattle.lbk_bytes.specs.Order.{AreInOrder, no_break}
 use Rattle.lbk_bytes.specs.Reached.{Ahead, Reached, onward_to}
-use Rattle.lbk_bytes.specs.Shown.{given_in, shown}
 use Rattle.lbk_masks.proofs.BitLemmas.{set-none}
 use Rattle.lbk_masks.proofs.WordLemmas.{or-none}
 

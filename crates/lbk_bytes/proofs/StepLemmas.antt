@@ -4,13 +4,13 @@ use Rattle.std.specs.Char.{IsScalar}
 use Rattle.lbk_rules.specs.declared.Cell.{Cell}
 use Rattle.lbk_rules.specs.declared.Left.{Left}
 use Rattle.lbk_rules.specs.declared.steps.Step.{Step}
-use Rattle.lbk_rules.specs.declared.flat_table.FlatTable.{FlatTable}
+use Rattle.lbk_rules.specs.declared.neighbours.Neighbours.{Neighbours}
 use Rattle.lbk_values.specs.declared.profile.Profile.{Profile}
 use Rattle.lbk_values.specs.declared.profile.Profile.TheVariants.{First, Second}
 use Rattle.lbk_rules.specs.Chain.{from_cells}
 use Rattle.lbk_rules.specs.Classes.{hard}
 use Rattle.lbk_rules.specs.Facts.{facts}
-use Rattle.lbk_rules.specs.FlatTable.{AreFlatKinds, IsFlatOf, IsFlatStep, KnowsTaken}
+use Rattle.lbk_rules.specs.FlatTable.{AreFlatKinds, IsFlatBy, IsFlatStep, KnowsTaken}
 use Rattle.lbk_rules.specs.Kinds.{kind_cell, real_kind}
 use Rattle.lbk_rules.specs.Normal.{normal}
 use Rattle.lbk_rules.specs.RowMachineFits.{normals}
@@ -70,9 +70,10 @@ swift-step profile steps row number are is_place =
     subst (λ s. IsSwiftStep profile (left_at row) (kind_cell (real_kind number)) (step_by s row number)) (sym are) (swift-step-in profile row number is_place)
 
 -- what is known of bytes side by side
-pub told-as : (profile : Profile) (table : FlatTable) (cell : ℕ → Cell) (steps : List (List Step)) → IsFlatOf table cell
-    → steps ≡ steps_in profile → AreTold steps table.kinds table.pairs
-told-as profile table cell steps flat is = subst (λ s. AreTold s table.kinds table.pairs) (sym is) (flat.told profile)
+pub told-as : (profile : Profile) (kinds : List ℕ) (pairs there : Neighbours) (cell : ℕ → Cell) (steps : List (List Step)) → IsFlatBy kinds pairs cell
+    → there ≡ pairs → steps ≡ steps_in profile → AreTold steps kinds there
+told-as profile kinds pairs there cell steps flat same is =
+    subst (AreTold steps kinds) (sym same) (subst (λ s. AreTold s kinds pairs) (sym is) (flat.told profile))
 
 -- the steps of a scalar
 pub steps-here : (row number : ℕ) (one other : Step) → IsPlace row

@@ -20,10 +20,7 @@ use crate::stepping::runs;
 use crate::target::Breaks;
 use crate::tries::are_too_many;
 use lbk_masks::{first_set, kept_below, kept_from, without_first};
-use lbk_rules::{Neighbours, Rows, place_by, step_at};
-
-/// How many codes there are.
-pub(crate) const CODES: usize = 0x11_0000;
+use lbk_rules::{KindSource, Neighbours, Rows, place_by, step_at};
 
 /// How many bytes at most are examined together.
 pub(crate) const BLOCK: usize = 64;
@@ -56,9 +53,9 @@ pub(crate) struct BlockState {
 /// few bytes are left, or many of them to steps. Without masks it takes none. It stands apart, so that what single
 /// scalars need stays in registers.
 #[inline(never)]
-pub(crate) fn blocks<const MASKS: bool>(
+pub(crate) fn blocks<const MASKS: bool, K: KindSource>(
     pairs: &Neighbours,
-    kinds: &[u8; CODES],
+    kinds: &K,
     steps: &Rows,
     start: FillState,
     text: &[u8],
@@ -71,8 +68,8 @@ pub(crate) fn blocks<const MASKS: bool>(
     ensures in_order { (from : ℕ) → IsInOrder out.old start.count from start.at
         → IsInOrder out.new result.count from result.at }
     ensures reached { (profile : Profile) (cell : ℕ → Cell) (more : List ℕ) (all : Ahead)
-        → steps.now ≡ steps_in profile → AreFlatKinds kinds.now cell
-        → AreTold steps.now kinds.now pairs.now
+        → steps.now ≡ steps_in profile → AreFlatKinds (K.kinds_of kinds.now) cell
+        → AreTold steps.now (K.kinds_of kinds.now) pairs.now
         → Reached profile cell (text.now ++ more) all start (given_in out.old start.count)
         → Reached profile cell (text.now ++ more) all result (given_in out.new result.count) }
 {
@@ -91,8 +88,8 @@ pub(crate) fn blocks<const MASKS: bool>(
 
 /// Takes the first scalar of a text by a step, since no byte stands before it.
 #[inline(always)]
-fn begun(
-    kinds: &[u8; CODES],
+fn begun<K: KindSource>(
+    kinds: &K,
     steps: &Rows,
     start: FillState,
     text: &[u8],
@@ -105,7 +102,7 @@ fn begun(
     ensures in_order { (from : ℕ) → IsInOrder out.old start.count from start.at
         → IsInOrder out.new result.count from result.at }
     ensures reached { (profile : Profile) (cell : ℕ → Cell) (more : List ℕ) (all : Ahead)
-        → steps.now ≡ steps_in profile → AreFlatKinds kinds.now cell
+        → steps.now ≡ steps_in profile → AreFlatKinds (K.kinds_of kinds.now) cell
         → Reached profile cell (text.now ++ more) all start (given_in out.old start.count)
         → Reached profile cell (text.now ++ more) all result (given_in out.new result.count) }
 {
@@ -117,9 +114,9 @@ fn begun(
 
 /// Takes the bytes of one block: those that its marks tell by them, and the others by steps.
 #[inline(always)]
-fn block(
+fn block<K: KindSource>(
     pairs: &Neighbours,
-    kinds: &[u8; CODES],
+    kinds: &K,
     steps: &Rows,
     start: FillState,
     text: &[u8],
@@ -132,8 +129,8 @@ fn block(
     ensures in_order { (from : ℕ) → IsInOrder out.old start.count from start.at
         → IsInOrder out.new result.count from result.at }
     ensures reached { (profile : Profile) (cell : ℕ → Cell) (more : List ℕ) (all : Ahead)
-        → steps.now ≡ steps_in profile → AreFlatKinds kinds.now cell
-        → AreTold steps.now kinds.now pairs.now
+        → steps.now ≡ steps_in profile → AreFlatKinds (K.kinds_of kinds.now) cell
+        → AreTold steps.now (K.kinds_of kinds.now) pairs.now
         → Reached profile cell (text.now ++ more) all start (given_in out.old start.count)
         → Reached profile cell (text.now ++ more) all result (given_in out.new result.count) }
 {
@@ -194,9 +191,9 @@ fn past_end(length: usize) -> u64
 
 /// Takes bytes of a block up to the first that is left to steps, if the row here is that of the byte before.
 #[inline(always)]
-fn take_masked(
+fn take_masked<K: KindSource>(
     pairs: &Neighbours,
-    kinds: &[u8; CODES],
+    kinds: &K,
     steps: &Rows,
     at: usize,
     marks: Marks,
@@ -213,8 +210,8 @@ fn take_masked(
     ensures in_order { (from : ℕ) → IsInOrder out.old here.count from here.at
         → IsInOrder out.new result.count from result.at }
     ensures reached { (profile : Profile) (cell : ℕ → Cell) (more : List ℕ) (all : Ahead)
-        → steps.now ≡ steps_in profile → AreFlatKinds kinds.now cell
-        → AreTold steps.now kinds.now pairs.now → AreMarks pairs.now text.now at marks
+        → steps.now ≡ steps_in profile → AreFlatKinds (K.kinds_of kinds.now) cell
+        → AreTold steps.now (K.kinds_of kinds.now) pairs.now → AreMarks pairs.now text.now at marks
         → Reached profile cell (text.now ++ more) all here (given_in out.old here.count)
         → Reached profile cell (text.now ++ more) all result (given_in out.new result.count) }
 {
@@ -249,9 +246,9 @@ pub(crate) fn kept_up_to(bits: u64, count: usize) -> u64
 
 /// Writes the breaks that are left in the first bytes of a block, and takes these.
 #[inline(always)]
-fn finish(
+fn finish<K: KindSource>(
     pairs: &Neighbours,
-    kinds: &[u8; CODES],
+    kinds: &K,
     steps: &Rows,
     at: usize,
     taken: usize,
@@ -269,7 +266,7 @@ fn finish(
         → IsInOrder out.new result.count from result.at }
     ensures reached { (profile : Profile) (cell : ℕ → Cell) (more : List ℕ) (all : Ahead)
         (begin : ℕ)
-        → IsBlock profile cell steps.now kinds.now pairs.now text.now at begin taken
+        → IsBlock profile cell steps.now (K.kinds_of kinds.now) pairs.now text.now at begin taken
         → AreLeft pairs.now text.now at begin taken start
         → Reached profile cell (text.now ++ more) all (place_in pairs.now text.now start)
         (given_in out.old start.count)
@@ -317,9 +314,9 @@ pub(crate) fn behind_byte(pairs: &Neighbours, count: usize, at: usize, text: &[u
 /// Writes the next break that is left, as its step says: where the sets are made up and a line does not break there,
 /// nothing.
 #[inline(always)]
-fn take_break(
+fn take_break<K: KindSource>(
     pairs: &Neighbours,
-    kinds: &[u8; CODES],
+    kinds: &K,
     steps: &Rows,
     at: usize,
     here: BlockState,
@@ -336,7 +333,7 @@ fn take_break(
     ensures onward { (here.count ≤ result.count) × (result.left < here.left) }
     ensures reached { (profile : Profile) (cell : ℕ → Cell) (more : List ℕ) (all : Ahead)
         (begin taken : ℕ)
-        → IsBlock profile cell steps.now kinds.now pairs.now text.now at begin taken
+        → IsBlock profile cell steps.now (K.kinds_of kinds.now) pairs.now text.now at begin taken
         → AreLeft pairs.now text.now at begin taken here
         → Reached profile cell (text.now ++ more) all (place_in pairs.now text.now here)
         (given_in out.old here.count)
@@ -347,7 +344,7 @@ fn take_break(
     let index = first_set(here.left);
     let place = at + index;
     let row = place_by(pairs.rows[text[place - 1] as usize]);
-    let step = step_at(steps, row, kinds[text[place] as usize]);
+    let step = step_at(steps, row, kinds.kind_of_byte(text[place]));
     BlockState {
         count: put(out, here.count, place, step.shown),
         past: place + 1,

@@ -2,13 +2,13 @@
 
 ghost use Rattle.std.specs.Prelude.{ℕ, ◌+◌, ◌<◌, ◌≤◌, List, length};
 ghost use Rattle.lbk_rules.specs.declared.Cell.{Cell};
-ghost use Rattle.lbk_rules.specs.FlatTable.{IsFlatOf, KnowsTaken};
+ghost use Rattle.lbk_rules.specs.FlatTable.{IsFlatBy, KnowsTaken};
 ghost use Rattle.lbk_rules.specs.Rows.{IsPlace, IsShown};
 ghost use Rattle.lbk_bytes.specs.Decided.{IsDecided};
 
 use crate::ahead::shown_ahead;
 use bstr::decode_lossy;
-use lbk_rules::{FlatTable, Profile, step_in};
+use lbk_rules::{KindSource, Profile, step_in};
 
 /// What is decided before a scalar, and where a call stands after it.
 #[derive(Clone, Copy)]
@@ -22,8 +22,8 @@ pub struct Decided {
 }
 
 /// Decides the position at this byte, by the row there and by what follows, and takes the scalar that begins there.
-pub fn decide_one(
-    table: &FlatTable,
+pub fn decide_one<K: KindSource>(
+    table: &K,
     profile: Profile,
     row: usize,
     at: usize,
@@ -33,14 +33,14 @@ pub fn decide_one(
     ensures within { IsPlace result.row × (at < result.at) × (result.at ≤ length text.now) }
     ensures shown { IsShown result.shown }
     ensures near { result.at ≤ at + 4 }
-    ensures decided { (cell : ℕ → Cell) (taken : List ℕ) → IsFlatOf table.now cell
+    ensures decided { (cell : ℕ → Cell) (taken : List ℕ) → IsFlatBy (K.kinds_of table.now) (K.pairs_of table.now) cell
         → KnowsTaken cell row taken
         → IsDecided profile cell text.now at taken result }
 {
     let rest = &text[at..];
     let (c, size) = decode_lossy(rest);
     let shown = shown_ahead(table, profile, row, c, &rest[size..]);
-    let step = step_in(Profile::First, row, table.kinds[c as usize]);
+    let step = step_in(Profile::First, row, table.kind_at(c as u32));
     Decided {
         shown,
         row: step.next as usize,

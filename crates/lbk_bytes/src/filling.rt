@@ -2,7 +2,7 @@
 
 ghost use Rattle.std.specs.Prelude.{◌≡◌, ℕ, ◌+◌, ◌<◌, ◌≤◌, ◌++◌, [], List, false, length, take};
 ghost use Rattle.lbk_rules.specs.declared.Cell.{Cell};
-ghost use Rattle.lbk_rules.specs.FlatTable.{IsFlatOf};
+ghost use Rattle.lbk_rules.specs.FlatTable.{IsFlatBy, IsFlatOf};
 ghost use Rattle.lbk_rules.specs.Rows.{IsPlace, IsShown, steps_in, verdict_shown};
 ghost use Rattle.lbk_bytes.specs.Bytes.{with_break};
 ghost use Rattle.lbk_bytes.specs.Order.{AreBreaks, AreInOrder};
@@ -16,15 +16,15 @@ use crate::raw_break::RawBreak;
 use crate::stepping::{quick, scalars};
 use crate::target::Breaks;
 use crate::tries::{are_near, next_try};
-use lbk_rules::{FlatTable, Neighbours, Profile, Rows, rows_of, shows_break};
+use lbk_rules::{FlatTable, KindSource, Profile, Rows, rows_of, shows_break};
 
 /// Goes on until the block is full or the text ends, and writes the breaks before the scalars taken after those in
 /// the front of the block. In a text of fewer than 64 bytes the scalars that no block takes are gone over here, with
 /// no call, as long as they are common. The breaks are the same with masks, by which blocks of bytes are taken, and
 /// without: these are for targets that have no vectors.
 #[inline(always)]
-pub fn fill<const MASKS: bool>(
-    table: &FlatTable,
+pub fn fill<const MASKS: bool, K: KindSource>(
+    table: &K,
     profile: Profile,
     start: FillState,
     text: &[u8],
@@ -36,24 +36,24 @@ pub fn fill<const MASKS: bool>(
     ensures no_room { length out.old ≡ 0 → result ≡ start }
     ensures in_order { (from : ℕ) → IsInOrder out.old start.count from start.at
         → IsInOrder out.new result.count from result.at }
-    ensures reached { (cell : ℕ → Cell) (all : Ahead) → IsFlatOf table.now cell
+    ensures reached { (cell : ℕ → Cell) (all : Ahead) → IsFlatBy (K.kinds_of table.now) (K.pairs_of table.now) cell
         → Reached profile cell text.now all start (given_in out.old start.count)
         → Reached profile cell text.now all result (given_in out.new result.count) }
 {
     if start.count == out.len() {
         return start;
     }
-    let begun = short::<MASKS>(table, profile, start, text, out);
+    let begun = short::<MASKS, K>(table, profile, start, text, out);
     if begun.count == out.len() || begun.at == text.len() {
         return begun;
     }
-    copied(fill_on::<MASKS>(table, profile, copied(begun), text, out))
+    copied(fill_on::<MASKS, K>(table, profile, copied(begun), text, out))
 }
 
 /// Takes the common scalars of a text of fewer than 64 bytes.
 #[inline(always)]
-fn short<const MASKS: bool>(
-    table: &FlatTable,
+fn short<const MASKS: bool, K: KindSource>(
+    table: &K,
     profile: Profile,
     start: FillState,
     text: &[u8],
@@ -63,7 +63,7 @@ fn short<const MASKS: bool>(
     ensures within { (result.count ≤ length out.old) × IsPlace result.row × (result.at ≤ length text.now) }
     ensures in_order { (from : ℕ) → IsInOrder out.old start.count from start.at
         → IsInOrder out.new result.count from result.at }
-    ensures reached { (cell : ℕ → Cell) (all : Ahead) → IsFlatOf table.now cell
+    ensures reached { (cell : ℕ → Cell) (all : Ahead) → IsFlatBy (K.kinds_of table.now) (K.pairs_of table.now) cell
         → Reached profile cell text.now all start (given_in out.old start.count)
         → Reached profile cell text.now all result (given_in out.new result.count) }
 {
@@ -71,14 +71,14 @@ fn short<const MASKS: bool>(
         return start;
     }
     let steps = rows_of(profile);
-    let begun = try_short_block::<MASKS>(table, profile, steps, start, text, out);
-    scalars(Breaks, &table.kinds, steps, begun, text.len(), text, out)
+    let begun = try_short_block::<MASKS, K>(table, profile, steps, start, text, out);
+    scalars(Breaks, table, steps, begun, text.len(), text, out)
 }
 
 /// Takes a block of a text of fewer than 64 bytes, unless they are very few or of scalars that a block leaves to steps.
 #[inline(always)]
-fn try_short_block<const MASKS: bool>(
-    table: &FlatTable,
+fn try_short_block<const MASKS: bool, K: KindSource>(
+    table: &K,
     profile: Profile,
     steps: &Rows,
     start: FillState,
@@ -92,7 +92,7 @@ fn try_short_block<const MASKS: bool>(
     ensures in_order { (from : ℕ) → IsInOrder out.old start.count from start.at
         → IsInOrder out.new result.count from result.at }
     ensures reached { (cell : ℕ → Cell) (more : List ℕ) (all : Ahead)
-        → IsFlatOf table.now cell
+        → IsFlatBy (K.kinds_of table.now) (K.pairs_of table.now) cell
         → Reached profile cell (text.now ++ more) all start (given_in out.old start.count)
         → Reached profile cell (text.now ++ more) all result (given_in out.new result.count) }
 {
@@ -102,7 +102,7 @@ fn try_short_block<const MASKS: bool>(
     if !are_near(&text[start.at..]) {
         return start;
     }
-    copied(blocks::<MASKS>(&table.pairs, &table.kinds, steps, start, text, out))
+    copied(blocks::<MASKS, K>(table.pairs(), table, steps, start, text, out))
 }
 
 /// The same state, field by field. A state that a call takes or returns stands in memory, and a copy of it in
@@ -120,8 +120,8 @@ fn copied(state: FillState) -> FillState
 
 /// The same of any text, by blocks of bytes and single scalars in turn.
 #[inline(never)]
-fn fill_on<const MASKS: bool>(
-    table: &FlatTable,
+fn fill_on<const MASKS: bool, K: KindSource>(
+    table: &K,
     profile: Profile,
     start: FillState,
     text: &[u8],
@@ -133,13 +133,13 @@ fn fill_on<const MASKS: bool>(
     ensures no_room { length out.old ≡ 0 → result ≡ start }
     ensures in_order { (from : ℕ) → IsInOrder out.old start.count from start.at
         → IsInOrder out.new result.count from result.at }
-    ensures reached { (cell : ℕ → Cell) (all : Ahead) → IsFlatOf table.now cell
+    ensures reached { (cell : ℕ → Cell) (all : Ahead) → IsFlatBy (K.kinds_of table.now) (K.pairs_of table.now) cell
         → Reached profile cell text.now all start (given_in out.old start.count)
         → Reached profile cell text.now all result (given_in out.new result.count) }
 {
     let mut here = start;
     while here.count < out.len() && here.at < text.len() {
-        here = further::<MASKS>(table, profile, here, text, out);
+        here = further::<MASKS, K>(table, profile, here, text, out);
     }
     here
 }
@@ -167,17 +167,17 @@ pub fn fill_common(
     if start.at == text.len() {
         return start;
     }
-    let mut part = common_part::<true>(table, profile, start, text, out);
+    let mut part = common_part::<true, FlatTable>(table, profile, start, text, out);
     while part.until <= part.here.at && part.here.at < text.len() {
-        part = common_part::<true>(table, profile, part.here, text, out);
+        part = common_part::<true, FlatTable>(table, profile, part.here, text, out);
     }
     part.here
 }
 
 /// Takes blocks of bytes and then some scalars, at least one of them or a break more.
 #[inline(always)]
-fn further<const MASKS: bool>(
-    table: &FlatTable,
+fn further<const MASKS: bool, K: KindSource>(
+    table: &K,
     profile: Profile,
     here: FillState,
     text: &[u8],
@@ -189,11 +189,11 @@ fn further<const MASKS: bool>(
     ensures in_order { (from : ℕ) → IsInOrder out.old here.count from here.at
         → IsInOrder out.new result.count from result.at }
     ensures both { (here.count ≤ result.count) × (here.at ≤ result.at) }
-    ensures reached { (cell : ℕ → Cell) (all : Ahead) → IsFlatOf table.now cell
+    ensures reached { (cell : ℕ → Cell) (all : Ahead) → IsFlatBy (K.kinds_of table.now) (K.pairs_of table.now) cell
         → Reached profile cell text.now all here (given_in out.old here.count)
         → Reached profile cell text.now all result (given_in out.new result.count) }
 {
-    let part = common_part::<MASKS>(table, profile, here, text, out);
+    let part = common_part::<MASKS, K>(table, profile, here, text, out);
     if part.here.at < part.until && part.here.count < out.len() {
         return take_ones(Breaks, table, profile, part.here, text.len(), text, out);
     }
@@ -212,8 +212,8 @@ pub(crate) struct Part {
 /// Takes blocks of bytes and then common scalars, up to the first that begins where blocks are tried again or after
 /// it, unless another scalar comes or the block is full before.
 #[inline(always)]
-fn common_part<const MASKS: bool>(
-    table: &FlatTable,
+fn common_part<const MASKS: bool, K: KindSource>(
+    table: &K,
     profile: Profile,
     here: FillState,
     text: &[u8],
@@ -226,15 +226,15 @@ fn common_part<const MASKS: bool>(
     ensures in_order { (from : ℕ) → IsInOrder out.old here.count from here.at
         → IsInOrder out.new result.here.count from result.here.at }
     ensures reached { (cell : ℕ → Cell) (more : List ℕ) (all : Ahead)
-        → IsFlatOf table.now cell
+        → IsFlatBy (K.kinds_of table.now) (K.pairs_of table.now) cell
         → Reached profile cell (text.now ++ more) all here (given_in out.old here.count)
         → Reached profile cell (text.now ++ more) all result.here (given_in out.new result.here.count) }
 {
     let steps = rows_of(profile);
-    let there = blocks::<MASKS>(&table.pairs, &table.kinds, steps, here, text, out);
+    let there = blocks::<MASKS, K>(table.pairs(), table, steps, here, text, out);
     let until = next_try::<MASKS>(there.at, text);
     Part {
-        here: quick(Breaks, &table.kinds, steps, there, until, text, out),
+        here: quick(Breaks, table, steps, there, until, text, out),
         until,
     }
 }

@@ -2,23 +2,23 @@
 
 ghost use Rattle.std.specs.Prelude.{ℕ, ◌+◌, ◌<◌, ◌≤◌, length};
 ghost use Rattle.lbk_rules.specs.declared.Cell.{Cell};
-ghost use Rattle.lbk_rules.specs.FlatTable.{IsFlatOf};
+ghost use Rattle.lbk_rules.specs.FlatTable.{IsFlatBy};
 ghost use Rattle.lbk_rules.specs.Rows.{IsPlace};
 ghost use Rattle.lbk_bytes.specs.Reached.{Ahead};
 
 use crate::deciding::decide_one;
 use crate::fill_state::FillState;
 use crate::target::Target;
-use lbk_rules::{FlatTable, Profile};
+use lbk_rules::{KindSource, Profile};
 
 /// How many scalars are taken singly behind one that may be a quotation mark.
 const PATIENCE: usize = 2;
 
 /// Takes one scalar, whatever it is, and then more that begin before a byte, as long as scalars that begin like a
 /// closing quotation mark stand close together.
-pub(crate) fn take_ones<T: Target>(
+pub(crate) fn take_ones<T: Target, K: KindSource>(
     target: T,
-    table: &FlatTable,
+    table: &K,
     profile: Profile,
     start: FillState,
     stop: usize,
@@ -33,7 +33,8 @@ pub(crate) fn take_ones<T: Target>(
     ensures near { result.at ≤ stop + 3 }
     ensures in_order { (from : ℕ) → T.in_order target out.old start.count from start.at
         → T.in_order target out.new result.count from result.at }
-    ensures reached { (cell : ℕ → Cell) (all : Ahead) (last : ℕ) → IsFlatOf table.now cell → stop ≤ last
+    ensures reached { (cell : ℕ → Cell) (all : Ahead) (last : ℕ)
+        → IsFlatBy (K.kinds_of table.now) (K.pairs_of table.now) cell → stop ≤ last
         → T.reached target profile cell text.now all last start out.old
         → T.reached target profile cell text.now all last result out.new }
 {
@@ -47,9 +48,9 @@ pub(crate) fn take_ones<T: Target>(
 }
 
 /// Takes one scalar, whatever it is, and writes the verdict before it.
-fn take_one<T: Target>(
+fn take_one<T: Target, K: KindSource>(
     target: T,
-    table: &FlatTable,
+    table: &K,
     profile: Profile,
     here: FillState,
     text: &[u8],
@@ -63,7 +64,8 @@ fn take_one<T: Target>(
     ensures onward { here.count ≤ result.count }
     ensures in_order { (from : ℕ) → T.in_order target out.old here.count from here.at
         → T.in_order target out.new result.count from result.at }
-    ensures reached { (cell : ℕ → Cell) (all : Ahead) (last : ℕ) → IsFlatOf table.now cell → here.at < last
+    ensures reached { (cell : ℕ → Cell) (all : Ahead) (last : ℕ)
+        → IsFlatBy (K.kinds_of table.now) (K.pairs_of table.now) cell → here.at < last
         → T.reached target profile cell text.now all last here out.old
         → T.reached target profile cell text.now all last result out.new }
 {

@@ -4,7 +4,7 @@ ghost use Rattle.std.specs.Prelude.{◌≡◌, ℕ, ◌+◌, ◌*◌, ◌<◌, �
 ghost use Rattle.lbk_rules.specs.declared.Cell.{Cell};
 ghost use Rattle.lbk_values.specs.declared.profile.Profile.{Profile};
 ghost use Rattle.lbk_rules.specs.declared.steps.Step.{Step};
-ghost use Rattle.lbk_rules.specs.FlatTable.{AreFlatKinds};
+ghost use Rattle.lbk_rules.specs.FlatTable.{AreFlatKinds, IsFlatOf};
 ghost use Rattle.lbk_rules.specs.Neighbours.{AreTold};
 ghost use Rattle.lbk_rules.specs.Rows.{AreSteps, IsPlace, steps_in};
 ghost use Rattle.lbk_bytes.specs.Blocks.{AreEnded, AreMarks};
@@ -12,22 +12,21 @@ ghost use Rattle.lbk_bytes.specs.Marking.{AreClear, Marked};
 ghost use Rattle.lbk_bytes.specs.Marks.{is_marked};
 ghost use Rattle.lbk_bytes.specs.Reached.{Ahead};
 
-use crate::blocks::{BLOCK, CODES, Marks, behind_byte, kept_up_to, marks_ahead};
+use crate::blocks::{BLOCK, Marks, behind_byte, kept_up_to, marks_ahead};
 use crate::fill_state::FillState;
 use crate::marks::mark_bits;
 use crate::stepping::runs;
 use crate::target::Bits;
 use crate::tries::{SEEN, are_left};
 use lbk_masks::kept_from;
-use lbk_rules::{Neighbours, Rows};
+use lbk_rules::{FlatTable, Neighbours, Rows};
 
 /// Takes blocks of bytes, as many as come one after the other, up to a scalar that no step takes, or from which on
 /// few bytes are left, or many of them to steps. Where the next bytes are of scalars that blocks leave to
 /// steps, it takes none.
 #[inline(always)]
 pub(crate) fn mark_blocks(
-    pairs: &Neighbours,
-    kinds: &[u8; CODES],
+    table: &FlatTable,
     steps: &Rows,
     start: FillState,
     from: usize,
@@ -40,7 +39,7 @@ pub(crate) fn mark_blocks(
     ensures within { IsPlace result.row × (start.at ≤ result.at) × (result.at ≤ length text.now) }
     ensures none { AreClear from start.at words.old → AreClear from result.at words.new }
     ensures marked { (profile : Profile) (cell : ℕ → Cell) (more : List ℕ) (all : Ahead)
-        → steps.now ≡ steps_in profile → AreFlatKinds kinds.now cell → AreTold steps.now kinds.now pairs.now
+        → steps.now ≡ steps_in profile → IsFlatOf table.now cell
         → Marked profile cell (text.now ++ more) all from (length text.now) start words.old
         → Marked profile cell (text.now ++ more) all from (length text.now) result words.new }
 {
@@ -50,7 +49,7 @@ pub(crate) fn mark_blocks(
     let mut here = start;
     loop {
         let behind = here.at;
-        here = mark_block(pairs, kinds, steps, here, from, text, words);
+        here = mark_block(table, steps, here, from, text, words);
         if here.at - behind < BLOCK {
             return here;
         }
@@ -69,8 +68,7 @@ pub(crate) fn are_told(at: usize, text: &[u8]) -> bool
 /// Takes the bytes of one block: those that its marks tell by them, and the others by steps.
 #[inline(never)]
 pub(crate) fn mark_block(
-    pairs: &Neighbours,
-    kinds: &[u8; CODES],
+    table: &FlatTable,
     steps: &Rows,
     start: FillState,
     from: usize,
@@ -83,23 +81,23 @@ pub(crate) fn mark_block(
     ensures within { IsPlace result.row × (start.at ≤ result.at) × (result.at ≤ length text.now) }
     ensures none { AreClear from start.at words.old → AreClear from result.at words.new }
     ensures marked { (profile : Profile) (cell : ℕ → Cell) (more : List ℕ) (all : Ahead)
-        → steps.now ≡ steps_in profile → AreFlatKinds kinds.now cell → AreTold steps.now kinds.now pairs.now
+        → steps.now ≡ steps_in profile → IsFlatOf table.now cell
         → Marked profile cell (text.now ++ more) all from (length text.now) start words.old
         → Marked profile cell (text.now ++ more) all from (length text.now) result words.new }
 {
-    let Some(marks) = marks_ahead(pairs, start.at, text) else {
+    let Some(marks) = marks_ahead(&table.pairs, start.at, text) else {
         return start;
     };
     let end = start.at + BLOCK.min(text.len() - start.at);
     let mut here = start;
     while here.at < end {
-        let there = mark_masked(pairs, start.at, marks, here, from, text, words);
+        let there = mark_masked(&table.pairs, start.at, marks, here, from, text, words);
         if end <= there.at {
             return there;
         }
         let untold = there.at == here.at;
         let stop = steps_end(untold, marks.stops, start.at, there.at, end);
-        here = runs(Bits { from }, kinds, steps, there, stop, text, words);
+        here = runs(Bits { from }, table, steps, there, stop, text, words);
         if here.at == there.at {
             return here;
         }

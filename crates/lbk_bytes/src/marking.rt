@@ -87,20 +87,12 @@ fn mark_further(
 {
     let steps = rows_of(profile);
     let front = &text[..stop];
-    let there = mark_blocks(&table.pairs, &table.kinds, steps, here, from, front, words);
+    let there = mark_blocks(table, steps, here, from, front, words);
     if there.at == stop {
         return there;
     }
     let until = next_try::<true>(there.at, front);
-    let past = quick(
-        Bits { from },
-        &table.kinds,
-        steps,
-        there,
-        until,
-        text,
-        words,
-    );
+    let past = quick(Bits { from }, table, steps, there, until, text, words);
     if until <= past.at {
         return past;
     }

@@ -3,13 +3,11 @@
 ghost use Rattle.std.specs.Prelude.{◌≡◌, ℕ, ◌+◌, ◌<◌, ◌≤◌, ◌++◌, ◌∷◌, [], List, length};
 ghost use Rattle.lbk_rules.specs.declared.Cell.{Cell};
 ghost use Rattle.lbk_values.specs.declared.profile.Profile.{Profile};
-ghost use Rattle.lbk_rules.specs.FlatTable.{AreFlatKinds, IsFlatOf};
-ghost use Rattle.lbk_rules.specs.Neighbours.{AreTold};
+ghost use Rattle.lbk_rules.specs.FlatTable.{IsFlatOf};
 ghost use Rattle.lbk_rules.specs.Rows.{AreSteps, IsPlace, steps_in};
 ghost use Rattle.lbk_bytes.specs.Marking.{AreClear, Marked, uncounted};
 ghost use Rattle.lbk_bytes.specs.Reached.{Ahead, Reached};
 
-use crate::blocks::CODES;
 use crate::fill_state::FillState;
 use crate::held::take_ones;
 use crate::mark_blocks::{are_told, mark_block};
@@ -17,7 +15,7 @@ use crate::marks::clear;
 use crate::pieces::pieces;
 use crate::stepping::scalars;
 use crate::target::Word;
-use lbk_rules::{FlatTable, Neighbours, Profile, Rows, rows_of};
+use lbk_rules::{FlatTable, Profile, Rows, rows_of};
 
 /// A bit for each break from the start on, before a byte that is at most 64 further, in the place of the count. The
 /// words, of which there is one, are for what is done meanwhile. It stands apart, so that what its loops need stays in
@@ -41,14 +39,7 @@ pub(crate) fn one_word(
         → Marked profile cell text.now all start.at stop result (result.count ∷ []) }
 {
     let steps = rows_of(profile);
-    let mut here = word_block(
-        &table.pairs,
-        &table.kinds,
-        steps,
-        start,
-        &text[..stop],
-        words,
-    );
+    let mut here = word_block(table, steps, start, &text[..stop], words);
     while here.at < stop {
         here = word_further(table, profile, here, start.at, stop, text, words);
     }
@@ -58,8 +49,7 @@ pub(crate) fn one_word(
 /// Takes a block of bytes, where it is of use.
 #[inline(always)]
 fn word_block(
-    pairs: &Neighbours,
-    kinds: &[u8; CODES],
+    table: &FlatTable,
     steps: &Rows,
     start: FillState,
     text: &[u8],
@@ -71,7 +61,7 @@ fn word_block(
     ensures within { IsPlace result.row × (start.at ≤ result.at) × (result.at ≤ length text.now) }
     ensures none { AreClear start.at result.at (result.count ∷ []) }
     ensures marked { (profile : Profile) (cell : ℕ → Cell) (more : List ℕ) (all : Ahead)
-        → steps.now ≡ steps_in profile → AreFlatKinds kinds.now cell → AreTold steps.now kinds.now pairs.now
+        → steps.now ≡ steps_in profile → IsFlatOf table.now cell
         → Reached profile cell (text.now ++ more) all (uncounted start) []
         → Marked profile cell (text.now ++ more) all start.at (length text.now) result (result.count ∷ []) }
 {
@@ -79,7 +69,7 @@ fn word_block(
         return FillState { count: 0, ..start };
     }
     clear(words);
-    let here = mark_block(pairs, kinds, steps, start, start.at, text, words);
+    let here = mark_block(table, steps, start, start.at, text, words);
     FillState {
         count: words[0] as usize,
         ..here
@@ -107,11 +97,11 @@ fn word_further(
 {
     let word = Word { from };
     let steps = rows_of(profile);
-    let common = scalars(word, &table.kinds, steps, here, stop, text, words);
+    let common = scalars(word, table, steps, here, stop, text, words);
     if stop <= common.at {
         return common;
     }
-    let past = pieces(word, &table.kinds, steps, common, stop, text, words);
+    let past = pieces(word, table, steps, common, stop, text, words);
     if common.at < past.at {
         return past;
     }

@@ -7,11 +7,10 @@ ghost use Rattle.lbk_rules.specs.FlatTable.{AreFlatKinds};
 ghost use Rattle.lbk_rules.specs.Rows.{AreSteps, IsPlace, steps_in};
 ghost use Rattle.lbk_bytes.specs.Reached.{Ahead};
 
-use crate::blocks::CODES;
 use crate::decoding::{ENOUGH, REPLACEMENT, piece_of};
 use crate::fill_state::FillState;
 use crate::target::Target;
-use lbk_rules::{HELD, Rows, step_at};
+use lbk_rules::{HELD, KindSource, Rows, step_at};
 
 /// How many common scalars are taken here behind one that is not. Behind more of them the loops for scalars of one
 /// width are faster.
@@ -22,9 +21,9 @@ const PATIENCE: usize = 4;
 /// are left.
 #[cold]
 #[inline(never)]
-pub(crate) fn pieces<T: Target>(
+pub(crate) fn pieces<T: Target, K: KindSource>(
     target: T,
-    kinds: &[u8; CODES],
+    kinds: &K,
     steps: &Rows,
     start: FillState,
     stop: usize,
@@ -41,7 +40,7 @@ pub(crate) fn pieces<T: Target>(
         → T.in_order target out.new result.count from result.at }
     ensures near { start.at ≤ stop → result.at ≤ stop + 3 }
     ensures reached { (profile : Profile) (cell : ℕ → Cell) (more : List ℕ) (all : Ahead) (last : ℕ)
-        → steps.now ≡ steps_in profile → AreFlatKinds kinds.now cell → stop ≤ last
+        → steps.now ≡ steps_in profile → AreFlatKinds (K.kinds_of kinds.now) cell → stop ≤ last
         → T.reached target profile cell (text.now ++ more) all last start out.old
         → T.reached target profile cell (text.now ++ more) all last result out.new }
 {
@@ -52,7 +51,7 @@ pub(crate) fn pieces<T: Target>(
     let end = stop.min(text.len().saturating_sub(ENOUGH - 1));
     'taking: while target.has_room(out, count) && at < end && 0 < patience {
         let piece = piece_of(&text[at..]);
-        let step = step_at(steps, row, kinds[piece.code as usize]);
+        let step = step_at(steps, row, kinds.kind_at(piece.code));
         if step.shown == HELD {
             break;
         }

@@ -7,19 +7,18 @@ ghost use Rattle.lbk_rules.specs.FlatTable.{AreFlatKinds};
 ghost use Rattle.lbk_rules.specs.Rows.{AreSteps, IsPlace, steps_in};
 ghost use Rattle.lbk_bytes.specs.Reached.{Ahead};
 
-use crate::blocks::CODES;
 use crate::decoding::{Width, scalar_of};
 use crate::fill_state::FillState;
 use crate::pieces::pieces;
 use crate::target::Target;
-use lbk_rules::{HELD, Rows, step_at};
+use lbk_rules::{HELD, KindSource, Rows, step_at};
 
 /// Takes scalars and ill-formed bytes that begin before a byte, up to a held position or the text's last bytes,
 /// whatever may follow the text. The loop for common scalars calls nothing, so that all it has stays in registers.
 #[inline(never)]
-pub(crate) fn quick<T: Target>(
+pub(crate) fn quick<T: Target, K: KindSource>(
     target: T,
-    kinds: &[u8; CODES],
+    kinds: &K,
     steps: &Rows,
     start: FillState,
     stop: usize,
@@ -36,7 +35,7 @@ pub(crate) fn quick<T: Target>(
         → T.in_order target out.new result.count from result.at }
     ensures near { start.at ≤ stop → result.at ≤ stop + 3 }
     ensures reached { (profile : Profile) (cell : ℕ → Cell) (more : List ℕ) (all : Ahead) (last : ℕ)
-        → steps.now ≡ steps_in profile → AreFlatKinds kinds.now cell → stop ≤ last
+        → steps.now ≡ steps_in profile → AreFlatKinds (K.kinds_of kinds.now) cell → stop ≤ last
         → T.reached target profile cell (text.now ++ more) all last start out.old
         → T.reached target profile cell (text.now ++ more) all last result out.new }
 {
@@ -56,9 +55,9 @@ pub(crate) fn quick<T: Target>(
 
 /// Takes common scalars that begin before a byte: of at most three bytes, and where no position is held.
 #[inline(always)]
-pub(crate) fn scalars<T: Target>(
+pub(crate) fn scalars<T: Target, K: KindSource>(
     target: T,
-    kinds: &[u8; CODES],
+    kinds: &K,
     steps: &Rows,
     start: FillState,
     stop: usize,
@@ -75,7 +74,7 @@ pub(crate) fn scalars<T: Target>(
         → T.in_order target out.new result.count from result.at }
     ensures near { start.at ≤ stop → result.at ≤ stop + 3 }
     ensures reached { (profile : Profile) (cell : ℕ → Cell) (more : List ℕ) (all : Ahead) (last : ℕ)
-        → steps.now ≡ steps_in profile → AreFlatKinds kinds.now cell → stop ≤ last
+        → steps.now ≡ steps_in profile → AreFlatKinds (K.kinds_of kinds.now) cell → stop ≤ last
         → T.reached target profile cell (text.now ++ more) all last start out.old
         → T.reached target profile cell (text.now ++ more) all last result out.new }
 {
@@ -92,9 +91,9 @@ pub(crate) fn scalars<T: Target>(
 
 /// A run of scalars of one byte, and then one of those that the next byte may begin. Each may be empty.
 #[inline(always)]
-pub(crate) fn runs<T: Target>(
+pub(crate) fn runs<T: Target, K: KindSource>(
     target: T,
-    kinds: &[u8; CODES],
+    kinds: &K,
     steps: &Rows,
     start: FillState,
     stop: usize,
@@ -111,7 +110,7 @@ pub(crate) fn runs<T: Target>(
         → T.in_order target out.new result.count from result.at }
     ensures near { start.at ≤ stop → result.at ≤ stop + 3 }
     ensures reached { (profile : Profile) (cell : ℕ → Cell) (more : List ℕ) (all : Ahead) (last : ℕ)
-        → steps.now ≡ steps_in profile → AreFlatKinds kinds.now cell → stop ≤ last
+        → steps.now ≡ steps_in profile → AreFlatKinds (K.kinds_of kinds.now) cell → stop ≤ last
         → T.reached target profile cell (text.now ++ more) all last start out.old
         → T.reached target profile cell (text.now ++ more) all last result out.new }
 {
@@ -146,10 +145,10 @@ pub(crate) fn runs<T: Target>(
 /// A run of scalars of one width. In a text most scalars have the width of the one before, so a loop of its own for
 /// each width seldom goes where the processor does not expect it.
 #[inline(always)]
-fn run<T: Target>(
+fn run<T: Target, K: KindSource>(
     target: T,
     width: Width,
-    kinds: &[u8; CODES],
+    kinds: &K,
     steps: &Rows,
     start: FillState,
     stop: usize,
@@ -166,7 +165,7 @@ fn run<T: Target>(
         → T.in_order target out.new result.count from result.at }
     ensures near { start.at ≤ stop → result.at ≤ stop + 3 }
     ensures reached { (profile : Profile) (cell : ℕ → Cell) (more : List ℕ) (all : Ahead) (last : ℕ)
-        → steps.now ≡ steps_in profile → AreFlatKinds kinds.now cell → stop ≤ last
+        → steps.now ≡ steps_in profile → AreFlatKinds (K.kinds_of kinds.now) cell → stop ≤ last
         → T.reached target profile cell (text.now ++ more) all last start out.old
         → T.reached target profile cell (text.now ++ more) all last result out.new }
 {
@@ -178,7 +177,7 @@ fn run<T: Target>(
         let Some(scalar) = scalar_of(width, &text[at..]) else {
             break;
         };
-        let step = step_at(steps, row, kinds[scalar.code as usize]);
+        let step = step_at(steps, row, kinds.kind_at(scalar.code));
         if step.shown == HELD {
             break;
         }

@@ -114,7 +114,7 @@ fn go_on<const MASKS: bool>(
         row: place_by(state.row),
         at: state.at,
     };
-    let here = fill::<MASKS>(table, profile, start, text, out);
+    let here = fill::<MASKS, FlatTable>(table, profile, start, text, out);
     state.row = number_at(here.row, state.row);
     state.at = here.at;
     if here.count == out.len() {

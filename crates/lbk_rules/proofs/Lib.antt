@@ -18,6 +18,7 @@ pub use Rattle.lbk_uax14.proofs.JoinLemmas
 pub mod PagesLemmas
 pub mod PagesOfText
 pub mod KindsLemmas
+pub mod CellTableLemmas
 pub mod AheadLemmas
 pub mod LeftLemmas
 pub mod RowMachineLemmas

@@ -6,6 +6,7 @@ use Rattle.lbk_uax14.specs.declared.facts.Left.{Left}
 use Rattle.lbk_rules.specs.declared.flat_table.FlatTable.{FlatTable}
 use Rattle.lbk_rules.specs.declared.flat_table.TheConstants.{LAYOUT}
 use Rattle.lbk_rules.specs.declared.kinds.TheConstants.{KINDS}
+use Rattle.lbk_rules.specs.declared.neighbours.Neighbours.{Neighbours}
 use Rattle.lbk_rules.specs.declared.steps.Step.{Step}
 use Rattle.lbk_rules.specs.declared.steps.TheConstants.{HELD}
 use Rattle.lbk_values.specs.declared.profile.Profile.{Profile}
@@ -52,10 +53,14 @@ AreKinds kinds = (code : ℕ) → slice_index kinds code < KINDS
 abbrev pub AreKindsAlone : FlatTable → (ℕ → Cell) → Type 0
 AreKindsAlone table cell = (code : ℕ) → code < 0x11_0000 → slice_index table.kinds code ≡ kind_of (cell code)
 
+-- these numbers are kinds of the cells that `cell` gives, and tell what the steps do with bytes side by side
+pub record IsFlatBy (of_codes : List ℕ) (of_bytes : Neighbours) (cell : ℕ → Cell) : Type 0 where
+  pub kinds : AreFlatKinds of_codes cell
+  pub told : (profile : Profile) → AreTold (steps_in profile) of_codes of_bytes
+
 -- the table is over the cells that `cell` gives
-pub record IsFlatOf (table : FlatTable) (cell : ℕ → Cell) : Type 0 where
-  pub kinds : AreFlatKinds table.kinds cell
-  pub told : (profile : Profile) → AreTold (steps_in profile) table.kinds table.pairs
+abbrev pub IsFlatOf : FlatTable → (ℕ → Cell) → Type 0
+IsFlatOf table = IsFlatBy table.kinds table.pairs
 
 -- the row at this place knows of the scalars taken what the rules ask
 abbrev pub KnowsTaken : (ℕ → Cell) → ℕ → List ℕ → Type 0

@@ -26,6 +26,7 @@ pub use Rattle.lbk_uax14.specs.Fits
 pub use Rattle.lbk_uax14.specs.LateFits
 pub mod CellOfTables
 pub mod CellPages
+pub mod CellTable
 pub mod FirstBytes
 pub mod FlatTable
 pub mod KindTable

@@ -11,11 +11,11 @@ ghost use Rattle.lbk_rules.specs.Neighbours.{AreNeighboursOf};
 ghost use Rattle.lbk_uax14.specs.Normal.{normal};
 ghost use Rattle.lbk_rules.specs.CellOfTables.{cell_of_tables};
 
+use crate::kind_source::KindSource;
 use crate::kind_table::KindTable;
-use crate::kinds::{KINDS, cell_of_kind};
+use crate::kinds::KINDS;
 use crate::neighbours::Neighbours;
 use crate::runs::CellRuns;
-use crate::steps::WIDTH;
 use lbk_uax14::Cell;
 use lbk_ucd::Tables;
 use std::alloc::{AllocError, Global};
@@ -86,7 +86,7 @@ impl FlatTable {
         if !are_kinds(&self.kinds) {
             return false;
         }
-        self.pairs = Neighbours::of_kinds(&self.kinds);
+        self.pairs = Neighbours::of_kinds(self);
         self.layout = LAYOUT;
         self.digest = self.digest_now();
         true
@@ -114,7 +114,23 @@ impl FlatTable {
     pub fn cell(&self, c: char) -> Cell
         ensures { (cell : ℕ → Cell) → AreFlatKinds self.now.kinds cell → result ≡ normal (cell c) }
     {
-        cell_of_kind(self.kinds[c as usize] % WIDTH as u8 % KINDS as u8)
+        self.cell_by_kind(c)
+    }
+}
+
+impl KindSource for FlatTable {
+    ghost kinds_of = { λ table. table.kinds };
+
+    ghost pairs_of = { λ table. table.pairs };
+
+    #[inline(always)]
+    fn kind_at(&self, code: u32) -> u8 {
+        self.kinds[code as usize]
+    }
+
+    #[inline(always)]
+    fn pairs(&self) -> &Neighbours {
+        &self.pairs
     }
 }
 

@@ -10,9 +10,11 @@
 #![tactic(auto)]
 
 mod ahead;
+mod cell_table;
 mod class_labels;
 mod first_bytes;
 mod flat_table;
+mod kind_source;
 mod kind_table;
 mod kinds;
 mod neighbours;
@@ -39,7 +41,9 @@ pub use lbk_uax14::{
 pub use stepper::Stepper;
 
 // What `lbk_passage` and `lbk_c` step by.
+pub use cell_table::CellTable;
 pub use flat_table::{FlatTable, LAYOUT, digest_of_bytes};
+pub use kind_source::KindSource;
 pub use kinds::KINDS;
 pub use lbk_uax14::{Before, Left, is_second, unless_held};
 pub use neighbours::Neighbours;

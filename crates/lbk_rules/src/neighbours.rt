@@ -10,7 +10,8 @@ ghost use Rattle.lbk_rules.specs.Neighbours.{digest_of_neighbours, digest_with, 
 ghost use Rattle.lbk_rules.specs.Rows.{steps_in};
 ghost use Rattle.lbk_values.specs.declared.profile.Profile.{Profile};
 
-use crate::flat_table::{CODES, digest_kinds, digest_with};
+use crate::flat_table::{digest_kinds, digest_with};
+use crate::kind_source::KindSource;
 use crate::kinds::KINDS;
 use crate::steps::step_in;
 use lbk_masks::ByteSets;
@@ -61,12 +62,22 @@ pub struct Neighbours {
     pub rows: [u16; 256],
 }
 
+/// Neighbours of which nothing is known.
+pub(crate) const NO_NEIGHBOURS: Neighbours = Neighbours {
+    sets: ByteSets {
+        classes: [[0; 16]; 8],
+        left: [0; 16],
+        right: [0; 16],
+    },
+    rows: [NO_ROW; 256],
+};
+
 impl Neighbours {
     /// What the steps tell of neighbours, where codes have these kinds.
-    pub(crate) fn of_kinds(kinds: &[u8; CODES]) -> Neighbours
-        requires { (code : ℕ) → slice_index_or kinds.now code 0 < KINDS }
-        ensures are { AreNeighboursOf kinds.now result }
-        ensures told { (profile : Profile) → AreTold (steps_in profile) kinds.now result }
+    pub(crate) fn of_kinds<K: KindSource>(kinds: &K) -> Neighbours
+        requires { (code : ℕ) → slice_index_or (K.kinds_of kinds.now) code 0 < KINDS }
+        ensures are { AreNeighboursOf (K.kinds_of kinds.now) result }
+        ensures told { (profile : Profile) → AreTold (steps_in profile) (K.kinds_of kinds.now) result }
     {
         let classes = classes_of_bytes(kinds);
         let rows = rows_of_bytes(kinds);
@@ -94,10 +105,10 @@ impl Neighbours {
 
 /// The classes of all bytes, in rows of 16: of those below 128 in the low half of a number, and of the others in the
 /// high half.
-fn classes_of_bytes(kinds: &[u8; CODES]) -> [[u8; 16]; 8]
-    requires { (code : ℕ) → slice_index_or kinds.now code 0 < KINDS }
+fn classes_of_bytes<K: KindSource>(kinds: &K) -> [[u8; 16]; 8]
+    requires { (code : ℕ) → slice_index_or (K.kinds_of kinds.now) code 0 < KINDS }
     ensures { (row place : ℕ) → row < 8 → place < 16 → slice_index_or (slice_index_or result row []) place 0
-        ≡ class_of_byte kinds.now (16 * row + place) + 16 * class_of_byte kinds.now (128 + (16 * row + place)) }
+        ≡ class_of_byte (K.kinds_of kinds.now) (16 * row + place) + 16 * class_of_byte (K.kinds_of kinds.now) (128 + (16 * row + place)) }
 {
     let mut classes = [[0; 16]; 8];
     for row in 0..8_usize {
@@ -107,11 +118,11 @@ fn classes_of_bytes(kinds: &[u8; CODES]) -> [[u8; 16]; 8]
 }
 
 /// The classes of 16 bytes below 128, and of those that are greater by 128.
-fn classes_of_row(row: usize, kinds: &[u8; CODES]) -> [u8; 16]
+fn classes_of_row<K: KindSource>(row: usize, kinds: &K) -> [u8; 16]
     requires row { row < 8 }
-    requires kinds { (code : ℕ) → slice_index_or kinds.now code 0 < KINDS }
+    requires kinds { (code : ℕ) → slice_index_or (K.kinds_of kinds.now) code 0 < KINDS }
     ensures { (place : ℕ) → place < 16 → slice_index_or result place 0
-        ≡ class_of_byte kinds.now (16 * row + place) + 16 * class_of_byte kinds.now (128 + (16 * row + place)) }
+        ≡ class_of_byte (K.kinds_of kinds.now) (16 * row + place) + 16 * class_of_byte (K.kinds_of kinds.now) (128 + (16 * row + place)) }
 {
     let mut classes = [0; 16];
     for place in 0..16_usize {
@@ -122,13 +133,13 @@ fn classes_of_row(row: usize, kinds: &[u8; CODES]) -> [u8; 16]
 }
 
 /// The class of a byte.
-fn class_of_byte(byte: u8, kinds: &[u8; CODES]) -> u8
-    requires { (code : ℕ) → slice_index_or kinds.now code 0 < KINDS }
-    ensures class { result ≡ class_of_byte kinds.now byte }
+fn class_of_byte<K: KindSource>(byte: u8, kinds: &K) -> u8
+    requires { (code : ℕ) → slice_index_or (K.kinds_of kinds.now) code 0 < KINDS }
+    ensures class { result ≡ class_of_byte (K.kinds_of kinds.now) byte }
     ensures few { result < 16 }
 {
     if byte < 128 {
-        return class_of_kind(kinds[byte as usize]);
+        return class_of_kind(kinds.kind_of_byte(byte));
     }
     if byte < 192 {
         return CONTINUING;
@@ -149,22 +160,22 @@ fn class_of_kind(kind: u8) -> u8
 }
 
 /// Whether a byte begins only letters, of two bytes each, and the code that is its number is a letter.
-fn begins_letters(byte: u8, kinds: &[u8; CODES]) -> bool
-    ensures { result ≡ begins_letters kinds.now byte }
+fn begins_letters<K: KindSource>(byte: u8, kinds: &K) -> bool
+    ensures { result ≡ begins_letters (K.kinds_of kinds.now) byte }
 {
     if byte < 0xC2 || 0xDF < byte {
         return false;
     }
-    kinds[byte as usize] == LETTER && are_letters((byte as usize - 192) * 64, kinds)
+    kinds.kind_of_byte(byte) == LETTER && are_letters((u32::from(byte) - 192) * 64, kinds)
 }
 
 /// Whether 64 codes are letters.
-fn are_letters(from: usize, kinds: &[u8; CODES]) -> bool
+fn are_letters<K: KindSource>(from: u32, kinds: &K) -> bool
     requires { from < 2048 }
-    ensures { result ≡ are_letters kinds.now from 64 }
+    ensures { result ≡ are_letters (K.kinds_of kinds.now) from 64 }
 {
-    for more in 0..64_usize {
-        if kinds[from + more] != LETTER {
+    for more in 0..64_u32 {
+        if kinds.kind_at(from + more) != LETTER {
             return false;
         }
     }
@@ -172,13 +183,17 @@ fn are_letters(from: usize, kinds: &[u8; CODES]) -> bool
 }
 
 /// The places of the rows after all bytes.
-fn rows_of_bytes(kinds: &[u8; CODES]) -> [u16; 256]
-    requires { (code : ℕ) → slice_index_or kinds.now code 0 < KINDS }
-    ensures { (byte : ℕ) → byte < 256 → slice_index_or result byte 0 ≡ row_of_byte kinds.now byte }
+fn rows_of_bytes<K: KindSource>(kinds: &K) -> [u16; 256]
+    requires { (code : ℕ) → slice_index_or (K.kinds_of kinds.now) code 0 < KINDS }
+    ensures { (byte : ℕ) → byte < 256 → slice_index_or result byte 0 ≡ row_of_byte (K.kinds_of kinds.now) byte }
 {
     let mut rows = [NO_ROW; 256];
     for byte in 0..256_usize {
-        let kind = if byte < 128 { kinds[byte] } else { LETTER };
+        let kind = if byte < 128 {
+            kinds.kind_of_byte(byte as u8)
+        } else {
+            LETTER
+        };
         rows[byte] = row_of_kind(kind);
     }
     rows

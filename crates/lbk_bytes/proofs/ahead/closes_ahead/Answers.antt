@@ -12,7 +12,7 @@ use Rattle.lbk_bytes.proofs.PieceLemmas.{piece-within, rest-of}
 use Rattle.lbk_bytes.proofs.ahead.closes_ahead.Goals as goal
 
 pub returns-in-Some : goal.returns-in-Some
-returns-in-Some c = λ cell are_kinds.
+returns-in-Some g c = λ cell are_kinds.
     let text = c.args.rest.now in
     let l = c.loop-at in
     let x = c.decode_lossy-c.result.0 in
@@ -22,13 +22,13 @@ returns-in-Some c = λ cell are_kinds.
     let is_size : size ≡ (decoded (drop l.at text)).size = c.decode_lossy-c.ensures.size ∙ ap (λ bs. (decoded bs).size) whole in
     let next = cells-next cell text l.at x size c.loop-at-test.true is_char is_size in
     let told : told_by l.fresh (normal (cell x)) ≡ Some c.in-Some.closes =
-    ap (told_by l.fresh) (sym (c.cell-cell.ensures cell are_kinds)) ∙ sym c.in-Some.ensures in
+    ap (told_by l.fresh) (sym (c.cell_by_kind-cell.ensures cell are_kinds)) ∙ sym c.in-Some.ensures in
     sym (heads-tells l.fresh (normal (cell x)) (cells_on cell (l.at + size) text) c.in-Some.closes told)
     ∙ ap (λ cs. leaves_closed (units_after l.fresh cs)) (sym next)
     ∙ l.invariant.same cell are_kinds
 
 pub overflow_add-at : goal.overflow_add-at
-overflow_add-at c =
+overflow_add-at g c =
     let text = c.args.rest.now in
     let l = c.loop-at in
     let is_size = c.decode_lossy-c.ensures.size ∙ ap (λ bs. (decoded bs).size) (rest-of text l.at) in
@@ -36,7 +36,7 @@ overflow_add-at c =
     omega (arith, bounds.1, is_size)
 
 pub loop-at-smaller : goal.loop-at-smaller
-loop-at-smaller c =
+loop-at-smaller g c =
     let text = c.args.rest.now in
     let l = c.loop-at in
     let is_size = c.decode_lossy-c.ensures.size ∙ ap (λ bs. (decoded bs).size) (rest-of text l.at) in
@@ -44,7 +44,7 @@ loop-at-smaller c =
     omega (arith, bounds.0, bounds.1, is_size)
 
 pub loop-at-preserved : goal.loop-at-preserved
-loop-at-preserved c =
+loop-at-preserved g c =
     let text = c.args.rest.now in
     let l = c.loop-at in
     let x = c.decode_lossy-c.result.0 in
@@ -56,7 +56,7 @@ loop-at-preserved c =
     record {
       within = omega (arith, bounds.1, is_size);
       same = λ cell are_kinds.
-          let same = c.cell-cell.ensures cell are_kinds in
+          let same = c.cell_by_kind-cell.ensures cell are_kinds in
           let next = cells-next cell text l.at x size c.loop-at-test.true is_char is_size in
           let told : told_by l.fresh (normal (cell x)) ≡ None = ap (told_by l.fresh) (sym same) ∙ sym c.unit_closes.ensures ∙ c.in_default.is in
           ap (λ b. leaves_closed (units_after b (cells_on cell (l.at + size) text))) (c.leaves_fresh-fresh-in-loop-at.ensures ∙ ap (λ (u : Cell). hard u.class) same)
@@ -66,7 +66,7 @@ loop-at-preserved c =
     }
 
 pub returns : goal.returns
-returns c = λ cell are_kinds.
+returns g c = λ cell are_kinds.
     let text = c.args.rest.now in
     let l = c.loop-at in
     let ends = drop_of_length-le text {i = l.at} c.loop-at-test.false in

@@ -16,8 +16,8 @@ invariant-loop-here g l = record {
   onward : l.fn.start.at ≤ l.here.at;
   more : l.fn.start.count ≤ l.here.count;
   in_order : (from : ℕ) → IsInOrder l.fn.out l.fn.start.count from l.fn.start.at → IsInOrder l.out l.here.count from l.here.at;
-  reached : (profile : Profile) (cell : ℕ → Cell) (more : List ℕ) (all : Ahead) → l.steps ≡ steps_in profile → AreFlatKinds l.kinds cell
-      → AreTold l.steps l.kinds l.pairs
+  reached : (profile : Profile) (cell : ℕ → Cell) (more : List ℕ) (all : Ahead) → l.steps ≡ steps_in profile → AreFlatKinds (g.K.KindSource.kinds_of l.kinds) cell
+      → AreTold l.steps (g.K.KindSource.kinds_of l.kinds) l.pairs
       → Reached profile cell (l.text ++ more) all l.fn.start (given_in l.fn.out l.fn.start.count)
       → Reached profile cell (l.text ++ more) all l.here (given_in l.out l.here.count);
 }

@@ -7,18 +7,18 @@ use Rattle.lbk_bytes.specs.Shown.{given_in}
 use Rattle.lbk_bytes.proofs.blocks.finish.Given as goal
 
 abbrev pub invariant-loop-here : goal.invariant-loop-here
-invariant-loop-here l = record {
+invariant-loop-here g l = record {
   room : l.here.count ≤ length l.out;
   more : l.fn.start.count ≤ l.here.count;
   ahead : IsAhead l.at l.taken l.here;
   onward : l.fn.start.past ≤ l.here.past;
   in_order : (from : ℕ) → IsInOrder l.fn.out l.fn.start.count from l.fn.start.past → IsInOrder l.out l.here.count from l.here.past;
   reached : (profile : Profile) (cell : ℕ → Cell) (more : List ℕ) (all : Ahead) (begin : ℕ)
-      → IsBlock profile cell l.steps l.kinds l.pairs l.text l.at begin l.taken
+      → IsBlock profile cell l.steps (g.K.KindSource.kinds_of l.kinds) l.pairs l.text l.at begin l.taken
       → AreLeft l.pairs l.text l.at begin l.taken l.fn.start
       → Reached profile cell (l.text ++ more) all (place_in l.pairs l.text l.fn.start) (given_in l.fn.out l.fn.start.count)
       → AreLeft l.pairs l.text l.at begin l.taken l.here × Reached profile cell (l.text ++ more) all (place_in l.pairs l.text l.here) (given_in l.out l.here.count);
 }
 
 abbrev pub decreases-loop-here : goal.decreases-loop-here
-decreases-loop-here l = l.here.left
+decreases-loop-here g l = l.here.left

@@ -6,18 +6,19 @@ use Rattle.lbk_bytes.proofs.BlockOrderLemmas.{ahead-taken, lowest-ahead, order-t
 use Rattle.lbk_bytes.proofs.blocks.take_break.Goals as goal
 
 pub returns-clause-reached : goal.returns-clause-reached
-returns-clause-reached c = λ profile cell more all begin taken block left start.
+returns-clause-reached g c = λ profile cell more all begin taken block left start.
     let first = c.first_set-index in
     let there : BlockState = record { count = c.put.result; past = c.args.at + first.result + 1; left = c.without_first.result } in
     let cleared = c.without_first.ensures.cleared first.result first.ensures.within first.ensures.lowest in
-    break-taken profile cell c.args.text.now more all c.args.steps.now c.args.kinds.now c.args.pairs.now c.args.out.now c.put.new.out
+    break-taken profile cell c.args.text.now more all c.args.steps.now (g.K.KindSource.kinds_of c.args.kinds.now) c.args.pairs.now c.args.out.now c.put.new.out
     c.args.at begin taken first.result c.args.here there c.step_at-step.result.now
     block.within block left first.ensures.within c.requires.place.1 first.ensures.lowest cleared refl
-    (c.step_at-step.ensures.read ∙ ap (λ r. step_by c.args.steps.now r (get_or c.args.kinds.now (get_or c.args.text.now (c.args.at + first.result) 0) 0)) c.place_by-row.ensures.number)
+    (c.step_at-step.ensures.read ∙ ap (step_by c.args.steps.now c.place_by-row.result) c.kind_of_byte.ensures
+    ∙ ap (λ r. step_by c.args.steps.now r (get_or (g.K.KindSource.kinds_of c.args.kinds.now) (get_or c.args.text.now (c.args.at + first.result) 0) 0)) c.place_by-row.ensures.number)
     c.put.ensures.front start
 
 pub returns-clause-ahead : goal.returns-clause-ahead
-returns-clause-ahead c = λ taken ahead.
+returns-clause-ahead g c = λ taken ahead.
     let first = c.first_set-index in
     let there : BlockState = record { count = c.put.result; past = c.args.at + first.result + 1; left = c.without_first.result } in
     let cleared = c.without_first.ensures.cleared first.result first.ensures.within first.ensures.lowest in
@@ -25,7 +26,7 @@ returns-clause-ahead c = λ taken ahead.
     (ahead-taken c.args.at taken first.result c.args.here there ahead first.ensures.within c.requires.place.1 first.ensures.lowest cleared refl, omega (arith, lowest.1))
 
 pub returns-clause-in_order : goal.returns-clause-in_order
-returns-clause-in_order c = λ taken from ahead order.
+returns-clause-in_order g c = λ taken from ahead order.
     let first = c.first_set-index in
     order-taken c.args.out.now c.put.new.out c.args.at taken first.result c.put.result from c.args.here ahead first.ensures.within c.requires.place.1 first.ensures.lowest
     c.put.ensures.in_order order

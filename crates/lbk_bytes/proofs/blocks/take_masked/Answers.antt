@@ -10,7 +10,7 @@ use Rattle.lbk_bytes.proofs.BlockScalarLemmas.{arrive, end-low, rest-row}
 use Rattle.lbk_bytes.proofs.blocks.take_masked.Goals as goal
 
 pub finish-requires-clause-place : goal.finish-requires-clause-place
-finish-requires-clause-place c =
+finish-requires-clause-place g c =
     let stops = c.kept_from.result in
     let at = c.args.at in
     let inside : at + trailing_zeros w64 stops ≤ length c.args.text.now =
@@ -20,7 +20,7 @@ finish-requires-clause-place c =
 
 -- no break is left but from here on, in the bytes that are taken
 pub finish-requires-clause-ahead : goal.finish-requires-clause-ahead
-finish-requires-clause-ahead c =
+finish-requires-clause-ahead g c =
     let here = c.args.here in
     let at = c.args.at in
     let begin = here.at - at in
@@ -31,7 +31,7 @@ finish-requires-clause-ahead c =
     some (zeros-few stops) is_at c.kept_from-2.ensures c.kept_up_to.ensures
 
 pub returns-clause-reached : goal.returns-clause-reached
-returns-clause-reached c = λ profile cell more all swift are_kinds told are_marks start.
+returns-clause-reached g c = λ profile cell more all swift are_kinds told are_marks start.
     let text = c.args.text.now in
     let pairs = c.args.pairs.now in
     let here = c.args.here in
@@ -45,7 +45,7 @@ returns-clause-reached c = λ profile cell more all swift are_kinds told are_mar
     let few = zeros-few stops in
     let inside : at + taken ≤ length text = lowest-inside text at c.args.marks.stops begin stops fits (omega arith) (omega arith) c.requires.ends c.kept_from.ensures in
     let rests : Rests pairs here text = record { below = omega arith; row = omega arith } in
-    let block = is-block profile cell c.args.steps.now c.args.kinds.now pairs text at begin taken c.args.marks here swift are_kinds told (λ i. (c.type_inv.text i).fits)
+    let block = is-block profile cell c.args.steps.now (g.K.KindSource.kinds_of c.args.kinds.now) pairs text at begin taken c.args.marks here swift are_kinds told (λ i. (c.type_inv.text i).fits)
     are_marks rests is_at some few inside start.knows.0
     (λ i after h. sym (c.kept_from.ensures.same i after (omega arith)) ∙ zeros-below stops fits i h)
     (λ h. sym (c.kept_from.ensures.same taken some h) ∙ zeros-end stops fits h) in

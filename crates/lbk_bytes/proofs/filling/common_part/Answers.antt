@@ -13,5 +13,6 @@ returns-clause-reached g c = λ cell more all flat start.
     let profile = c.args.profile in
     let steps = c.rows_of-steps in
     let there = c.blocks-there in
-    let told = told-as profile c.args.table.now cell steps.result.now flat steps.ensures in
+    let K = g.K.KindSource in
+    let told = told-as profile (K.kinds_of c.args.table.now) (K.pairs_of c.args.table.now) c.pairs.result.now cell steps.result.now flat c.pairs.ensures steps.ensures in
     c.quick.ensures.reached profile cell more all (length c.args.text.now) steps.ensures flat.kinds (omega arith) (there.ensures.reached profile cell more all steps.ensures flat.kinds told start)

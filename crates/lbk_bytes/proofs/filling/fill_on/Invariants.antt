@@ -1,6 +1,6 @@
 use Rattle.std.proofs.Common.{◌≡◌, ◌+◌, ◌-◌, ◌≤◌, ℕ, length}
 use Rattle.lbk_rules.specs.declared.Cell.{Cell}
-use Rattle.lbk_rules.specs.FlatTable.{IsFlatOf}
+use Rattle.lbk_rules.specs.FlatTable.{IsFlatBy}
 use Rattle.lbk_rules.specs.Rows.{IsPlace}
 use Rattle.lbk_bytes.specs.Reached.{Ahead, IsInOrder, Reached}
 use Rattle.lbk_bytes.specs.Shown.{given_in}
@@ -13,7 +13,7 @@ invariant-loop-here g l = record {
   within : l.here.at ≤ length l.text;
   no_room : length l.out ≡ 0 → l.here ≡ l.fn.start;
   in_order : (from : ℕ) → IsInOrder l.fn.out l.fn.start.count from l.fn.start.at → IsInOrder l.out l.here.count from l.here.at;
-  reached : (cell : ℕ → Cell) (all : Ahead) → IsFlatOf l.fn.table cell
+  reached : (cell : ℕ → Cell) (all : Ahead) → IsFlatBy (g.K.KindSource.kinds_of l.fn.table) (g.K.KindSource.pairs_of l.fn.table) cell
       → Reached l.fn.profile cell l.text all l.fn.start (given_in l.fn.out l.fn.start.count)
       → Reached l.fn.profile cell l.text all l.here (given_in l.out l.here.count);
 }

@@ -11,6 +11,7 @@ blocks-requires-clause-steps g c = (c.args.profile, c.requires.steps)
 pub returns-clause-reached : goal.returns-clause-reached
 returns-clause-reached g c = λ cell more all flat start.
     let profile = c.args.profile in
-    let told = told-as profile c.args.table.now cell c.args.steps.now flat c.requires.steps in
+    let K = g.K.KindSource in
+    let told = told-as profile (K.kinds_of c.args.table.now) (K.pairs_of c.args.table.now) c.pairs.result.now cell c.args.steps.now flat c.pairs.ensures c.requires.steps in
     subst (λ (s : FillState). Reached profile cell (c.args.text.now ++ more) all s (given_in c.blocks-2.new.out s.count)) (sym c.copied.ensures)
     (c.blocks-2.ensures.reached profile cell more all c.requires.steps flat.kinds told start)

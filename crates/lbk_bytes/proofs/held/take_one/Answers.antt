@@ -1,4 +1,4 @@
-use Rattle.std.proofs.Common.{refl, arith}
+use Rattle.std.proofs.Common.{refl}
 use Rattle.lbk_bytes.proofs.held.take_one.Goals as goal
 
 pub returns-clause-reached : goal.returns-clause-reached

@@ -1,18 +1,19 @@
-use Rattle.std.proofs.Common.{length, ◌∙◌, arith}
+use Rattle.std.proofs.Common.{length, refl, ◌∙◌, arith}
+use Rattle.lbk_bytes.proofs.StepLemmas.{told-as}
 use Rattle.lbk_bytes.proofs.mark_blocks.mark_block.Goals as goal
 
 pub returns-then-end-there-clause-marked : goal.returns-then-end-there-clause-marked
-returns-then-end-there-clause-marked c = λ profile cell more all swift are_kinds told start.
+returns-then-end-there-clause-marked c = λ profile cell more all swift flat start.
     let l = c.loop-here in
-    c.mark_masked-there.ensures.marked profile cell c.args.steps.now c.args.kinds.now more all swift are_kinds told c.in-Some.ensures
-    (l.invariant.marked profile cell more all swift are_kinds told start)
+    c.mark_masked-there.ensures.marked profile cell c.args.steps.now c.args.table.now.kinds more all swift flat.kinds (told-as profile c.args.table.now.kinds c.args.table.now.pairs c.args.table.now.pairs cell c.args.steps.now flat refl swift) c.in-Some.ensures
+    (l.invariant.marked profile cell more all swift flat start)
 
 pub returns-then-here-there-clause-marked : goal.returns-then-here-there-clause-marked
-returns-then-here-there-clause-marked c = λ profile cell more all swift are_kinds told start.
+returns-then-here-there-clause-marked c = λ profile cell more all swift flat start.
     let l = c.loop-here in
-    c.runs-here.ensures.reached profile cell more all (length c.args.text.now) swift are_kinds (omega arith)
-    (c.mark_masked-there.ensures.marked profile cell c.args.steps.now c.args.kinds.now more all swift are_kinds told c.in-Some.ensures
-    (l.invariant.marked profile cell more all swift are_kinds told start))
+    c.runs-here.ensures.reached profile cell more all (length c.args.text.now) swift flat.kinds (omega arith)
+    (c.mark_masked-there.ensures.marked profile cell c.args.steps.now c.args.table.now.kinds more all swift flat.kinds (told-as profile c.args.table.now.kinds c.args.table.now.pairs c.args.table.now.pairs cell c.args.steps.now flat refl swift) c.in-Some.ensures
+    (l.invariant.marked profile cell more all swift flat start))
 
 pub loop-here-preserved : goal.loop-here-preserved
 loop-here-preserved c =
@@ -24,10 +25,10 @@ loop-here-preserved c =
       within = here.within.2;
       onward = omega (arith, there.within.1, here.onward.0);
       none = λ clear. here.in_order 0 (λ i past. there.after i past ∙ l.invariant.none clear i (omega (arith, there.within.1)));
-      marked = λ profile cell more all swift are_kinds told start.
-          here.reached profile cell more all (length c.args.text.now) swift are_kinds (omega arith)
-          (there.marked profile cell c.args.steps.now c.args.kinds.now more all swift are_kinds told c.in-Some.ensures
-          (l.invariant.marked profile cell more all swift are_kinds told start));
+      marked = λ profile cell more all swift flat start.
+          here.reached profile cell more all (length c.args.text.now) swift flat.kinds (omega arith)
+          (there.marked profile cell c.args.steps.now c.args.table.now.kinds more all swift flat.kinds (told-as profile c.args.table.now.kinds c.args.table.now.pairs c.args.table.now.pairs cell c.args.steps.now flat refl swift) c.in-Some.ensures
+          (l.invariant.marked profile cell more all swift flat start));
     }
 
 pub returns-then-here-there-clause-none : goal.returns-then-here-there-clause-none

@@ -1,8 +1,7 @@
-use Rattle.std.proofs.Common.{◌≡◌, ◌+◌, ◌-◌, ◌≤◌, ◌++◌, ℕ, List, length}
+use Rattle.std.proofs.Common.{◌≡◌, ◌-◌, ◌≤◌, ◌++◌, ℕ, List, length}
 use Rattle.lbk_rules.specs.declared.Cell.{Cell}
 use Rattle.lbk_values.specs.declared.profile.Profile.{Profile}
-use Rattle.lbk_rules.specs.FlatTable.{AreFlatKinds}
-use Rattle.lbk_rules.specs.Neighbours.{AreTold}
+use Rattle.lbk_rules.specs.FlatTable.{IsFlatOf}
 use Rattle.lbk_rules.specs.Rows.{IsPlace, steps_in}
 use Rattle.lbk_bytes.specs.Marking.{AreClear, Marked}
 use Rattle.lbk_bytes.specs.Reached.{Ahead}
@@ -15,7 +14,7 @@ invariant-loop-here l = record {
   onward : l.fn.start.at ≤ l.here.at;
   none : AreClear l.from l.fn.start.at l.fn.words → AreClear l.from l.here.at l.words;
   marked : (profile : Profile) (cell : ℕ → Cell) (more : List ℕ) (all : Ahead) → l.steps ≡ steps_in profile
-      → AreFlatKinds l.kinds cell → AreTold l.steps l.kinds l.pairs
+      → IsFlatOf l.table cell
       → Marked profile cell (l.text ++ more) all l.from (length l.text) l.fn.start l.fn.words
       → Marked profile cell (l.text ++ more) all l.from (length l.text) l.here l.words;
 }

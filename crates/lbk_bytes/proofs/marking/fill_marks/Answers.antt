@@ -1,4 +1,4 @@
-use Rattle.std.proofs.Common.{◌∷◌, [], set, subst, arith}
+use Rattle.std.proofs.Common.{set, subst, arith}
 use Rattle.lbk_bytes.specs.Marking.{Marked}
 use Rattle.lbk_bytes.proofs.MarkLemmas.{as-other}
 use Rattle.lbk_bytes.proofs.marking.fill_marks.Goals as goal

@@ -1,6 +1,5 @@
 use Rattle.std.proofs.Common.{[], drop, length-take-le, arith}
 use Rattle.lbk_bytes.proofs.MarkLemmas.{Marked-alone, Marked-by-front}
-use Rattle.lbk_bytes.proofs.StepLemmas.{told-as}
 use Rattle.lbk_bytes.proofs.marking.mark_further.Goals as goal
 
 pub mark_blocks-there-requires-clause-steps : goal.mark_blocks-there-requires-clause-steps
@@ -13,19 +12,17 @@ pub returns-then-there-stop-clause-marked : goal.returns-then-there-stop-clause-
 returns-then-there-stop-clause-marked c = λ cell all flat m.
     let a = c.args in
     let steps = c.rows_of-steps in
-    let told = told-as a.profile a.table.now cell steps.result.now flat steps.ensures in
     let blocks = c.mark_blocks-there in
     Marked-by-front a.profile cell a.text.now all a.from a.stop a.here blocks.result a.words.now blocks.new.words c.requires.3
-    (blocks.ensures.marked a.profile cell (drop a.stop a.text.now) all steps.ensures flat.kinds told) m
+    (blocks.ensures.marked a.profile cell (drop a.stop a.text.now) all steps.ensures flat) m
 
 pub returns-then-until-past-clause-marked : goal.returns-then-until-past-clause-marked
 returns-then-until-past-clause-marked c = λ cell all flat m.
     let a = c.args in
     let steps = c.rows_of-steps in
-    let told = told-as a.profile a.table.now cell steps.result.now flat steps.ensures in
     let blocks = c.mark_blocks-there in
     let there = Marked-by-front a.profile cell a.text.now all a.from a.stop a.here blocks.result a.words.now blocks.new.words c.requires.3
-    (blocks.ensures.marked a.profile cell (drop a.stop a.text.now) all steps.ensures flat.kinds told) m in
+    (blocks.ensures.marked a.profile cell (drop a.stop a.text.now) all steps.ensures flat) m in
     let past = c.quick-past in
     let until = length-take-le a.stop a.text.now c.requires.3 in
     Marked-alone a.profile cell a.text.now all a.from a.stop blocks.result past.result blocks.new.words past.new.out
@@ -35,10 +32,9 @@ pub returns-clause-marked : goal.returns-clause-marked
 returns-clause-marked c = λ cell all flat m.
     let a = c.args in
     let steps = c.rows_of-steps in
-    let told = told-as a.profile a.table.now cell steps.result.now flat steps.ensures in
     let blocks = c.mark_blocks-there in
     let there = Marked-by-front a.profile cell a.text.now all a.from a.stop a.here blocks.result a.words.now blocks.new.words c.requires.3
-    (blocks.ensures.marked a.profile cell (drop a.stop a.text.now) all steps.ensures flat.kinds told) m in
+    (blocks.ensures.marked a.profile cell (drop a.stop a.text.now) all steps.ensures flat) m in
     let past = c.quick-past in
     let until = length-take-le a.stop a.text.now c.requires.3 in
     c.take_ones.ensures.reached cell all a.stop flat (omega arith)

@@ -1,7 +1,6 @@
 use Rattle.std.proofs.Common.{◌∷◌, [], drop, length-take-le, arith}
 use Rattle.lbk_bytes.specs.Marking.{uncounted}
 use Rattle.lbk_bytes.proofs.MarkLemmas.{Marked-begun}
-use Rattle.lbk_bytes.proofs.StepLemmas.{told-as}
 use Rattle.lbk_bytes.proofs.one_word.one_word.Goals as goal
 
 pub loop-here-init : goal.loop-here-init
@@ -18,7 +17,7 @@ loop-here-init c =
       none = block.ensures.none;
       marked = λ cell all flat start.
           Marked-begun a.profile cell a.text.now all a.start.at a.stop (uncounted a.start) block.result (block.result.count ∷ []) c.requires.place.3
-          (block.ensures.marked a.profile cell (drop a.stop a.text.now) all steps.ensures flat.kinds (told-as a.profile a.table.now cell steps.result.now flat steps.ensures))
+          (block.ensures.marked a.profile cell (drop a.stop a.text.now) all steps.ensures flat)
           start;
     }
 

@@ -1,10 +1,11 @@
-use Rattle.std.proofs.Common.{◌+◌, ◌<◌, ◌++◌, length, length-append, refl, arith}
+use Rattle.std.proofs.Common.{◌+◌, ◌<◌, ◌++◌, length, length-append, refl, ap, ◌∙◌, arith}
+use Rattle.lbk_rules.specs.Rows.{step_by}
 use Rattle.lbk_bytes.proofs.AnyPieceLemmas.{read-decided, reads-as, reads-as-more}
 use Rattle.lbk_bytes.proofs.pieces.pieces.Goals as goal
 
-pub bounds-kinds-piece : goal.bounds-kinds-piece
-bounds-kinds-piece g c =
-    (reads-as c.args.text.now c.taking.at c.piece_of-piece.result.code c.piece_of-piece.result.size (omega arith) c.piece_of-piece.ensures.code c.piece_of-piece.ensures.size).below
+pub kind_at-requires : goal.kind_at-requires
+kind_at-requires g c =
+    (reads-as c.args.text.now c.taking.at c.piece_of-piece.result.code c.piece_of-piece.result.size (omega arith) c.piece_of-piece.ensures.code c.piece_of-piece.ensures.size).scalar
 
 pub overflow_add-at : goal.overflow_add-at
 overflow_add-at g c =
@@ -38,7 +39,7 @@ taking-preserved g c =
       reached = λ profile cell more all last swift are_kinds stops start.
           put.ensures.reached profile cell (text ++ more) all last l.row (record { shown = step.shown; row = step.next; at = l.at + size }) refl
           (omega (arith, length-append text more)) (omega (arith, stops))
-          (read-decided profile cell (text ++ more) c.args.steps.now c.args.kinds.now l.row l.at x size step swift are_kinds
-          (reads-as-more text more l.at x size four r) c.step_at-step.ensures.read c.if-step-eq-HELD.false)
+          (read-decided profile cell (text ++ more) c.args.steps.now (g.K.KindSource.kinds_of c.args.kinds.now) l.row l.at x size step swift are_kinds
+          (reads-as-more text more l.at x size four r) (c.step_at-step.ensures.read ∙ ap (step_by c.args.steps.now l.row) c.kind_at.ensures) c.if-step-eq-HELD.false)
           (l.invariant.reached profile cell more all last swift are_kinds stops start);
     }

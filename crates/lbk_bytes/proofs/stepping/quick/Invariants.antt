@@ -15,7 +15,7 @@ invariant-loop-here g l = let T = g.T.Target in record {
   more : l.fn.start.count ≤ l.here.count;
   in_order : (from : ℕ) → T.in_order l.target l.fn.out l.fn.start.count from l.fn.start.at → T.in_order l.target l.out l.here.count from l.here.at;
   near : l.fn.start.at ≤ l.stop → l.here.at ≤ l.stop + 3;
-  reached : (profile : Profile) (cell : ℕ → Cell) (more : List ℕ) (all : Ahead) (last : ℕ) → l.steps ≡ steps_in profile → AreFlatKinds l.kinds cell → l.stop ≤ last
+  reached : (profile : Profile) (cell : ℕ → Cell) (more : List ℕ) (all : Ahead) (last : ℕ) → l.steps ≡ steps_in profile → AreFlatKinds (g.K.KindSource.kinds_of l.kinds) cell → l.stop ≤ last
       → T.reached l.target profile cell (l.text ++ more) all last l.fn.start l.fn.out
       → T.reached l.target profile cell (l.text ++ more) all last l.here l.out;
 }

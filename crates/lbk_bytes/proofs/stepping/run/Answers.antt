@@ -1,12 +1,13 @@
-use Rattle.std.proofs.Common.{◌+◌, ◌<◌, ◌++◌, length, length-append, refl, arith}
+use Rattle.std.proofs.Common.{◌+◌, ◌<◌, ◌++◌, length, length-append, refl, ap, ◌∙◌, arith}
+use Rattle.lbk_rules.specs.Rows.{step_by}
 use Rattle.lbk_bytes.proofs.AnyPieceLemmas.{as-read, read-decided}
 use Rattle.lbk_bytes.proofs.CutLemmas.{reads-more}
 use Rattle.lbk_bytes.proofs.PieceLemmas.{reads}
 use Rattle.lbk_bytes.proofs.stepping.run.Goals as goal
 
-pub bounds-kinds-scalar : goal.bounds-kinds-scalar
-bounds-kinds-scalar g c =
-    (reads c.args.text.now c.taking.at c.in-Some.scalar.code c.in-Some.scalar.size (omega arith) c.in-Some.ensures).below
+pub kind_at-requires : goal.kind_at-requires
+kind_at-requires g c =
+    (reads c.args.text.now c.taking.at c.in-Some.scalar.code c.in-Some.scalar.size (omega arith) c.in-Some.ensures).scalar
 
 pub overflow_add-at : goal.overflow_add-at
 overflow_add-at g c =
@@ -38,7 +39,7 @@ taking-preserved g c =
       reached = λ profile cell more all last swift are_kinds stops start.
           put.ensures.reached profile cell (text ++ more) all last l.row (record { shown = step.shown; row = step.next; at = l.at + s.size }) refl
           (omega (arith, length-append text more)) (omega (arith, stops))
-          (read-decided profile cell (text ++ more) c.args.steps.now c.args.kinds.now l.row l.at s.code s.size step swift are_kinds
-          (as-read (text ++ more) l.at s.code s.size (reads-more text more l.at s.code s.size inside r)) c.step_at-step.ensures.read c.if-step-eq-HELD.false)
+          (read-decided profile cell (text ++ more) c.args.steps.now (g.K.KindSource.kinds_of c.args.kinds.now) l.row l.at s.code s.size step swift are_kinds
+          (as-read (text ++ more) l.at s.code s.size (reads-more text more l.at s.code s.size inside r)) (c.step_at-step.ensures.read ∙ ap (step_by c.args.steps.now l.row) c.kind_at.ensures) c.if-step-eq-HELD.false)
           (l.invariant.reached profile cell more all last swift are_kinds stops start);
     }

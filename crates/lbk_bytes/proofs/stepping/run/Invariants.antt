@@ -15,7 +15,7 @@ invariant-taking g l = let T = g.T.Target in record {
   more : l.initial.count ≤ l.count;
   in_order : (from : ℕ) → T.in_order l.target l.initial.out l.initial.count from l.initial.at → T.in_order l.target l.out l.count from l.at;
   near : l.initial.at ≤ l.stop → l.at ≤ l.stop + 3;
-  reached : (profile : Profile) (cell : ℕ → Cell) (more : List ℕ) (all : Ahead) (last : ℕ) → l.steps ≡ steps_in profile → AreFlatKinds l.kinds cell → l.stop ≤ last
+  reached : (profile : Profile) (cell : ℕ → Cell) (more : List ℕ) (all : Ahead) (last : ℕ) → l.steps ≡ steps_in profile → AreFlatKinds (g.K.KindSource.kinds_of l.kinds) cell → l.stop ≤ last
       → T.reached l.target profile cell (l.text ++ more) all last (record { count = l.initial.count; row = l.initial.row; at = l.initial.at }) l.initial.out
       → T.reached l.target profile cell (l.text ++ more) all last (record { count = l.count; row = l.row; at = l.at }) l.out;
 }

@@ -2,7 +2,7 @@ use Rattle.std.proofs.Common.{◌<◌, ◌≢◌, ◌∙◌, [], get_or, length,
 use Rattle.lbk_rules.proofs.neighbours.classes_of_bytes.Goals as goal
 
 pub loop-row-preserved : goal.loop-row-preserved
-loop-row-preserved c =
+loop-row-preserved g c =
     let l = c.loop-row in
     let made = c.classes_of_row.result in
     record {

@@ -2,7 +2,7 @@ use Rattle.std.proofs.Common.{◌<◌, ◌≢◌, ◌+◌, ◌*◌, length, arit
 use Rattle.lbk_rules.proofs.neighbours.classes_of_row.Goals as goal
 
 pub loop-place-preserved : goal.loop-place-preserved
-loop-place-preserved c =
+loop-place-preserved g c =
     let l = c.loop-place in
     let made = c.class_of_byte.result + 16 * c.class_of_byte-in-loop-place.result in
     record {

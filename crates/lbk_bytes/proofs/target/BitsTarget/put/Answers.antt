@@ -1,4 +1,4 @@
-use Rattle.std.proofs.Common.{◌-◌, ◌==◌, ◌&&◌, ◌||◌, ◌≡◌, [], drop, not, refl, ap, sym, ◌∙◌, arith}
+use Rattle.std.proofs.Common.{◌||◌, ◌≡◌, [], drop, not, refl, ap, sym, ◌∙◌, arith}
 use Rattle.bstr.specs.Utf8.{decoded}
 use Rattle.lbk_rules.specs.Breaks.{is_no}
 use Rattle.lbk_rules.specs.Rows.{verdict_shown}

@@ -1,0 +1,35 @@
+-- The kinds of the cells of all codes.
+use Rattle.std.proofs.Common.{◌≡◌, ℕ, ◌<◌, ◌≤◌, get_or, inl, inr, sym, subst, arith}
+use Rattle.std.proofs.lemmas.Bool.{cases_lt}
+use Rattle.std.proofs.lemmas.List.{get_or_past}
+use Rattle.std.proofs.lemmas.List.FromFn.{get_or-map-range_with_len, length-map-range_with_len}
+use Rattle.lbk_uax14.specs.declared.cells.Cell.{Cell}
+use Rattle.lbk_rules.specs.CellTable.{kinds_of_cells}
+use Rattle.lbk_rules.specs.FlatTable.{AreFlatKinds, AreKinds}
+use Rattle.lbk_rules.specs.Kinds.{kind_of}
+use Rattle.lbk_rules.proofs.KindsLemmas.{kind-few}
+use Rattle.lbk_rules.proofs.PagesLemmas.{scalar_below}
+use Rattle.lbk_rules.proofs.RowMachineLemmas.{kind_same}
+
+-- a code has the kind of its cell
+pub kinds-at : (cell : ℕ → Cell) (code : ℕ) → code < 0x11_0000 → get_or (kinds_of_cells cell) code 0 ≡ kind_of (cell code)
+unfolding kinds_of_cells
+kinds-at cell code below = get_or-map-range_with_len (λ code. kind_of (cell code)) 0 0x11_0000 code code 0 below (omega arith)
+
+-- no more have any
+kinds-past : (cell : ℕ → Cell) (code : ℕ) → 0x11_0000 ≤ code → get_or (kinds_of_cells cell) code 0 ≡ 0
+unfolding kinds_of_cells
+kinds-past cell code past =
+    get_or_past (kinds_of_cells cell) code 0 (subst (λ n. n ≤ code) (sym (length-map-range_with_len (λ code. kind_of (cell code)) 0 0x11_0000)) past)
+
+-- each is a kind
+pub kinds-are : (cell : ℕ → Cell) → AreKinds (kinds_of_cells cell)
+kinds-are cell code = elim (cases_lt code 0x11_0000) [
+  | inl below ↦ subst (λ n. n < 84) (sym (kinds-at cell code below)) (kind-few (cell code))
+  | inr past ↦ subst (λ n. n < 84) (sym (kinds-past cell code past)) (omega arith)
+]
+
+-- they are those of the cells
+pub kinds-flat : (cell : ℕ → Cell) → AreFlatKinds (kinds_of_cells cell) cell
+kinds-flat cell code scalar =
+    kind_same cell code (get_or (kinds_of_cells cell) code 0) (kinds-at cell code (scalar_below code scalar))

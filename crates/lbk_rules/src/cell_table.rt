@@ -1,0 +1,82 @@
+//! The cells of a source as kinds, with what the steps tell of bytes side by side.
+
+ghost use Rattle.std.specs.Prelude.{◌≡◌, ℕ};
+ghost use Rattle.std.specs.Char.{IsScalar};
+ghost use Rattle.lbk_rules.specs.Kinds.{AreKindsOf, kind_of};
+
+use crate::kind_source::KindSource;
+use crate::neighbours::{NO_NEIGHBOURS, Neighbours};
+use crate::source::CellSource;
+
+/// What a [`FlatTable`](crate::FlatTable) is, over the cells of a source and in less than a kilobyte. It asks the source
+/// for the kind of each scalar.
+#[derive(Drop)]
+pub struct CellTable<'a, C: CellSource> {
+    cells: &'a C,
+    /// The kinds of the first codes, kept here so that a loop reads them without asking the source where they are.
+    kinds: &'a [u8],
+    /// What the steps tell of bytes side by side.
+    pairs: Neighbours,
+    ghost same: { AreKindsOf (C.cell_of cells.now) kinds.now },
+}
+
+impl<'a, C: CellSource> CellTable<'a, C> {
+    ghost use Rattle.lbk_rules.specs.FlatTable.{IsFlatBy};
+    ghost use Rattle.lbk_rules.specs.CellTable.{cell_in, kinds_in, pairs_in};
+
+    /// The table of these cells.
+    pub fn new(cells: &'a C) -> CellTable<'a, C>
+        ensures cells { cell_in C.cell_of result ≡ C.cell_of cells.now }
+        ensures table { IsFlatBy (kinds_in C.cell_of result) (pairs_in result) (C.cell_of cells.now) }
+    {
+        let mut table = CellTable {
+            cells,
+            kinds: cells.kinds(),
+            pairs: NO_NEIGHBOURS,
+        };
+        table.pairs = Neighbours::of_kinds(&table);
+        table
+    }
+
+    /// The source of the cells.
+    #[inline(always)]
+    pub fn cells(&self) -> &'a C
+        ensures { C.cell_of result.now ≡ cell_in C.cell_of self.now }
+    {
+        self.cells
+    }
+}
+
+impl<'a, C: CellSource> KindSource for CellTable<'a, C> {
+    ghost use Rattle.lbk_rules.specs.CellTable.{kinds_in, pairs_in};
+
+    ghost kinds_of = { kinds_in C.cell_of };
+
+    ghost pairs_of = { pairs_in };
+
+    #[inline(always)]
+    fn kind_at(&self, code: u32) -> u8 {
+        match self.kinds.get(code as usize) {
+            Some(kind) => *kind,
+            None => kind_in(self.cells, code),
+        }
+    }
+
+    #[inline(always)]
+    fn pairs(&self) -> &Neighbours {
+        &self.pairs
+    }
+}
+
+/// The kind of a code by the source itself, out of the way of a loop that reads kinds.
+#[cold]
+#[inline(never)]
+fn kind_in<C: CellSource>(cells: &C, code: u32) -> u8
+    requires { IsScalar code }
+    ensures { result ≡ kind_of (C.cell_of cells.now code) }
+{
+    match char::from_u32(code) {
+        Some(c) => cells.kind(c),
+        None => 0,
+    }
+}
