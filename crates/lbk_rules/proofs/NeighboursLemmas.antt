@@ -2,13 +2,14 @@
 use Rattle.std.proofs.Common.{◌≡◌, ◌⊎◌, ℕ, zero, suc, ◌+◌, ◌-◌, ◌*◌, ◌/◌, ◌%◌, ◌<◌, ◌≤◌, ◌==◌, ◌&&◌, ◌||◌, Bool, true, false, cond, not, leb, ltb, List, [], get_or, bit_and, inl, inr, refl, sym, ap, ap₂, subst, ◌∙◌, ⊎_elim, arith, eqb-true, lit<}
 use Rattle.std.proofs.lemmas.Bool.{and_from, and_parts, cases_lt, cond-false, cond-true, eq-eqb, false≢true, leb-true, lt-ltb, ltb-true}
 use Rattle.std.proofs.lemmas.Bool.Decides.{nat_tests}
+use Rattle.std.proofs.lemmas.List.{get_or_past}
 use Rattle.lbk_rules.specs.Letters.{StandsForAll}
 use Rattle.lbk_masks.specs.Sets.{class_in, left_in, meets, picked, right_in}
 use Rattle.lbk_uax14.specs.Breaks.{is_no}
 use Rattle.lbk_values.specs.declared.profile.Profile.{Profile}
 use Rattle.lbk_values.specs.declared.profile.Profile.TheVariants.{First, Second}
 use Rattle.lbk_rules.specs.declared.neighbours.Neighbours.{Neighbours}
-use Rattle.lbk_rules.specs.declared.neighbours.TheConstants.{LEFT, RIGHT}
+use Rattle.lbk_rules.specs.declared.neighbours.TheConstants.{CLASS_OF_KIND, LEFT, RIGHT}
 use Rattle.lbk_rules.specs.declared.steps.TheConstants.{HELD}
 use Rattle.lbk_rules.specs.Neighbours.{AreNeighboursOf, AreSettled, AreTold, are_letters, begins_letters, class_of_byte, class_of_kind, is_special, row_of_byte, row_of_kind, step_behind}
 use Rattle.lbk_rules.specs.Rows.{IsPlace, step_by, steps_in, verdict_shown}
@@ -46,6 +47,10 @@ few_classes = refl
 pub class-few : (kind : ℕ) → kind < 84 → class_of_kind kind < 16
 unfolding few_class
 class-few kind few = ltb-true _ 16 (each_below-at few_class 84 kind few_classes few)
+
+-- no number beyond them has another class than the rare kinds
+pub class-past : (kind : ℕ) → 84 ≤ kind → class_of_kind kind ≡ 0
+class-past kind past = get_or_past CLASS_OF_KIND kind 0 past
 
 -- two kinds side by side: the first is asked for, the second is special behind it, or the sets tell what the step does
 told_pair : Profile → ℕ → ℕ → Bool

@@ -1,6 +1,6 @@
 //! The cells of a source as kinds, with what the steps tell of bytes side by side.
 
-ghost use Rattle.std.specs.Prelude.{◌≡◌, ℕ};
+ghost use Rattle.std.specs.Prelude.{◌≡◌};
 ghost use Rattle.std.specs.Char.{IsScalar};
 ghost use Rattle.lbk_rules.specs.Kinds.{AreKindsOf, kind_of};
 
@@ -8,8 +8,8 @@ use crate::kind_source::KindSource;
 use crate::neighbours::{NO_NEIGHBOURS, Neighbours};
 use crate::source::CellSource;
 
-/// What a [`FlatTable`](crate::FlatTable) is, over the cells of a source and in less than a kilobyte. It asks the source
-/// for the kind of each scalar.
+/// What a [`FlatTable`](crate::FlatTable) is, over the cells of a source and in less than a kilobyte: it asks the
+/// source for the kind of each scalar.
 #[derive(Drop)]
 pub struct CellTable<'a, C: CellSource> {
     cells: &'a C,

@@ -15,7 +15,6 @@ use crate::kind_source::KindSource;
 use crate::kind_table::KindTable;
 use crate::kinds::KINDS;
 use crate::neighbours::Neighbours;
-use crate::runs::CellRuns;
 use lbk_uax14::Cell;
 use lbk_ucd::Tables;
 use std::alloc::{AllocError, Global};
@@ -56,18 +55,7 @@ impl FlatTable {
         ensures neighbours { IfOk result (λ _. AreNeighboursOf self.new.kinds self.new.pairs) }
         ensures untouched { OnErr result (self.new ≡ self.old) }
     {
-        self.fill_over(alloc, tables)
-    }
-
-    /// The same over any source.
-    fn fill_over<C: CellRuns>(&mut self, alloc: Global, source: &C) -> Result<(), AllocError>
-        ensures table { IfOk result (λ _. IsFlatOf self.new (C.cell_at source.now)) }
-        ensures whole { IfOk result (λ _. IsWhole self.new) }
-        ensures kinds { IfOk result (λ _. AreKindsAlone self.new (C.cell_at source.now)) }
-        ensures neighbours { IfOk result (λ _. AreNeighboursOf self.new.kinds self.new.pairs) }
-        ensures untouched { OnErr result (self.new ≡ self.old) }
-    {
-        let kinds = KindTable::build(alloc, source)?;
+        let kinds = KindTable::build(alloc, tables)?;
         self.kinds.copy_from_slice(&kinds.kinds);
         self.complete();
         Ok(())

@@ -41,6 +41,7 @@ pub trait KindSource {
 
     /// The cell of the kind of `c`, with nothing that no rule asks of it. A number that is no kind's is masked, as
     /// steps mask it.
+    #[inline(always)]
     fn cell_by_kind(&self, c: char) -> Cell
         ensures { (cell : ℕ → Cell) → AreFlatKinds (kinds_of self.now) cell → result ≡ normal (cell c) }
     {

@@ -5,6 +5,7 @@
 ghost use Rattle.std.specs.Prelude.{◌≡◌, ◌+◌, ◌*◌, ◌<◌, [], ℕ, fold, slice_index_or};
 ghost use Rattle.lbk_rules.specs.declared.kinds.TheConstants.{KINDS};
 ghost use Rattle.lbk_rules.specs.declared.neighbours.TheConstants.{CLASS_OF_KIND};
+ghost use Rattle.lbk_rules.specs.FlatTable.{AreKinds};
 ghost use Rattle.lbk_rules.specs.Neighbours.{AreNeighboursOf, AreTold, are_letters, begins_letters, class_of_byte};
 ghost use Rattle.lbk_rules.specs.Neighbours.{digest_of_neighbours, digest_with, row_of_byte, row_of_kind};
 ghost use Rattle.lbk_rules.specs.Rows.{steps_in};
@@ -75,7 +76,7 @@ pub(crate) const NO_NEIGHBOURS: Neighbours = Neighbours {
 impl Neighbours {
     /// What the steps tell of neighbours, where codes have these kinds.
     pub(crate) fn of_kinds<K: KindSource>(kinds: &K) -> Neighbours
-        requires { (code : ℕ) → slice_index_or (K.kinds_of kinds.now) code 0 < KINDS }
+        requires { AreKinds (K.kinds_of kinds.now) }
         ensures are { AreNeighboursOf (K.kinds_of kinds.now) result }
         ensures told { (profile : Profile) → AreTold (steps_in profile) (K.kinds_of kinds.now) result }
     {
@@ -106,9 +107,9 @@ impl Neighbours {
 /// The classes of all bytes, in rows of 16: of those below 128 in the low half of a number, and of the others in the
 /// high half.
 fn classes_of_bytes<K: KindSource>(kinds: &K) -> [[u8; 16]; 8]
-    requires { (code : ℕ) → slice_index_or (K.kinds_of kinds.now) code 0 < KINDS }
     ensures { (row place : ℕ) → row < 8 → place < 16 → slice_index_or (slice_index_or result row []) place 0
-        ≡ class_of_byte (K.kinds_of kinds.now) (16 * row + place) + 16 * class_of_byte (K.kinds_of kinds.now) (128 + (16 * row + place)) }
+        ≡ class_of_byte (K.kinds_of kinds.now) (16 * row + place)
+        + 16 * class_of_byte (K.kinds_of kinds.now) (128 + (16 * row + place)) }
 {
     let mut classes = [[0; 16]; 8];
     for row in 0..8_usize {
@@ -120,9 +121,9 @@ fn classes_of_bytes<K: KindSource>(kinds: &K) -> [[u8; 16]; 8]
 /// The classes of 16 bytes below 128, and of those that are greater by 128.
 fn classes_of_row<K: KindSource>(row: usize, kinds: &K) -> [u8; 16]
     requires row { row < 8 }
-    requires kinds { (code : ℕ) → slice_index_or (K.kinds_of kinds.now) code 0 < KINDS }
     ensures { (place : ℕ) → place < 16 → slice_index_or result place 0
-        ≡ class_of_byte (K.kinds_of kinds.now) (16 * row + place) + 16 * class_of_byte (K.kinds_of kinds.now) (128 + (16 * row + place)) }
+        ≡ class_of_byte (K.kinds_of kinds.now) (16 * row + place)
+        + 16 * class_of_byte (K.kinds_of kinds.now) (128 + (16 * row + place)) }
 {
     let mut classes = [0; 16];
     for place in 0..16_usize {
@@ -134,7 +135,6 @@ fn classes_of_row<K: KindSource>(row: usize, kinds: &K) -> [u8; 16]
 
 /// The class of a byte.
 fn class_of_byte<K: KindSource>(byte: u8, kinds: &K) -> u8
-    requires { (code : ℕ) → slice_index_or (K.kinds_of kinds.now) code 0 < KINDS }
     ensures class { result ≡ class_of_byte (K.kinds_of kinds.now) byte }
     ensures few { result < 16 }
 {
@@ -150,12 +150,14 @@ fn class_of_byte<K: KindSource>(byte: u8, kinds: &K) -> u8
     OTHER
 }
 
-/// The class of a kind's bytes.
+/// The class of a kind's bytes. A number that is no kind's has that of the rare ones.
 fn class_of_kind(kind: u8) -> u8
-    requires { kind < KINDS }
     ensures class { result ≡ slice_index_or CLASS_OF_KIND kind 0 }
     ensures few { result < 16 }
 {
+    if KINDS <= kind as usize {
+        return OTHER;
+    }
     CLASS_OF_KIND[kind as usize]
 }
 
@@ -184,7 +186,6 @@ fn are_letters<K: KindSource>(from: u32, kinds: &K) -> bool
 
 /// The places of the rows after all bytes.
 fn rows_of_bytes<K: KindSource>(kinds: &K) -> [u16; 256]
-    requires { (code : ℕ) → slice_index_or (K.kinds_of kinds.now) code 0 < KINDS }
     ensures { (byte : ℕ) → byte < 256 → slice_index_or result byte 0 ≡ row_of_byte (K.kinds_of kinds.now) byte }
 {
     let mut rows = [NO_ROW; 256];
@@ -201,7 +202,6 @@ fn rows_of_bytes<K: KindSource>(kinds: &K) -> [u16; 256]
 
 /// The place of the row after a letter and a cell of a kind, or of no row where the steps are asked.
 fn row_of_kind(kind: u8) -> u16
-    requires { kind < KINDS }
     ensures { result ≡ row_of_kind kind }
 {
     if class_of_kind(kind) == OTHER {
