@@ -8,6 +8,7 @@ pub mod Marks
 -- What only carries proofs.
 pub mod Decided
 pub mod Reached
+pub mod Steps
 pub mod Blocks
 pub mod Widths
 pub mod Marking

@@ -1,8 +1,12 @@
 -- How far a call has come that sets a bit for each break.
-use Rattle.std.specs.Prelude.{◌≡◌, ℕ, ◌+◌, ◌*◌, ◌<◌, ◌≤◌, false, List, [], ◌∷◌, length}
+use Rattle.std.specs.Prelude.{◌≡◌, ℕ, ◌+◌, ◌*◌, ◌<◌, ◌≤◌, false, List, [], ◌∷◌, ◌++◌, length}
 use Rattle.lbk_rules.specs.declared.Break.{Break}
 use Rattle.lbk_rules.specs.declared.Cell.{Cell}
 use Rattle.lbk_values.specs.declared.profile.Profile.{Profile}
+use Rattle.lbk_rules.specs.declared.flat_table.FlatTable.{FlatTable}
+use Rattle.lbk_rules.specs.declared.steps.Step.{Step}
+use Rattle.lbk_rules.specs.FlatTable.{IsFlatOf}
+use Rattle.lbk_rules.specs.Rows.{AreSteps, IsPlace, steps_in}
 use Rattle.lbk_bytes.specs.declared.fill_state.FillState.{FillState}
 use Rattle.lbk_bytes.specs.Marks.{boundary_from, is_marked, stands_among}
 use Rattle.lbk_bytes.specs.Reached.{Ahead, Reached}
@@ -34,3 +38,21 @@ pub record Marked (profile : Profile) (cell : ℕ → Cell) (text : List ℕ) (a
   pub below : AreBelow stop given
   pub marked : (i : ℕ) → i < 64 * length words → is_marked words i ≡ stands_among (from + i) given
   pub boundary : boundary_from text here.at stop ≡ boundary_from text from stop
+
+-- blocks of bytes may be taken from here on by steps of some profile, and there is a bit for each byte of the text from
+-- byte `from` on
+abbrev pub MayMark : List (List Step) → List ℕ → ℕ → List ℕ → FillState → Type 0
+MayMark steps text from words here =
+    IsPlace here.row × (from ≤ here.at) × (here.at ≤ length text) × (length text ≤ from + 64 * length words)
+    × AreSteps steps
+
+-- Bytes of a text are taken, whatever follows the text. If no bit was set from the byte on that came next, so it is now;
+-- and if a bit was set for each break of what was taken.
+pub record MarksOn (table : FlatTable) (steps : List (List Step)) (text : List ℕ) (from : ℕ) (old : List ℕ)
+    (start : FillState) (new : List ℕ) (result : FillState) : Type 0 where
+  pub within : IsPlace result.row × (start.at ≤ result.at) × (result.at ≤ length text)
+  pub none : AreClear from start.at old → AreClear from result.at new
+  pub marked : (profile : Profile) (cell : ℕ → Cell) (more : List ℕ) (all : Ahead)
+      → steps ≡ steps_in profile → IsFlatOf table cell
+      → Marked profile cell (text ++ more) all from (length text) start old
+      → Marked profile cell (text ++ more) all from (length text) result new

@@ -12,6 +12,7 @@ ghost use Rattle.lbk_bytes.specs.Blocks.{AreEnded, AreInside, AreLeft, AreMarks,
 ghost use Rattle.lbk_bytes.specs.Blocks.{row_before};
 ghost use Rattle.lbk_bytes.specs.Reached.{Ahead, IsInOrder, Reached};
 ghost use Rattle.lbk_bytes.specs.Shown.{given_in};
+ghost use Rattle.lbk_bytes.specs.Steps.{FillsOn, GoesIn, IsInText, MayFill};
 
 use crate::fill_state::FillState;
 use crate::filling::put;
@@ -61,22 +62,17 @@ pub(crate) fn blocks<const MASKS: bool, K: KindSource>(
     text: &[u8],
     out: &mut [RawBreak],
 ) -> FillState
-    requires place { (start.count ≤ length out.old) × IsPlace start.row × (start.at ≤ length text.now) }
-    requires steps { AreSteps steps.now }
-    ensures within { (result.count ≤ length out.old) × IsPlace result.row × (result.at ≤ length text.now) }
-    ensures onward { (start.at ≤ result.at) × (start.count ≤ result.count) }
-    ensures in_order { (from : ℕ) → IsInOrder out.old start.count from start.at
-        → IsInOrder out.new result.count from result.at }
-    ensures reached { (profile : Profile) (cell : ℕ → Cell) (more : List ℕ) (all : Ahead)
-        → steps.now ≡ steps_in profile → AreFlatKinds (K.kinds_of kinds.now) cell
-        → AreTold steps.now (K.kinds_of kinds.now) pairs.now
-        → Reached profile cell (text.now ++ more) all start (given_in out.old start.count)
-        → Reached profile cell (text.now ++ more) all result (given_in out.new result.count) }
+    requires { MayFill steps.now text.now out.old start }
+    ensures { FillsOn steps.now (K.kinds_of kinds.now) pairs.now text.now out.old start out.new result }
 {
     if !MASKS {
         return start;
     }
-    let mut here = begun(kinds, steps, start, text, out);
+    let mut here = start;
+    // No byte stands before the first scalar of a text.
+    if start.at == 0 && !text.is_empty() {
+        here = runs(Breaks, kinds, steps, start, 1, text, out);
+    }
     loop {
         let from = here.at;
         here = block(pairs, kinds, steps, here, text, out);
@@ -84,32 +80,6 @@ pub(crate) fn blocks<const MASKS: bool, K: KindSource>(
             return here;
         }
     }
-}
-
-/// Takes the first scalar of a text by a step, since no byte stands before it.
-#[inline(always)]
-fn begun<K: KindSource>(
-    kinds: &K,
-    steps: &Rows,
-    start: FillState,
-    text: &[u8],
-    out: &mut [RawBreak],
-) -> FillState
-    requires place { (start.count ≤ length out.old) × IsPlace start.row × (start.at ≤ length text.now) }
-    requires steps { AreSteps steps.now }
-    ensures within { (result.count ≤ length out.old) × IsPlace result.row × (result.at ≤ length text.now) }
-    ensures onward { (start.at ≤ result.at) × (start.count ≤ result.count) }
-    ensures in_order { (from : ℕ) → IsInOrder out.old start.count from start.at
-        → IsInOrder out.new result.count from result.at }
-    ensures reached { (profile : Profile) (cell : ℕ → Cell) (more : List ℕ) (all : Ahead)
-        → steps.now ≡ steps_in profile → AreFlatKinds (K.kinds_of kinds.now) cell
-        → Reached profile cell (text.now ++ more) all start (given_in out.old start.count)
-        → Reached profile cell (text.now ++ more) all result (given_in out.new result.count) }
-{
-    if start.at != 0 || text.is_empty() {
-        return start;
-    }
-    runs(Breaks, kinds, steps, start, 1, text, out)
 }
 
 /// Takes the bytes of one block: those that its marks tell by them, and the others by steps.
@@ -122,17 +92,8 @@ fn block<K: KindSource>(
     text: &[u8],
     out: &mut [RawBreak],
 ) -> FillState
-    requires place { (start.count ≤ length out.old) × IsPlace start.row × (start.at ≤ length text.now) }
-    requires steps { AreSteps steps.now }
-    ensures within { (result.count ≤ length out.old) × IsPlace result.row × (result.at ≤ length text.now) }
-    ensures onward { (start.at ≤ result.at) × (start.count ≤ result.count) }
-    ensures in_order { (from : ℕ) → IsInOrder out.old start.count from start.at
-        → IsInOrder out.new result.count from result.at }
-    ensures reached { (profile : Profile) (cell : ℕ → Cell) (more : List ℕ) (all : Ahead)
-        → steps.now ≡ steps_in profile → AreFlatKinds (K.kinds_of kinds.now) cell
-        → AreTold steps.now (K.kinds_of kinds.now) pairs.now
-        → Reached profile cell (text.now ++ more) all start (given_in out.old start.count)
-        → Reached profile cell (text.now ++ more) all result (given_in out.new result.count) }
+    requires { MayFill steps.now text.now out.old start }
+    ensures { FillsOn steps.now (K.kinds_of kinds.now) pairs.now text.now out.old start out.new result }
 {
     let Some(marks) = marks_ahead(pairs, start.at, text) else {
         return start;
@@ -202,13 +163,9 @@ fn take_masked<K: KindSource>(
     out: &mut [RawBreak],
 ) -> FillState
     requires place { (here.count ≤ length out.old) × IsPlace here.row × (0 < at) × (at ≤ here.at)
-        × (here.at < at + 64) × (here.at < length text.now) }
+        × (here.at < at + 64) × (here.at < length text.now) × AreSteps steps.now }
     requires ends { AreEnded text.now at marks.stops }
-    requires steps { AreSteps steps.now }
-    ensures within { (result.count ≤ length out.old) × IsPlace result.row × (result.at ≤ length text.now) }
-    ensures onward { (here.at ≤ result.at) × (here.count ≤ result.count) }
-    ensures in_order { (from : ℕ) → IsInOrder out.old here.count from here.at
-        → IsInOrder out.new result.count from result.at }
+    ensures goes { GoesIn text.now out.old here out.new result }
     ensures reached { (profile : Profile) (cell : ℕ → Cell) (more : List ℕ) (all : Ahead)
         → steps.now ≡ steps_in profile → AreFlatKinds (K.kinds_of kinds.now) cell
         → AreTold steps.now (K.kinds_of kinds.now) pairs.now → AreMarks pairs.now text.now at marks
@@ -257,10 +214,9 @@ fn finish<K: KindSource>(
     out: &mut [RawBreak],
 ) -> FillState
     requires place { (start.count ≤ length out.old) × (0 < at) × (at + taken ≤ length text.now) × (taken ≤ 64)
-        × (at ≤ start.past) }
+        × (at ≤ start.past) × AreSteps steps.now }
     requires ahead { IsAhead at taken start }
-    requires steps { AreSteps steps.now }
-    ensures within { (result.count ≤ length out.old) × IsPlace result.row × (result.at ≤ length text.now) }
+    ensures within { IsInText result (length text.now) (length out.old) }
     ensures onward { (start.past ≤ result.at) × (start.count ≤ result.count) }
     ensures in_order { (from : ℕ) → IsInOrder out.old start.count from start.past
         → IsInOrder out.new result.count from result.at }
@@ -323,9 +279,8 @@ fn take_break<K: KindSource>(
     text: &[u8],
     out: &mut [RawBreak],
 ) -> BlockState
-    requires place { (here.count < length out.old) × (0 < here.left) × (0 < at) }
+    requires place { (here.count < length out.old) × (0 < here.left) × (0 < at) × AreSteps steps.now }
     requires inside { AreInside text.now at here.left }
-    requires steps { AreSteps steps.now }
     ensures ahead { (taken : ℕ) → IsAhead at taken here → IsAhead at taken result × (here.past ≤ result.past) }
     ensures in_order { (taken from : ℕ) → IsAhead at taken here → IsInOrder out.old here.count from here.past
         → IsInOrder out.new result.count from result.past }

@@ -1,13 +1,14 @@
 //! A block that is filled with breaks.
 
-ghost use Rattle.std.specs.Prelude.{◌≡◌, ℕ, ◌+◌, ◌<◌, ◌≤◌, ◌++◌, [], List, false, length, take};
+ghost use Rattle.std.specs.Prelude.{◌≡◌, ℕ, ◌+◌, ◌<◌, ◌≤◌, ◌++◌, [], List, length, take};
 ghost use Rattle.lbk_rules.specs.declared.Cell.{Cell};
-ghost use Rattle.lbk_rules.specs.FlatTable.{IsFlatBy, IsFlatOf};
+ghost use Rattle.lbk_rules.specs.FlatTable.{IsFlatBy};
 ghost use Rattle.lbk_rules.specs.Rows.{IsPlace, IsShown, steps_in, verdict_shown};
 ghost use Rattle.lbk_bytes.specs.Bytes.{with_break};
 ghost use Rattle.lbk_bytes.specs.Order.{AreBreaks, AreInOrder};
 ghost use Rattle.lbk_bytes.specs.Reached.{Ahead, IsInOrder, Reached};
 ghost use Rattle.lbk_bytes.specs.Shown.{given_in};
+ghost use Rattle.lbk_bytes.specs.Steps.{Fills, FillsIn, GoesIn, IsInText};
 
 use crate::blocks::{BLOCK, LEAST, blocks};
 use crate::fill_state::FillState;
@@ -30,15 +31,8 @@ pub fn fill<const MASKS: bool, K: KindSource>(
     text: &[u8],
     out: &mut [RawBreak],
 ) -> FillState
-    requires { (start.count ≤ length out.old) × IsPlace start.row × (start.at ≤ length text.now) }
-    ensures within { (result.count ≤ length out.old) × IsPlace result.row × (result.at ≤ length text.now) }
-    ensures stops { result.count < length out.old → result.at ≡ length text.now }
-    ensures no_room { length out.old ≡ 0 → result ≡ start }
-    ensures in_order { (from : ℕ) → IsInOrder out.old start.count from start.at
-        → IsInOrder out.new result.count from result.at }
-    ensures reached { (cell : ℕ → Cell) (all : Ahead) → IsFlatBy (K.kinds_of table.now) (K.pairs_of table.now) cell
-        → Reached profile cell text.now all start (given_in out.old start.count)
-        → Reached profile cell text.now all result (given_in out.new result.count) }
+    requires { IsInText start (length text.now) (length out.old) }
+    ensures { Fills profile (K.kinds_of table.now) (K.pairs_of table.now) text.now out.old start out.new result }
 {
     if start.count == out.len() {
         return start;
@@ -59,13 +53,8 @@ fn short<const MASKS: bool, K: KindSource>(
     text: &[u8],
     out: &mut [RawBreak],
 ) -> FillState
-    requires { (start.count ≤ length out.old) × IsPlace start.row × (start.at ≤ length text.now) }
-    ensures within { (result.count ≤ length out.old) × IsPlace result.row × (result.at ≤ length text.now) }
-    ensures in_order { (from : ℕ) → IsInOrder out.old start.count from start.at
-        → IsInOrder out.new result.count from result.at }
-    ensures reached { (cell : ℕ → Cell) (all : Ahead) → IsFlatBy (K.kinds_of table.now) (K.pairs_of table.now) cell
-        → Reached profile cell text.now all start (given_in out.old start.count)
-        → Reached profile cell text.now all result (given_in out.new result.count) }
+    requires { IsInText start (length text.now) (length out.old) }
+    ensures { FillsIn profile (K.kinds_of table.now) (K.pairs_of table.now) text.now out.old start out.new result }
 {
     if BLOCK <= text.len() - start.at {
         return start;
@@ -85,16 +74,9 @@ fn try_short_block<const MASKS: bool, K: KindSource>(
     text: &[u8],
     out: &mut [RawBreak],
 ) -> FillState
-    requires place { (start.count ≤ length out.old) × IsPlace start.row × (start.at ≤ length text.now) }
-    requires steps { steps.now ≡ steps_in profile }
-    ensures within { (result.count ≤ length out.old) × IsPlace result.row × (result.at ≤ length text.now) }
-    ensures onward { (start.at ≤ result.at) × (start.count ≤ result.count) }
-    ensures in_order { (from : ℕ) → IsInOrder out.old start.count from start.at
-        → IsInOrder out.new result.count from result.at }
-    ensures reached { (cell : ℕ → Cell) (more : List ℕ) (all : Ahead)
-        → IsFlatBy (K.kinds_of table.now) (K.pairs_of table.now) cell
-        → Reached profile cell (text.now ++ more) all start (given_in out.old start.count)
-        → Reached profile cell (text.now ++ more) all result (given_in out.new result.count) }
+    requires { (start.count ≤ length out.old) × IsPlace start.row × (start.at ≤ length text.now)
+        × (steps.now ≡ steps_in profile) }
+    ensures { FillsIn profile (K.kinds_of table.now) (K.pairs_of table.now) text.now out.old start out.new result }
 {
     if !MASKS || text.len() - start.at < LEAST {
         return start;
@@ -127,15 +109,8 @@ fn fill_on<const MASKS: bool, K: KindSource>(
     text: &[u8],
     out: &mut [RawBreak],
 ) -> FillState
-    requires { (start.count ≤ length out.old) × IsPlace start.row × (start.at ≤ length text.now) }
-    ensures within { (result.count ≤ length out.old) × IsPlace result.row × (result.at ≤ length text.now) }
-    ensures stops { result.count < length out.old → result.at ≡ length text.now }
-    ensures no_room { length out.old ≡ 0 → result ≡ start }
-    ensures in_order { (from : ℕ) → IsInOrder out.old start.count from start.at
-        → IsInOrder out.new result.count from result.at }
-    ensures reached { (cell : ℕ → Cell) (all : Ahead) → IsFlatBy (K.kinds_of table.now) (K.pairs_of table.now) cell
-        → Reached profile cell text.now all start (given_in out.old start.count)
-        → Reached profile cell text.now all result (given_in out.new result.count) }
+    requires { IsInText start (length text.now) (length out.old) }
+    ensures { Fills profile (K.kinds_of table.now) (K.pairs_of table.now) text.now out.old start out.new result }
 {
     let mut here = start;
     while here.count < out.len() && here.at < text.len() {
@@ -154,15 +129,8 @@ pub fn fill_common(
     text: &[u8],
     out: &mut [RawBreak],
 ) -> FillState
-    requires { (start.count ≤ length out.old) × IsPlace start.row × (start.at ≤ length text.now) }
-    ensures within { (result.count ≤ length out.old) × IsPlace result.row × (result.at ≤ length text.now) }
-    ensures onward { (start.at ≤ result.at) × (start.count ≤ result.count) }
-    ensures in_order { (from : ℕ) → IsInOrder out.old start.count from start.at
-        → IsInOrder out.new result.count from result.at }
-    ensures reached { (cell : ℕ → Cell) (more : List ℕ) (all : Ahead)
-        → IsFlatOf table.now cell
-        → Reached profile cell (text.now ++ more) all start (given_in out.old start.count)
-        → Reached profile cell (text.now ++ more) all result (given_in out.new result.count) }
+    requires { IsInText start (length text.now) (length out.old) }
+    ensures { FillsIn profile table.now.kinds table.now.pairs text.now out.old start out.new result }
 {
     if start.at == text.len() {
         return start;
@@ -184,11 +152,8 @@ fn further<const MASKS: bool, K: KindSource>(
     out: &mut [RawBreak],
 ) -> FillState
     requires { (here.count < length out.old) × IsPlace here.row × (here.at < length text.now) }
-    ensures within { (result.count ≤ length out.old) × IsPlace result.row × (result.at ≤ length text.now) }
-    ensures onward { here.count + here.at < result.count + result.at }
-    ensures in_order { (from : ℕ) → IsInOrder out.old here.count from here.at
-        → IsInOrder out.new result.count from result.at }
-    ensures both { (here.count ≤ result.count) × (here.at ≤ result.at) }
+    ensures goes { GoesIn text.now out.old here out.new result }
+    ensures moves { here.count + here.at < result.count + result.at }
     ensures reached { (cell : ℕ → Cell) (all : Ahead) → IsFlatBy (K.kinds_of table.now) (K.pairs_of table.now) cell
         → Reached profile cell text.now all here (given_in out.old here.count)
         → Reached profile cell text.now all result (given_in out.new result.count) }

@@ -4,11 +4,11 @@ ghost use Rattle.std.specs.Prelude.{◌≡◌, ℕ, ◌+◌, ◌*◌, ◌<◌, �
 ghost use Rattle.lbk_rules.specs.declared.Cell.{Cell};
 ghost use Rattle.lbk_values.specs.declared.profile.Profile.{Profile};
 ghost use Rattle.lbk_rules.specs.declared.steps.Step.{Step};
-ghost use Rattle.lbk_rules.specs.FlatTable.{AreFlatKinds, IsFlatOf};
+ghost use Rattle.lbk_rules.specs.FlatTable.{AreFlatKinds};
 ghost use Rattle.lbk_rules.specs.Neighbours.{AreTold};
-ghost use Rattle.lbk_rules.specs.Rows.{AreSteps, IsPlace, steps_in};
+ghost use Rattle.lbk_rules.specs.Rows.{IsPlace, steps_in};
 ghost use Rattle.lbk_bytes.specs.Blocks.{AreEnded, AreMarks};
-ghost use Rattle.lbk_bytes.specs.Marking.{AreClear, Marked};
+ghost use Rattle.lbk_bytes.specs.Marking.{Marked, MarksOn, MayMark};
 ghost use Rattle.lbk_bytes.specs.Marks.{is_marked};
 ghost use Rattle.lbk_bytes.specs.Reached.{Ahead};
 
@@ -33,15 +33,8 @@ pub(crate) fn mark_blocks(
     text: &[u8],
     words: &mut [u64],
 ) -> FillState
-    requires place { IsPlace start.row × (from ≤ start.at) × (start.at ≤ length text.now)
-        × (length text.now ≤ from + 64 * length words.old) }
-    requires steps { AreSteps steps.now }
-    ensures within { IsPlace result.row × (start.at ≤ result.at) × (result.at ≤ length text.now) }
-    ensures none { AreClear from start.at words.old → AreClear from result.at words.new }
-    ensures marked { (profile : Profile) (cell : ℕ → Cell) (more : List ℕ) (all : Ahead)
-        → steps.now ≡ steps_in profile → IsFlatOf table.now cell
-        → Marked profile cell (text.now ++ more) all from (length text.now) start words.old
-        → Marked profile cell (text.now ++ more) all from (length text.now) result words.new }
+    requires { MayMark steps.now text.now from words.old start }
+    ensures { MarksOn table.now steps.now text.now from words.old start words.new result }
 {
     if !are_told(start.at, text) {
         return start;
@@ -75,15 +68,8 @@ pub(crate) fn mark_block(
     text: &[u8],
     words: &mut [u64],
 ) -> FillState
-    requires place { IsPlace start.row × (from ≤ start.at) × (start.at ≤ length text.now)
-        × (length text.now ≤ from + 64 * length words.old) }
-    requires steps { AreSteps steps.now }
-    ensures within { IsPlace result.row × (start.at ≤ result.at) × (result.at ≤ length text.now) }
-    ensures none { AreClear from start.at words.old → AreClear from result.at words.new }
-    ensures marked { (profile : Profile) (cell : ℕ → Cell) (more : List ℕ) (all : Ahead)
-        → steps.now ≡ steps_in profile → IsFlatOf table.now cell
-        → Marked profile cell (text.now ++ more) all from (length text.now) start words.old
-        → Marked profile cell (text.now ++ more) all from (length text.now) result words.new }
+    requires { MayMark steps.now text.now from words.old start }
+    ensures { MarksOn table.now steps.now text.now from words.old start words.new result }
 {
     let Some(marks) = marks_ahead(&table.pairs, start.at, text) else {
         return start;

@@ -78,8 +78,8 @@ fn mark_further(
 ) -> FillState
     requires { IsPlace here.row × (from ≤ here.at) × (here.at < stop) × (stop ≤ length text.now)
         × (stop ≤ from + 64 * length words.old) }
-    ensures within { IsPlace result.row × (here.at < result.at) × (result.at ≤ length text.now) }
-    ensures near { result.at ≤ stop + 3 }
+    ensures within { IsPlace result.row × (here.at < result.at) × (result.at ≤ length text.now)
+        × (result.at ≤ stop + 3) }
     ensures none { AreClear from here.at words.old → AreClear from result.at words.new }
     ensures marked { (cell : ℕ → Cell) (all : Ahead) → IsFlatOf table.now cell
         → Marked profile cell text.now all from stop here words.old

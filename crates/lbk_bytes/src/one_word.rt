@@ -31,8 +31,7 @@ pub(crate) fn one_word(
 ) -> FillState
     requires place { IsPlace start.row × (start.at ≤ stop) × (stop ≤ start.at + 64) × (stop ≤ length text.now) }
     requires one { length words.old ≡ 1 }
-    ensures within { IsPlace result.row × (stop ≤ result.at) × (result.at ≤ length text.now) }
-    ensures near { result.at ≤ stop + 3 }
+    ensures within { IsPlace result.row × (stop ≤ result.at) × (result.at ≤ length text.now) × (result.at ≤ stop + 3) }
     ensures none { AreClear start.at result.at (result.count ∷ []) }
     ensures marked { (cell : ℕ → Cell) (all : Ahead) → IsFlatOf table.now cell
         → Reached profile cell text.now all (uncounted start) []
@@ -88,8 +87,8 @@ fn word_further(
     words: &mut [u64],
 ) -> FillState
     requires { IsPlace here.row × (from ≤ here.at) × (here.at < stop) × (stop ≤ length text.now) × (stop ≤ from + 64) }
-    ensures within { IsPlace result.row × (here.at < result.at) × (result.at ≤ length text.now) }
-    ensures near { result.at ≤ stop + 3 }
+    ensures within { IsPlace result.row × (here.at < result.at) × (result.at ≤ length text.now)
+        × (result.at ≤ stop + 3) }
     ensures none { AreClear from here.at (here.count ∷ []) → AreClear from result.at (result.count ∷ []) }
     ensures marked { (cell : ℕ → Cell) (all : Ahead) → IsFlatOf table.now cell
         → Marked profile cell text.now all from stop here (here.count ∷ [])

@@ -1,11 +1,7 @@
 //! Scalars of any width and ill-formed bytes, where they are mixed.
 
-ghost use Rattle.std.specs.Prelude.{◌≡◌, ℕ, ◌+◌, ◌<◌, ◌≤◌, ◌++◌, List, length};
-ghost use Rattle.lbk_rules.specs.declared.Cell.{Cell};
-ghost use Rattle.lbk_values.specs.declared.profile.Profile.{Profile};
-ghost use Rattle.lbk_rules.specs.FlatTable.{AreFlatKinds};
-ghost use Rattle.lbk_rules.specs.Rows.{AreSteps, IsPlace, steps_in};
-ghost use Rattle.lbk_bytes.specs.Reached.{Ahead};
+ghost use Rattle.std.specs.Prelude.{◌<◌};
+ghost use Rattle.lbk_bytes.specs.Steps.{MayStep, StepsOn};
 
 use crate::decoding::{ENOUGH, REPLACEMENT, piece_of};
 use crate::fill_state::FillState;
@@ -30,19 +26,9 @@ pub(crate) fn pieces<T: Target, K: KindSource>(
     text: &[u8],
     out: &mut [T::Entry],
 ) -> FillState
-    requires place { T.fits target out.old start.count start.at stop × IsPlace start.row
-        × (start.at ≤ length text.now) × (stop ≤ length text.now) }
-    requires steps { AreSteps steps.now }
-    ensures within { T.fits target out.new result.count result.at stop × IsPlace result.row
-        × (result.at ≤ length text.now) }
-    ensures onward { (start.at ≤ result.at) × (start.count ≤ result.count) }
-    ensures in_order { (from : ℕ) → T.in_order target out.old start.count from start.at
-        → T.in_order target out.new result.count from result.at }
-    ensures near { start.at ≤ stop → result.at ≤ stop + 3 }
-    ensures reached { (profile : Profile) (cell : ℕ → Cell) (more : List ℕ) (all : Ahead) (last : ℕ)
-        → steps.now ≡ steps_in profile → AreFlatKinds (K.kinds_of kinds.now) cell → stop ≤ last
-        → T.reached target profile cell (text.now ++ more) all last start out.old
-        → T.reached target profile cell (text.now ++ more) all last result out.new }
+    requires { MayStep (T.fits target) steps.now text.now stop out.old start }
+    ensures { StepsOn (T.fits target) (T.in_order target) (T.reached target) steps.now (K.kinds_of kinds.now) text.now
+        stop out.old start out.new result }
 {
     let mut count = start.count;
     let mut row = start.row;

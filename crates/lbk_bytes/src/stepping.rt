@@ -1,11 +1,6 @@
 //! The loops that take scalars by steps, whatever is written of their positions.
 
-ghost use Rattle.std.specs.Prelude.{◌≡◌, ℕ, ◌+◌, ◌≤◌, ◌++◌, List, length};
-ghost use Rattle.lbk_rules.specs.declared.Cell.{Cell};
-ghost use Rattle.lbk_values.specs.declared.profile.Profile.{Profile};
-ghost use Rattle.lbk_rules.specs.FlatTable.{AreFlatKinds};
-ghost use Rattle.lbk_rules.specs.Rows.{AreSteps, IsPlace, steps_in};
-ghost use Rattle.lbk_bytes.specs.Reached.{Ahead};
+ghost use Rattle.lbk_bytes.specs.Steps.{MayStep, StepsOn};
 
 use crate::decoding::{Width, scalar_of};
 use crate::fill_state::FillState;
@@ -25,19 +20,9 @@ pub(crate) fn quick<T: Target, K: KindSource>(
     text: &[u8],
     out: &mut [T::Entry],
 ) -> FillState
-    requires place { T.fits target out.old start.count start.at stop × IsPlace start.row
-        × (start.at ≤ length text.now) × (stop ≤ length text.now) }
-    requires steps { AreSteps steps.now }
-    ensures within { T.fits target out.new result.count result.at stop × IsPlace result.row
-        × (result.at ≤ length text.now) }
-    ensures onward { (start.at ≤ result.at) × (start.count ≤ result.count) }
-    ensures in_order { (from : ℕ) → T.in_order target out.old start.count from start.at
-        → T.in_order target out.new result.count from result.at }
-    ensures near { start.at ≤ stop → result.at ≤ stop + 3 }
-    ensures reached { (profile : Profile) (cell : ℕ → Cell) (more : List ℕ) (all : Ahead) (last : ℕ)
-        → steps.now ≡ steps_in profile → AreFlatKinds (K.kinds_of kinds.now) cell → stop ≤ last
-        → T.reached target profile cell (text.now ++ more) all last start out.old
-        → T.reached target profile cell (text.now ++ more) all last result out.new }
+    requires { MayStep (T.fits target) steps.now text.now stop out.old start }
+    ensures { StepsOn (T.fits target) (T.in_order target) (T.reached target) steps.now (K.kinds_of kinds.now) text.now
+        stop out.old start out.new result }
 {
     let mut here = start;
     while here.at < stop {
@@ -64,19 +49,9 @@ pub(crate) fn scalars<T: Target, K: KindSource>(
     text: &[u8],
     out: &mut [T::Entry],
 ) -> FillState
-    requires place { T.fits target out.old start.count start.at stop × IsPlace start.row
-        × (start.at ≤ length text.now) × (stop ≤ length text.now) }
-    requires steps { AreSteps steps.now }
-    ensures within { T.fits target out.new result.count result.at stop × IsPlace result.row
-        × (result.at ≤ length text.now) }
-    ensures onward { (start.at ≤ result.at) × (start.count ≤ result.count) }
-    ensures in_order { (from : ℕ) → T.in_order target out.old start.count from start.at
-        → T.in_order target out.new result.count from result.at }
-    ensures near { start.at ≤ stop → result.at ≤ stop + 3 }
-    ensures reached { (profile : Profile) (cell : ℕ → Cell) (more : List ℕ) (all : Ahead) (last : ℕ)
-        → steps.now ≡ steps_in profile → AreFlatKinds (K.kinds_of kinds.now) cell → stop ≤ last
-        → T.reached target profile cell (text.now ++ more) all last start out.old
-        → T.reached target profile cell (text.now ++ more) all last result out.new }
+    requires { MayStep (T.fits target) steps.now text.now stop out.old start }
+    ensures { StepsOn (T.fits target) (T.in_order target) (T.reached target) steps.now (K.kinds_of kinds.now) text.now
+        stop out.old start out.new result }
 {
     let mut here = start;
     while here.at < stop {
@@ -100,19 +75,9 @@ pub(crate) fn runs<T: Target, K: KindSource>(
     text: &[u8],
     out: &mut [T::Entry],
 ) -> FillState
-    requires place { T.fits target out.old start.count start.at stop × IsPlace start.row
-        × (start.at ≤ length text.now) × (stop ≤ length text.now) }
-    requires steps { AreSteps steps.now }
-    ensures within { T.fits target out.new result.count result.at stop × IsPlace result.row
-        × (result.at ≤ length text.now) }
-    ensures onward { (start.at ≤ result.at) × (start.count ≤ result.count) }
-    ensures in_order { (from : ℕ) → T.in_order target out.old start.count from start.at
-        → T.in_order target out.new result.count from result.at }
-    ensures near { start.at ≤ stop → result.at ≤ stop + 3 }
-    ensures reached { (profile : Profile) (cell : ℕ → Cell) (more : List ℕ) (all : Ahead) (last : ℕ)
-        → steps.now ≡ steps_in profile → AreFlatKinds (K.kinds_of kinds.now) cell → stop ≤ last
-        → T.reached target profile cell (text.now ++ more) all last start out.old
-        → T.reached target profile cell (text.now ++ more) all last result out.new }
+    requires { MayStep (T.fits target) steps.now text.now stop out.old start }
+    ensures { StepsOn (T.fits target) (T.in_order target) (T.reached target) steps.now (K.kinds_of kinds.now) text.now
+        stop out.old start out.new result }
 {
     let behind_one = run(target, Width::One, kinds, steps, start, stop, text, out);
     if stop <= behind_one.at {
@@ -155,19 +120,9 @@ fn run<T: Target, K: KindSource>(
     text: &[u8],
     out: &mut [T::Entry],
 ) -> FillState
-    requires place { T.fits target out.old start.count start.at stop × IsPlace start.row
-        × (start.at ≤ length text.now) × (stop ≤ length text.now) }
-    requires steps { AreSteps steps.now }
-    ensures within { T.fits target out.new result.count result.at stop × IsPlace result.row
-        × (result.at ≤ length text.now) }
-    ensures onward { (start.at ≤ result.at) × (start.count ≤ result.count) }
-    ensures in_order { (from : ℕ) → T.in_order target out.old start.count from start.at
-        → T.in_order target out.new result.count from result.at }
-    ensures near { start.at ≤ stop → result.at ≤ stop + 3 }
-    ensures reached { (profile : Profile) (cell : ℕ → Cell) (more : List ℕ) (all : Ahead) (last : ℕ)
-        → steps.now ≡ steps_in profile → AreFlatKinds (K.kinds_of kinds.now) cell → stop ≤ last
-        → T.reached target profile cell (text.now ++ more) all last start out.old
-        → T.reached target profile cell (text.now ++ more) all last result out.new }
+    requires { MayStep (T.fits target) steps.now text.now stop out.old start }
+    ensures { StepsOn (T.fits target) (T.in_order target) (T.reached target) steps.now (K.kinds_of kinds.now) text.now
+        stop out.old start out.new result }
 {
     let mut count = start.count;
     let mut row = start.row;

@@ -38,15 +38,7 @@ pub(crate) fn are_near(text: &[u8]) -> bool
 /// How many bytes at the front of a text tell whether such scalars are usual.
 pub(crate) const SEEN: usize = 32;
 
-/// Whether they are, by the first of a text's bytes.
-#[inline(always)]
-fn are_far(text: &[u8]) -> bool
-    requires { 32 ≤ length text.now }
-{
-    FEW < 2 * far_in(text)
-}
-
-/// How many of them begin in the first 32 bytes of a text.
+/// How many scalars from U+0580 on begin in the first 32 bytes of a text.
 #[inline(always)]
 fn far_in(text: &[u8]) -> usize
     requires { 32 ≤ length text.now }
@@ -88,7 +80,7 @@ fn pause(text: &[u8]) -> usize
     requires { 64 ≤ length text.now }
     ensures { 0 < result }
 {
-    if are_many(strays(text)) || are_far(text) {
+    if are_many(strays(text)) || FEW < 2 * far_in(text) {
         MANY
     } else {
         BLOCK

@@ -16,7 +16,7 @@ finish-requires-clause-place g c =
     let inside : at + trailing_zeros w64 stops ≤ length c.args.text.now =
     lowest-inside c.args.text.now at c.args.marks.stops (c.args.here.at - at) stops (omega arith) (omega arith) (omega arith) c.requires.ends c.kept_from.ensures in
     let few = zeros-few stops in
-    (omega arith, omega arith, inside, few, omega arith)
+    (omega arith, omega arith, inside, few, omega arith, c.requires.place.6)
 
 -- no break is left but from here on, in the bytes that are taken
 pub finish-requires-clause-ahead : goal.finish-requires-clause-ahead

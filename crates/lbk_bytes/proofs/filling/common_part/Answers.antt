@@ -2,11 +2,13 @@ use Rattle.std.proofs.Common.{length, arith}
 use Rattle.lbk_bytes.proofs.StepLemmas.{told-as}
 use Rattle.lbk_bytes.proofs.filling.common_part.Goals as goal
 
-pub blocks-there-requires-clause-steps : goal.blocks-there-requires-clause-steps
-blocks-there-requires-clause-steps g c = (c.args.profile, c.rows_of-steps.ensures)
+pub blocks-there-requires : goal.blocks-there-requires
+blocks-there-requires g c = (c.requires.0, c.requires.1, omega (arith, c.requires.2), (c.args.profile, c.rows_of-steps.ensures))
 
-pub quick-requires-clause-steps : goal.quick-requires-clause-steps
-quick-requires-clause-steps g c = (c.args.profile, c.rows_of-steps.ensures)
+pub quick-requires : goal.quick-requires
+quick-requires g c =
+    let there = c.blocks-there.ensures in
+    (omega (arith, there.within.0), there.within.1, there.within.2, omega arith, (c.args.profile, c.rows_of-steps.ensures))
 
 pub returns-clause-reached : goal.returns-clause-reached
 returns-clause-reached g c = λ cell more all flat start.

@@ -2,11 +2,16 @@ use Rattle.std.proofs.Common.{[], drop, length-take-le, arith}
 use Rattle.lbk_bytes.proofs.MarkLemmas.{Marked-alone, Marked-by-front}
 use Rattle.lbk_bytes.proofs.marking.mark_further.Goals as goal
 
-pub mark_blocks-there-requires-clause-steps : goal.mark_blocks-there-requires-clause-steps
-mark_blocks-there-requires-clause-steps c = (c.args.profile, c.rows_of-steps.ensures)
+pub mark_blocks-there-requires : goal.mark_blocks-there-requires
+mark_blocks-there-requires c =
+    let until = length-take-le c.args.stop c.args.text.now c.requires.3 in
+    (c.requires.0, c.requires.1, omega (arith, until), omega (arith, until), (c.args.profile, c.rows_of-steps.ensures))
 
-pub quick-past-requires-clause-steps : goal.quick-past-requires-clause-steps
-quick-past-requires-clause-steps c = (c.args.profile, c.rows_of-steps.ensures)
+pub quick-past-requires : goal.quick-past-requires
+quick-past-requires c =
+    let there = c.mark_blocks-there.ensures.within in
+    let until = length-take-le c.args.stop c.args.text.now c.requires.3 in
+    ((omega (arith, there.1), omega (arith, until)), there.0, omega (arith, there.2, until), omega (arith, until), (c.args.profile, c.rows_of-steps.ensures))
 
 pub returns-then-there-stop-clause-marked : goal.returns-then-there-stop-clause-marked
 returns-then-there-stop-clause-marked c = λ cell all flat m.

@@ -29,7 +29,7 @@ loop-here-preserved c =
       row = more.within.0;
       onward = omega (arith, more.within.1);
       within = more.within.2;
-      near = more.near;
+      near = more.within.3;
       none = more.none l.invariant.none;
       marked = λ cell all flat start. more.marked cell all flat (l.invariant.marked cell all flat start);
     }

@@ -29,11 +29,8 @@ taking-preserved g c =
     let r = reads c.args.text.now l.at s.code s.size inside c.in-Some.ensures in
     let text = c.args.text.now in
     record {
-      room = put.ensures.fits (l.at + s.size) c.args.stop (omega arith) l.invariant.room;
-      row = c.step_at-step.ensures.begins;
-      within = r.within;
-      onward = omega (arith, l.invariant.onward);
-      more = omega (arith, l.invariant.more, put.ensures.counts);
+      within = (put.ensures.fits (l.at + s.size) c.args.stop (omega arith) l.invariant.within.0, c.step_at-step.ensures.begins, r.within);
+      onward = (omega (arith, l.invariant.onward.0), omega (arith, l.invariant.onward.1, put.ensures.counts));
       in_order = λ from order. put.ensures.in_order from (l.at + s.size) (omega (arith, r.some)) (l.invariant.in_order from order);
       near = λ _. omega (arith, r.few);
       reached = λ profile cell more all last swift are_kinds stops start.
