@@ -46,8 +46,8 @@ MayMark steps text from words here =
     IsPlace here.row × (from ≤ here.at) × (here.at ≤ length text) × (length text ≤ from + 64 * length words)
     × AreSteps steps
 
--- Bytes of a text are taken, whatever follows the text. If no bit was set from the byte on that came next, so it is now;
--- and if a bit was set for each break of what was taken.
+-- Bytes of a text are taken, whatever follows the text. If no bit was set from the byte on that came next, so it is
+-- now; and so it is if a bit was set for each break of what was taken.
 pub record MarksOn (table : FlatTable) (steps : List (List Step)) (text : List ℕ) (from : ℕ) (old : List ℕ)
     (start : FillState) (new : List ℕ) (result : FillState) : Type 0 where
   pub within : IsPlace result.row × (start.at ≤ result.at) × (result.at ≤ length text)

@@ -19,9 +19,9 @@ MayStep Fits steps text stop out here =
     Fits out here.count here.at stop × IsPlace here.row × (here.at ≤ length text) × (stop ≤ length text)
     × AreSteps steps
 
--- Scalars of a text that begin before byte `stop` are taken one after another, whatever follows the text. A target says of
--- its entries by `Fits` which have a place, by `InOrder` how they stand, and by `Gets` that they are those of what was
--- taken: if so it was before, it is so now.
+-- Scalars of a text that begin before byte `stop` are taken one after another, whatever follows the text. A target says
+-- of its entries by `Fits` which have a place, by `InOrder` how they stand, and by `Gets` that they are those of what
+-- was taken: if so it was before, it is so now.
 pub record StepsOn {A : Type 0} (Fits InOrder : List A → ℕ → ℕ → ℕ → Type 0)
     (Gets : Profile → (ℕ → Cell) → List ℕ → Ahead → ℕ → FillState → List A → Type 0) (steps : List (List Step))
     (kinds text : List ℕ) (stop : ℕ) (old : List A) (start : FillState) (new : List A) (result : FillState)

@@ -163,8 +163,8 @@ fn take_masked<K: KindSource>(
     out: &mut [RawBreak],
 ) -> FillState
     requires place { (here.count ≤ length out.old) × IsPlace here.row × (0 < at) × (at ≤ here.at)
-        × (here.at < at + 64) × (here.at < length text.now) × AreSteps steps.now }
-    requires ends { AreEnded text.now at marks.stops }
+        × (here.at < at + 64) × (here.at < length text.now) × AreSteps steps.now
+        × AreEnded text.now at marks.stops }
     ensures goes { GoesIn text.now out.old here out.new result }
     ensures reached { (profile : Profile) (cell : ℕ → Cell) (more : List ℕ) (all : Ahead)
         → steps.now ≡ steps_in profile → AreFlatKinds (K.kinds_of kinds.now) cell
@@ -238,8 +238,7 @@ fn finish<K: KindSource>(
 /// Where a block was left: after its first bytes, or before the next break that is left in them.
 #[inline(always)]
 fn stopped(pairs: &Neighbours, at: usize, taken: usize, here: BlockState, text: &[u8]) -> FillState
-    requires place { (0 < at) × (at + taken ≤ length text.now) }
-    requires inside { AreInside text.now at here.left }
+    requires { (0 < at) × (at + taken ≤ length text.now) × AreInside text.now at here.left }
     ensures within { IsPlace result.row × (at ≤ result.at) × (result.at ≤ length text.now) }
     ensures count { result.count ≡ here.count }
     ensures row { result.row ≡ row_before pairs.now text.now result.at }

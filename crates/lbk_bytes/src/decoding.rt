@@ -228,9 +228,7 @@ fn code_of_two(first: u8, next: u8) -> u32
 
 #[inline(always)]
 fn code_of_three(first: u8, next: u8, last: u8) -> u32
-    requires first { (0xE0 ≤ first) × (first < 0xF0) }
-    requires next { 0x80 ≤ next }
-    requires last { continues last ≡ true }
+    requires { (0xE0 ≤ first) × (first < 0xF0) × (0x80 ≤ next) × (continues last ≡ true) }
     ensures { result ≡ code_of_3 first next last }
 {
     ((u32::from(first) - 0xE0) * 64 + (u32::from(next) - 0x80)) * 64 + (u32::from(last) - 0x80)
@@ -238,10 +236,7 @@ fn code_of_three(first: u8, next: u8, last: u8) -> u32
 
 #[inline(always)]
 fn code_of_four(first: u8, next: u8, third: u8, last: u8) -> u32
-    requires first { (0xF0 ≤ first) × (first ≤ 0xF4) }
-    requires next { 0x80 ≤ next }
-    requires third { continues third ≡ true }
-    requires last { continues last ≡ true }
+    requires { (0xF0 ≤ first) × (first ≤ 0xF4) × (0x80 ≤ next) × (continues third ≡ true) × (continues last ≡ true) }
     ensures { result ≡ code_of_4 first next third last }
 {
     (((u32::from(first) - 0xF0) * 64 + (u32::from(next) - 0x80)) * 64 + (u32::from(third) - 0x80))

@@ -36,7 +36,7 @@ pub(crate) fn mark_blocks(
     requires { MayMark steps.now text.now from words.old start }
     ensures { MarksOn table.now steps.now text.now from words.old start words.new result }
 {
-    if !are_told(start.at, text) {
+    if !are_told(&text[start.at..]) {
         return start;
     }
     let mut here = start;
@@ -49,13 +49,11 @@ pub(crate) fn mark_blocks(
     }
 }
 
-/// Whether a block from a byte on seems to be of use: whether the bytes are not few, nor mostly of scalars that blocks
-/// leave to steps.
+/// Whether a block at the front of a text seems to be of use: whether the bytes are not few, nor mostly of scalars that
+/// blocks leave to steps.
 #[inline(always)]
-pub(crate) fn are_told(at: usize, text: &[u8]) -> bool
-    requires { at ≤ length text.now }
-{
-    SEEN <= text.len() - at && !are_left(&text[at..])
+pub(crate) fn are_told(text: &[u8]) -> bool {
+    SEEN <= text.len() && !are_left(text)
 }
 
 /// Takes the bytes of one block: those that its marks tell by them, and the others by steps.
@@ -95,7 +93,8 @@ pub(crate) fn mark_block(
 /// control characters, they tell nothing of the next.
 const UNTOLD: usize = 6;
 
-/// Up to where bytes of a block are taken by steps, by whether its marks told nothing of those before.
+/// Up to where bytes of a block are taken by steps. Where its marks told nothing of those before, that is some bytes
+/// on, and else behind those that are left to steps and such as go on with a scalar: the next byte, or a later one.
 #[inline(always)]
 fn steps_end(told_nothing: bool, stops: u64, at: usize, here: usize, end: usize) -> usize
     requires { (at ≤ here) × (here < at + 64) × (here < end) }
@@ -104,16 +103,6 @@ fn steps_end(told_nothing: bool, stops: u64, at: usize, here: usize, end: usize)
     if told_nothing {
         return here.saturating_add(UNTOLD).min(end);
     }
-    behind_stops(stops, at, here, end)
-}
-
-/// Up to where the bytes of a block are left to steps from one on, and such as go on with a scalar: the next byte, or a
-/// later one.
-#[inline(always)]
-fn behind_stops(stops: u64, at: usize, here: usize, end: usize) -> usize
-    requires { (at ≤ here) × (here < at + 64) × (here < end) }
-    ensures { (here < result) × (result ≤ end) }
-{
     let told = !(stops | (stops << 1));
     let many = (told >> (here - at)).trailing_zeros() as usize;
     (here + 1).max(here.saturating_add(many)).min(end)

@@ -64,7 +64,7 @@ fn word_block(
         → Reached profile cell (text.now ++ more) all (uncounted start) []
         → Marked profile cell (text.now ++ more) all start.at (length text.now) result (result.count ∷ []) }
 {
-    if !are_told(start.at, text) {
+    if !are_told(&text[start.at..]) {
         return FillState { count: 0, ..start };
     }
     clear(words);

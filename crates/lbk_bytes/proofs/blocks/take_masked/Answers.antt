@@ -14,7 +14,7 @@ finish-requires-clause-place g c =
     let stops = c.kept_from.result in
     let at = c.args.at in
     let inside : at + trailing_zeros w64 stops ≤ length c.args.text.now =
-    lowest-inside c.args.text.now at c.args.marks.stops (c.args.here.at - at) stops (omega arith) (omega arith) (omega arith) c.requires.ends c.kept_from.ensures in
+    lowest-inside c.args.text.now at c.args.marks.stops (c.args.here.at - at) stops (omega arith) (omega arith) (omega arith) c.requires.place.7 c.kept_from.ensures in
     let few = zeros-few stops in
     (omega arith, omega arith, inside, few, omega arith, c.requires.place.6)
 
@@ -43,7 +43,7 @@ returns-clause-reached g c = λ profile cell more all swift are_kinds told are_m
     let taken = trailing_zeros w64 stops in
     let some = lowest-from c.args.marks.stops begin stops fits (omega arith) c.kept_from.ensures in
     let few = zeros-few stops in
-    let inside : at + taken ≤ length text = lowest-inside text at c.args.marks.stops begin stops fits (omega arith) (omega arith) c.requires.ends c.kept_from.ensures in
+    let inside : at + taken ≤ length text = lowest-inside text at c.args.marks.stops begin stops fits (omega arith) (omega arith) c.requires.place.7 c.kept_from.ensures in
     let rests : Rests pairs here text = record { below = omega arith; row = omega arith } in
     let block = is-block profile cell c.args.steps.now (g.K.KindSource.kinds_of c.args.kinds.now) pairs text at begin taken c.args.marks here swift are_kinds told (λ i. (c.type_inv.text i).fits)
     are_marks rests is_at some few inside start.knows.0
