@@ -7,4 +7,4 @@ pub mod PlainWords
 pub mod Refusal
 pub mod OneLine
 -- What only carries proofs.
-pub mod Local
+pub mod Made

@@ -1,9 +1,9 @@
 //! The options and subcommands of the program, with their help.
 
-ghost use Rattle.std.specs.Prelude.{◌≡◌, false, IfOk, codes};
-ghost use Rattle.clap.specs.Words.{App, Rule, app_of, rule_of, with_rule, with_subcommand};
+ghost use Rattle.std.specs.Prelude.{codes};
+ghost use Rattle.clap.specs.Words.{App, Rule, with_rule, with_subcommand};
 ghost use Rattle.lbk_feed.specs.Text.{greatest_limit};
-ghost use Rattle.lbk_args.specs.Local.{IsLocal, IsMade};
+ghost use Rattle.lbk_args.specs.Made.{IsMade, IsOption};
 ghost use Rattle.lbk_args.specs.Command.{byte_rule, long_rule, value_rule, number_rule, default_limit_text};
 ghost use Rattle.lbk_args.specs.Command.{flag_rule, profile_rule, size_rule, texts_flag_rule, texts_rule};
 ghost use Rattle.lbk_args.specs.Command.{files_app, shared_app};
@@ -119,97 +119,101 @@ pub(crate) fn usage_of(name: &str) -> &'static str {
 
 /// An option with this name, which also follows `--`.
 fn long_option<'a>(alloc: Global, name: &'a str) -> Arg<'a>
-    ensures rule { rule_of result ≡ long_rule name.entry.now }
-    ensures local { result.global ≡ false }
+    ensures { IsOption (long_rule name.entry.now) result }
 {
     Arg::new(alloc, name).long(name)
 }
 
+/// A flag with this name.
+fn flag_option<'a>(alloc: Global, name: &'a str, help: &'a str) -> Arg<'a>
+    ensures { IsOption (flag_rule name.entry.now) result }
+{
+    long_option(alloc, name)
+        .action(ArgAction::SetTrue)
+        .help(help)
+}
+
 /// An option with this name and a value.
-fn value_option<'a>(alloc: Global, name: &'a str, value: &'a str) -> Arg<'a>
-    ensures rule { rule_of result ≡ value_rule name.entry.now }
-    ensures local { result.global ≡ false }
+fn value_option<'a>(alloc: Global, name: &'a str, value: &'a str, help: &'a str) -> Arg<'a>
+    ensures { IsOption (value_rule name.entry.now) result }
 {
     long_option(alloc, name)
         .action(ArgAction::Set)
         .value_name(value)
+        .help(help)
 }
 
 /// The option of the folder with the property files.
 fn folder_option<'a>(alloc: Global) -> Arg<'a>
-    ensures rule { rule_of result ≡ value_rule (codes "ucd") }
-    ensures local { result.global ≡ false }
+    ensures { IsOption (value_rule (codes "ucd")) result }
 {
-    value_option(alloc, "ucd", "FOLDER").help("The folder with the four files below")
-}
-
-/// An option with the name of a property file.
-fn file_option<'a>(alloc: Global, name: &'a str, help: &'a str) -> Arg<'a>
-    ensures rule { rule_of result ≡ value_rule name.entry.now }
-    ensures local { result.global ≡ false }
-{
-    value_option(alloc, name, "FILE").help(help)
+    value_option(
+        alloc,
+        "ucd",
+        "FOLDER",
+        "The folder with the four files below",
+    )
 }
 
 /// An option with a number from 1 to `most`.
-fn number_option<'a>(alloc: Global, name: &'a str, most: u64, default: &'a str) -> Arg<'a>
-    ensures rule { rule_of result ≡ number_rule name.entry.now most default.entry.now }
-    ensures local { result.global ≡ false }
+fn number_option<'a>(
+    alloc: Global,
+    name: &'a str,
+    most: u64,
+    default: &'a str,
+    help: &'a str,
+) -> Arg<'a>
+    ensures { IsOption (number_rule name.entry.now most default.entry.now) result }
 {
-    value_option(alloc, name, "NUMBER")
+    value_option(alloc, name, "NUMBER", help)
         .value_parser(ValueParser::unsigned(1, most))
         .default_value(default)
 }
 
 fn limit_option<'a>(alloc: Global) -> Arg<'a>
-    ensures rule { rule_of result ≡ number_rule (codes "limit") greatest_limit default_limit_text }
-    ensures local { result.global ≡ false }
+    ensures { IsOption (number_rule (codes "limit") greatest_limit default_limit_text) result }
 {
-    number_option(alloc, "limit", u64::from(LIMIT_MAX), "65536").help(
-        "Bytes of a paragraph, 1 to 16777216",
-    )
+    let help = "Bytes of a paragraph, 1 to 16777216";
+    number_option(alloc, "limit", u64::from(LIMIT_MAX), "65536", help)
 }
 
 /// An option with a byte offset in a text.
 fn byte_option<'a>(alloc: Global, name: &'a str, help: &'a str) -> Arg<'a>
-    ensures rule { rule_of result ≡ byte_rule name.entry.now }
-    ensures local { result.global ≡ false }
+    ensures { IsOption (byte_rule name.entry.now) result }
 {
-    value_option(alloc, name, "BYTE")
-        .value_parser(ValueParser::unsigned(0, u64::from(u32::MAX)))
-        .help(help)
+    value_option(alloc, name, "BYTE", help).value_parser(ValueParser::unsigned(
+        0,
+        u64::from(u32::MAX),
+    ))
 }
 
 /// An option with a number of bytes or words.
 fn size_option<'a>(alloc: Global, name: &'a str, least: u64, help: &'a str) -> Arg<'a>
-    ensures rule { rule_of result ≡ size_rule name.entry.now least }
-    ensures local { result.global ≡ false }
+    ensures { IsOption (size_rule name.entry.now least) result }
 {
-    value_option(alloc, name, "NUMBER")
-        .value_parser(ValueParser::unsigned(least, u64::from(LIMIT_MAX)))
-        .help(help)
+    value_option(alloc, name, "NUMBER", help).value_parser(ValueParser::unsigned(
+        least,
+        u64::from(LIMIT_MAX),
+    ))
 }
 
 fn profile_option<'a>(alloc: Global) -> Arg<'a>
-    ensures rule { rule_of result ≡ profile_rule }
-    ensures local { result.global ≡ false }
+    ensures { IsOption profile_rule result }
 {
-    number_option(alloc, "profile", 2, "1").help("2 for rules 15a, 15b (quotation marks)")
+    let help = "2 for rules 15a, 15b (quotation marks)";
+    number_option(alloc, "profile", 2, "1", help)
 }
 
 fn kinds_option<'a>(alloc: Global) -> Arg<'a>
-    ensures rule { rule_of result ≡ flag_rule (codes "kinds") }
-    ensures local { result.global ≡ false }
+    ensures { IsOption (flag_rule (codes "kinds")) result }
 {
-    long_option(alloc, "kinds")
-        .action(ArgAction::SetTrue)
-        .help("! is a required break, ÷ allowed; else ÷ is any")
+    let help = "! is a required break, ÷ allowed; else ÷ is any";
+    flag_option(alloc, "kinds", help)
 }
 
 /// The flag `--text`; its name here differs, because the operands have the name `text`.
 fn texts_option<'a>(alloc: Global) -> Arg<'a>
-    ensures rule { rule_of result ≡ texts_flag_rule }
-    ensures local { result.global ≡ false }
+    ensures { IsOption texts_flag_rule result }
 {
     Arg::new(alloc, "texts")
         .long("text")
@@ -218,25 +222,22 @@ fn texts_option<'a>(alloc: Global) -> Arg<'a>
 }
 
 fn sign_option<'a>(alloc: Global) -> Arg<'a>
-    ensures rule { rule_of result ≡ value_rule (codes "sign") }
-    ensures local { result.global ≡ false }
+    ensures { IsOption (value_rule (codes "sign")) result }
 {
-    value_option(alloc, "sign", "TEXT").help("Instead of ÷: 1 to 8 bytes without a line end")
+    let help = "Instead of ÷: 1 to 8 bytes without a line end";
+    value_option(alloc, "sign", "TEXT", help)
 }
 
 fn names_option<'a>(alloc: Global) -> Arg<'a>
-    ensures rule { rule_of result ≡ flag_rule (codes "names") }
-    ensures local { result.global ≡ false }
+    ensures { IsOption (flag_rule (codes "names")) result }
 {
-    long_option(alloc, "names")
-        .action(ArgAction::SetTrue)
-        .help("A line ==> FILE <== before the output of each text")
+    let help = "A line ==> FILE <== before the output of each text";
+    flag_option(alloc, "names", help)
 }
 
 /// The operands: the names of the texts.
 fn texts_operand<'a>(alloc: Global) -> Arg<'a>
-    ensures rule { rule_of result ≡ texts_rule }
-    ensures local { result.global ≡ false }
+    ensures { IsOption texts_rule result }
 {
     Arg::new(alloc, "text")
         .action(ArgAction::Append)
@@ -252,8 +253,7 @@ type Made<'a> = Result<Command<'a>, AllocError>;
 /// It takes the result so far, even an error: such a function, which never returns early, is proved much faster than
 /// one with a `?` at each step.
 fn with_option<'a>(command: Made<'a>, option: Arg<'a>) -> Made<'a>
-    requires { option.global ≡ false }
-    ensures { (app : App) → (rule : Rule) → rule_of option.entry ≡ rule → IsMade app command.entry
+    ensures { (app : App) → (rule : Rule) → IsOption rule option.entry → IsMade app command.entry
         → IsMade (with_rule app rule) result }
 {
     command?.arg(option)
@@ -285,13 +285,13 @@ fn with_files<'a>(alloc: Global, name: &'a str) -> Made<'a>
 {
     let command = with_option(Ok(Command::new(alloc, name)), folder_option(alloc));
     let classes = "LineBreak.txt, the classes of characters";
-    let command = with_option(command, file_option(alloc, "line-break", classes));
+    let command = with_option(command, value_option(alloc, "line-break", "FILE", classes));
     let widths = "EastAsianWidth.txt, the widths";
-    let command = with_option(command, file_option(alloc, "east-asian", widths));
+    let command = with_option(command, value_option(alloc, "east-asian", "FILE", widths));
     let categories = "DerivedGeneralCategory.txt, the categories";
-    let command = with_option(command, file_option(alloc, "category", categories));
+    let command = with_option(command, value_option(alloc, "category", "FILE", categories));
     let pictographs = "emoji-data.txt, the pictographs";
-    with_option(command, file_option(alloc, "emoji", pictographs))
+    with_option(command, value_option(alloc, "emoji", "FILE", pictographs))
 }
 
 /// A subcommand with `--profile`, `--names` and the texts after its other options.
@@ -393,8 +393,7 @@ fn bare<'a>(alloc: Global) -> Made<'a>
 
 /// The command line of the program.
 pub fn command<'a>(alloc: Global) -> Result<Command<'a>, AllocError>
-    ensures app { IfOk result (λ c. app_of c ≡ lbk_app) }
-    ensures local { IfOk result IsLocal }
+    ensures { IsMade lbk_app result }
 {
     let command = with_command(bare(alloc), mark(alloc));
     let command = with_command(command, show(alloc));

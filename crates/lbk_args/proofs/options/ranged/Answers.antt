@@ -2,6 +2,6 @@ use Rattle.lbk_args.proofs.options.ranged.Goals as goal
 
 pub returns : goal.returns
 returns c app made =
-    c.with_shared.ensures _ (c.with_option.ensures _ _ c.byte_option-2.ensures.rule
-    (c.with_option-command-2.ensures _ _ c.byte_option.ensures.rule
-    (c.with_option-command.ensures _ _ c.limit_option.ensures.rule made)))
+    c.with_shared.ensures _ (c.with_option.ensures _ _ c.byte_option-2.ensures
+    (c.with_option-command-2.ensures _ _ c.byte_option.ensures
+    (c.with_option-command.ensures _ _ c.limit_option.ensures made)))

@@ -2,6 +2,6 @@ use Rattle.lbk_args.proofs.options.with_shared.Goals as goal
 
 pub returns : goal.returns
 returns c app made =
-    c.with_option.ensures _ _ c.texts_operand.ensures.rule
-    (c.with_option-command-2.ensures _ _ c.names_option.ensures.rule
-    (c.with_option-command.ensures _ _ c.profile_option.ensures.rule made))
+    c.with_option.ensures _ _ c.texts_operand.ensures
+    (c.with_option-command-2.ensures _ _ c.names_option.ensures
+    (c.with_option-command.ensures _ _ c.profile_option.ensures made))

@@ -66,7 +66,7 @@ module _ (words : List Text) (order : Option Order) (r : Result Order WordsFault
 -- what the order is made of is what the words ask for
 asks_for : (c : Joined-matches-2) → task_by (map (λ w. w.now) c.args.words.now) ≡ option_map task_of c.order.result
 asks_for c =
-    let app = c.in-Ok.ensures.app in
+    let app = c.in-Ok.ensures.is_app in
     let words = map (λ (w : Bor (List ℕ)). w.now) c.args.words.now in
     let found = c.in-Ok-try_get_matches_from.ensures.matches (ap is_simple app ∙ simple) in
     let pair = found_pair _ c.unwrap.result.0.now (rows_of (found_of c.unwrap.result.1.now))
@@ -77,7 +77,7 @@ asks_for c =
 faults_for : (c : Joined-matches-2) → faults_of (map (λ w. w.now) c.args.words.now)
     ≡ task_fault (option_map task_of c.order.result)
 faults_for c =
-    let app = c.in-Ok.ensures.app in
+    let app = c.in-Ok.ensures.is_app in
     let words = map (λ (w : Bor (List ℕ)). w.now) c.args.words.now in
     let clean = sym (ap (λ (a : App). fault_of a words) app)
     ∙ c.in-Ok-try_get_matches_from.ensures.kinds (ap is_simple_and_free app ∙ free) in
@@ -103,7 +103,7 @@ returns-in-Ok-texts-clause-plain c task plain =
 
 pub returns-in-Err-clause-refused : goal.returns-in-Err-clause-refused
 returns-in-Err-clause-refused c =
-    let app = c.in-Ok.ensures.app in
+    let app = c.in-Ok.ensures.is_app in
     let words = map (λ (w : Bor (List ℕ)). w.now) c.args.words.now in
     let fails = c.in-Err.ensures.kinds (ap is_simple_and_free app ∙ free) in
     widened (fault_of lbk_app words) (task_fault (task_by words)) c.refusal.result
