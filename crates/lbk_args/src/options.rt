@@ -5,7 +5,7 @@ ghost use Rattle.clap.specs.Words.{App, Rule, with_rule, with_subcommand};
 ghost use Rattle.lbk_feed.specs.Text.{greatest_limit};
 ghost use Rattle.lbk_args.specs.Made.{IsMade, IsOption};
 ghost use Rattle.lbk_args.specs.Command.{byte_rule, long_rule, value_rule, number_rule, default_limit_text};
-ghost use Rattle.lbk_args.specs.Command.{flag_rule, profile_rule, size_rule, texts_flag_rule, texts_rule};
+ghost use Rattle.lbk_args.specs.Command.{flag_rule, size_rule, texts_flag_rule, texts_rule};
 ghost use Rattle.lbk_args.specs.Command.{files_app, shared_app};
 ghost use Rattle.lbk_args.specs.Command.{ranged_app, limited_app, mark_app, sized_app, chunk_app};
 ghost use Rattle.lbk_args.specs.Command.{replay_app, bare_app, lbk_app};
@@ -143,18 +143,6 @@ fn value_option<'a>(alloc: Global, name: &'a str, value: &'a str, help: &'a str)
         .help(help)
 }
 
-/// The option of the folder with the property files.
-fn folder_option<'a>(alloc: Global) -> Arg<'a>
-    ensures { IsOption (value_rule (codes "ucd")) result }
-{
-    value_option(
-        alloc,
-        "ucd",
-        "FOLDER",
-        "The folder with the four files below",
-    )
-}
-
 /// An option with a number from 1 to `most`.
 fn number_option<'a>(
     alloc: Global,
@@ -181,34 +169,16 @@ fn limit_option<'a>(alloc: Global) -> Arg<'a>
 fn byte_option<'a>(alloc: Global, name: &'a str, help: &'a str) -> Arg<'a>
     ensures { IsOption (byte_rule name.entry.now) result }
 {
-    value_option(alloc, name, "BYTE", help).value_parser(ValueParser::unsigned(
-        0,
-        u64::from(u32::MAX),
-    ))
+    let option = value_option(alloc, name, "BYTE", help);
+    option.value_parser(ValueParser::unsigned(0, u64::from(u32::MAX)))
 }
 
 /// An option with a number of bytes or words.
 fn size_option<'a>(alloc: Global, name: &'a str, least: u64, help: &'a str) -> Arg<'a>
     ensures { IsOption (size_rule name.entry.now least) result }
 {
-    value_option(alloc, name, "NUMBER", help).value_parser(ValueParser::unsigned(
-        least,
-        u64::from(LIMIT_MAX),
-    ))
-}
-
-fn profile_option<'a>(alloc: Global) -> Arg<'a>
-    ensures { IsOption profile_rule result }
-{
-    let help = "2 for rules 15a, 15b (quotation marks)";
-    number_option(alloc, "profile", 2, "1", help)
-}
-
-fn kinds_option<'a>(alloc: Global) -> Arg<'a>
-    ensures { IsOption (flag_rule (codes "kinds")) result }
-{
-    let help = "! is a required break, ÷ allowed; else ÷ is any";
-    flag_option(alloc, "kinds", help)
+    let option = value_option(alloc, name, "NUMBER", help);
+    option.value_parser(ValueParser::unsigned(least, u64::from(LIMIT_MAX)))
 }
 
 /// The flag `--text`; its name here differs, because the operands have the name `text`.
@@ -219,20 +189,6 @@ fn texts_option<'a>(alloc: Global) -> Arg<'a>
         .long("text")
         .action(ArgAction::SetTrue)
         .help("JSON Lines with the text of each chunk")
-}
-
-fn sign_option<'a>(alloc: Global) -> Arg<'a>
-    ensures { IsOption (value_rule (codes "sign")) result }
-{
-    let help = "Instead of ÷: 1 to 8 bytes without a line end";
-    value_option(alloc, "sign", "TEXT", help)
-}
-
-fn names_option<'a>(alloc: Global) -> Arg<'a>
-    ensures { IsOption (flag_rule (codes "names")) result }
-{
-    let help = "A line ==> FILE <== before the output of each text";
-    flag_option(alloc, "names", help)
 }
 
 /// The operands: the names of the texts.
@@ -283,7 +239,9 @@ fn described<'a>(command: Made<'a>, usage: &'a str, about: &'a str, after: &'a s
 fn with_files<'a>(alloc: Global, name: &'a str) -> Made<'a>
     ensures { IsMade (files_app name.entry.now) result }
 {
-    let command = with_option(Ok(Command::new(alloc, name)), folder_option(alloc));
+    let folder = "The folder with the four files below";
+    let folder = value_option(alloc, "ucd", "FOLDER", folder);
+    let command = with_option(Ok(Command::new(alloc, name)), folder);
     let classes = "LineBreak.txt, the classes of characters";
     let command = with_option(command, value_option(alloc, "line-break", "FILE", classes));
     let widths = "EastAsianWidth.txt, the widths";
@@ -298,8 +256,10 @@ fn with_files<'a>(alloc: Global, name: &'a str) -> Made<'a>
 fn with_shared<'a>(alloc: Global, command: Made<'a>) -> Made<'a>
     ensures { (app : App) → IsMade app command.entry → IsMade (shared_app app) result }
 {
-    let command = with_option(command, profile_option(alloc));
-    let command = with_option(command, names_option(alloc));
+    let profile = "2 for rules 15a, 15b (quotation marks)";
+    let command = with_option(command, number_option(alloc, "profile", 2, "1", profile));
+    let names = "A line ==> FILE <== before the output of each text";
+    let command = with_option(command, flag_option(alloc, "names", names));
     with_option(command, texts_operand(alloc))
 }
 
@@ -324,7 +284,9 @@ fn limited<'a>(alloc: Global, name: &'a str) -> Made<'a>
 fn mark<'a>(alloc: Global) -> Made<'a>
     ensures { IsMade mark_app result }
 {
-    let command = with_option(limited(alloc, "mark"), sign_option(alloc));
+    let sign = "Instead of ÷: 1 to 8 bytes without a line end";
+    let sign = value_option(alloc, "sign", "TEXT", sign);
+    let command = with_option(limited(alloc, "mark"), sign);
     described(command, MARK_USAGE, MARK_ABOUT, MARK_AFTER)
 }
 
@@ -373,7 +335,9 @@ fn chunk<'a>(alloc: Global) -> Made<'a>
 fn replay<'a>(alloc: Global) -> Made<'a>
     ensures { IsMade replay_app result }
 {
-    let command = with_option(with_files(alloc, "replay"), kinds_option(alloc));
+    let kinds = "! is a required break, ÷ allowed; else ÷ is any";
+    let kinds = flag_option(alloc, "kinds", kinds);
+    let command = with_option(with_files(alloc, "replay"), kinds);
     let command = with_shared(alloc, command);
     described(command, REPLAY_USAGE, REPLAY_ABOUT, REPLAY_AFTER)
 }

@@ -6,5 +6,5 @@ returns c =
     (c.with_option-command-4.ensures _ _ c.value_option-3.ensures
     (c.with_option-command-3.ensures _ _ c.value_option-2.ensures
     (c.with_option-command-2.ensures _ _ c.value_option.ensures
-    (c.with_option-command.ensures _ _ c.folder_option.ensures
+    (c.with_option-command.ensures _ _ c.value_option-folder.ensures
     (record { is_app = c.new.ensures.app; local = c.new.ensures.local })))))
