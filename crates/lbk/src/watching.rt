@@ -1,8 +1,7 @@
 //! Truncated property files.
 
-ghost use Rattle.std.specs.Prelude.{◌≡◌, ◌+◌, ◌≤◌, ◌<◌, ◌-◌, ◌^◌, IfOk, MatchResult, vec_len};
-ghost use Rattle.lbk_feed.specs.Devices.{count_up};
-ghost use Rattle.lbk_files.specs.Store.{IsFront, IsLoadFault, refusals_after};
+ghost use Rattle.std.specs.Prelude.{◌≡◌};
+ghost use Rattle.lbk_files.specs.Store.{Loads, counts_of};
 
 use super::hints;
 use lbk_args::{FileName, FileNames};

@@ -3,7 +3,7 @@ use Rattle.std.proofs.Common.{◌≡◌, ℕ, List, [], ◌∷◌, Option, Some,
 use Rattle.std.specs.Prelude.{◌↔◌}
 use Rattle.lbk_feed.specs.declared.traits.Source.{Ghosts as SourceMembers}
 use Rattle.lbk_args.specs.Task.{Task}
-use Rattle.lbk_files.specs.FileFault.{LoadCounts}
+use Rattle.lbk_files.specs.Store.{LoadCounts}
 use Rattle.lbk_cmd.specs.Acts.{Performs, PerformsAlone, RunsTask}
 use Rattle.lbk_cmd.specs.Devices.{Devices}
 use Rattle.lbk_cmd.specs.Operands.{Reads, ReadsAlone, ReadsEach, ReadsNoFile, ReadsText, Standing, standing}

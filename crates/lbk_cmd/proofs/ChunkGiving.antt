@@ -139,6 +139,12 @@ module _ (asked : Asked) (text : List ℕ) (is_whole : Bool) (w0 w : Window) (u 
     line-is own is =
         ap (λ x. line_in asked.range x (numbered_chunk chunk)) (is ∙ ap (λ (b : Bool). if b then Some (chunk_text text (numbered_chunk chunk)) else None) then-in.keeps)
 
+    -- that of the text which a window lends for it
+    pub line-of : (own : Option (List ℕ)) → (HoldsFrom chunk.start text w' → IsIn text (numbered_chunk chunk)
+        → own ≡ (if keeps_text w' then Some (chunk_text text (numbered_chunk chunk)) else None))
+        → line_in asked.range own (numbered_chunk chunk) ≡ asked_line asked text (numbered_chunk chunk)
+    line-of own lends = line-is own (lends kept-text is-in)
+
     settled-then : Settle (limits_in w0) is_whole (here_in w0) (cuts_in w0) (g.chunks ++ numbered_chunk chunk ∷ []) (here_in w') (cuts_in w')
     settled-then =
         settle-then (limits_in w0) is_whole (here_in w0) (cuts_in w0) g.chunks (here_in w) (cuts_in w) (numbered_chunk chunk ∷ []) (here_in w') (cuts_in w') rising0 told0 g.settle

@@ -275,6 +275,26 @@ module _ (e : Writing) (u0 w0 : Option (List ℕ)) (reads0 : Reads) where
     abbrev pub MayStop : (ℕ → Type 0) → ℕ → ℕ → Type 0
     MayStop Late from to = MayEnd to × Late from
 
+    -- a run that ends after the call, once these lines were written
+    ran_then : {X : Type 0} {May : ℕ → ℕ → Type 0} (failed : Bool) (answer : Result X CmdFault)
+        (r : Result (Option Passage) PassageFault) (a : AfterNext s t u v e1 e2 r1 r2 r) → Took failed u0 v (g.bytes ++ a.got)
+        → ((from to : ℕ) → May from to → MayEnd to) → (w' : Option (List ℕ)) (put : List ℕ) → Appends w w' put
+        → ComesTo e e2 answer (g.bytes ++ a.got) (g.out ++ put)
+        → ((from to : ℕ) → May from to → RangeComesTo e from to e2 (IsTrue e2 × IsAtEnd v) answer (g.bytes ++ a.got) (g.out ++ put))
+        → Ran failed u0 v w0 w' (Ends e reads0 r2 e2 v May answer)
+    ran_then failed answer r a took ends w' put wrote comes in_range = record {
+      read = g.bytes ++ a.got;
+      out = g.out ++ put;
+      took = took;
+      put = Appends-trans w0 w w' g.out put g.put wrote;
+      so = record {
+        comes = comes;
+        in_range = in_range;
+        keeps_up = keeps_then r a put;
+        before = λ from to may. before_then r a put to (ends from to may).0 (ends from to may).1;
+      };
+    }
+
     module _ (p : Passage) (a : AfterNext s t u v e1 e2 r1 r2 (Ok (Some p))) where
       -- a passage was given, and its lines wait behind the others
       pub Going-lined : (line : List ℕ) → e.Settled (g.standing.given ++ given_now e s g.bytes (g.out ++ lines) g.standing t u v e1 e2 r1 r2 p a ∷ []) ((g.out ++ lines) ++ line)
@@ -348,18 +368,14 @@ module _ (e : Writing) (u0 w0 : Option (List ℕ)) (reads0 : Reads) where
           let lends : Lends s t p = a.answer in
           let held = run_memory e s g.bytes (g.out ++ lines) g.standing t u v e1 e2 r1 r2 (Ok (Some p)) a (notices (Ok (Some p)) a) lends.marks t.held lends.passage.some
           (ap (λ l. l ++ t.held) lends.passage.text) lends.comes in
-          record {
-            read = g.bytes ++ a.got;
-            out = g.out ++ lines;
-            took = Consumes-trans u0 u v g.bytes a.got g.took (kept_took _ _ _ a.grown u v a.ahead_kept);
-            put = Appends-trans w0 w w' g.out lines g.put wrote;
-            so = record {
-              comes = held.0;
-              in_range = λ from to may. record { held_up = held.0; late = omega (arith, held.1, is_late from may.1); begins = omega (arith, held.1, may.0.0) };
-              keeps_up = keeps_then (Ok (Some p)) a lines;
-              before = λ from to may. before_then (Ok (Some p)) a lines to may.0.0 may.0.1;
-            };
-          }
+          ran_then false (Err cmd.Memory) (Ok (Some p)) a
+          (Consumes-trans u0 u v g.bytes a.got g.took (kept_took _ _ _ a.grown u v a.ahead_kept))
+          (λ from to may. may.0) w' lines wrote held.0
+          (λ from to may. record {
+            held_up = held.0;
+            late = omega (arith, held.1, is_late from may.1);
+            begins = omega (arith, held.1, may.0.0);
+          })
 
     pub at_the_end : AfterNext s t u v e1 e2 r1 r2 (Ok None) → (e2 ≡ true) × IsAtEnd v
     at_the_end a = let done : IsDone t = a.answer in a.agrees g.agrees done.at_end
@@ -369,54 +385,30 @@ module _ (e : Writing) (u0 w0 : Option (List ℕ)) (reads0 : Reads) where
         → AfterNext s t u v e1 e2 r1 r2 (Ok None) → Ran false u0 v w0 w' (Ends e reads0 r2 e2 v (MayStop Late) (Ok x))
     ran_whole Late x w' put wrote all a =
         let whole = run_whole e s g.bytes (g.out ++ lines) g.standing t u v e1 e2 r1 r2 a (g.out ++ put) all in
-        record {
-          read = g.bytes ++ a.got;
-          out = g.out ++ put;
-          took = Consumes-trans u0 u v g.bytes a.got g.took (kept_took _ _ _ a.grown u v a.ahead_kept);
-          put = Appends-trans w0 w w' g.out put g.put wrote;
-          so = record {
-            comes = whole;
-            in_range = λ from to may. inl (at_the_end a, whole);
-            keeps_up = keeps_then (Ok None) a put;
-            before = λ from to may. before_then (Ok None) a put to may.0.0 may.0.1;
-          };
-        }
+        ran_then false (Ok x) (Ok None) a
+        (Consumes-trans u0 u v g.bytes a.got g.took (kept_took _ _ _ a.grown u v a.ahead_kept))
+        (λ from to may. may.0) w' put wrote whole (λ from to may. inl (at_the_end a, whole))
 
     -- the text was read to its end, and only the front was written of what is written of all of it
     pub ran_cut_off : (X : Type 0) (all : List ℕ) → e.Whole g.standing.given all → AfterNext s t u v e1 e2 r1 r2 (Ok None) → (w' : Option (List ℕ)) (put : List ℕ) (n : ℕ)
         → Appends w w' put → g.out ++ put ≡ take n all → Ran false u0 v w0 w' (Ends {X = X} e reads0 r2 e2 v (λ from to. MayEnd to) (Err cmd.Write))
     ran_cut_off X all whole a w' put n wrote front =
         let comes = front_of_all all n (at_the_end a).0 (run_whole e s g.bytes (g.out ++ lines) g.standing t u v e1 e2 r1 r2 a all whole) front in
-        record {
-          read = g.bytes ++ a.got;
-          out = g.out ++ put;
-          took = Consumes-trans u0 u v g.bytes a.got g.took (kept_took _ _ _ a.grown u v a.ahead_kept);
-          put = Appends-trans w0 w w' g.out put g.put wrote;
-          so = record {
-            comes = comes;
-            in_range = λ from to may. comes;
-            keeps_up = keeps_then (Ok None) a put;
-            before = λ from to may. before_then (Ok None) a put to may.0 may.1;
-          };
-        }
+        ran_then false (Err cmd.Write) (Ok None) a
+        (Consumes-trans u0 u v g.bytes a.got g.took (kept_took _ _ _ a.grown u v a.ahead_kept))
+        (λ from to may. may) w' put wrote comes (λ from to may. comes)
 
     -- the segmenter answered a fault
     pub ran_fault : (X : Type 0) (Late : ℕ → Type 0) (why : PassageFault) → ((from : ℕ) → Late from → why ≡ fault.Memory → from ≤ s.start)
         → (w' : Option (List ℕ)) → Appends w w' lines → AfterNext s t u v e1 e2 r1 r2 (Err why)
         → Ran (is_failed_read {X = X} (Err (cmd.Passage why))) u0 v w0 w' (Ends {X = X} e reads0 r2 e2 v (MayStop Late) (Err (cmd.Passage why)))
-    ran_fault X Late why is_late w' wrote a = record {
-      read = g.bytes ++ a.got;
-      out = g.out ++ lines;
-      took = Took-then (is_failed_read {X = X} (Err (cmd.Passage why))) u0 u v g.bytes a.got g.took (took_fault X s t u v e1 e2 r1 r2 why a);
-      put = Appends-trans w0 w w' g.out lines g.put wrote;
-      so = record {
-        comes = run_fault e s g.bytes (g.out ++ lines) g.standing t u v e1 e2 r1 r2 X why a (notices (Err why) a);
-        in_range = λ from to may. range_fault e s g.bytes (g.out ++ lines) g.standing t u v e1 e2 r1 r2 X from to (IsTrue e2 × IsAtEnd v) why a (notices (Err why) a)
-            (is_late from may.1) may.0.0;
-        keeps_up = keeps_then (Err why) a lines;
-        before = λ from to may. before_then (Err why) a lines to may.0.0 may.0.1;
-      };
-    }
+    ran_fault X Late why is_late w' wrote a =
+        ran_then (is_failed_read {X = X} (Err (cmd.Passage why))) (Err (cmd.Passage why)) (Err why) a
+        (Took-then (is_failed_read {X = X} (Err (cmd.Passage why))) u0 u v g.bytes a.got g.took (took_fault X s t u v e1 e2 r1 r2 why a))
+        (λ from to may. may.0) w' lines wrote
+        (run_fault e s g.bytes (g.out ++ lines) g.standing t u v e1 e2 r1 r2 X why a (notices (Err why) a))
+        (λ from to may. range_fault e s g.bytes (g.out ++ lines) g.standing t u v e1 e2 r1 r2 X from to (IsTrue e2 × IsAtEnd v) why a
+        (notices (Err why) a) (is_late from may.1) may.0.0)
 
     -- after a call that read nothing, the lines that waited were not written, or not all of them
     pub ran_held_back : Finishes e → (X : Type 0) (r : Result (Option Passage) PassageFault) (a : AfterNext s t u v e1 e2 r1 r2 r) → ¬ (fault_in r ≡ Some fault.Read)
@@ -426,18 +418,9 @@ module _ (e : Writing) (u0 w0 : Option (List ℕ)) (reads0 : Reads) where
         let comes = stopped e s g.bytes (g.out ++ lines) g.standing finishes e2 a.got
         (λ at_end. let quiet = a.quiet at_end in (notices r a quiet.1, none_got s.held a.got (sym a.grown ∙ quiet.0))) (g.out ++ put) (length g.out + n)
         (sym (take-append-add g.out lines n)) in
-        record {
-          read = g.bytes ++ a.got;
-          out = g.out ++ put;
-          took = Consumes-trans u0 u v g.bytes a.got g.took (kept_took _ _ _ a.grown u v (kept_but_read (fault_in r) _ _ calm a.ahead_kept));
-          put = Appends-trans w0 w w' g.out put g.put wrote;
-          so = record {
-            comes = comes;
-            in_range = λ from to may. comes;
-            keeps_up = keeps_then r a put;
-            before = λ from to may. before_then r a put to may.0 may.1;
-          };
-        }
+        ran_then false (Err cmd.Write) r a
+        (Consumes-trans u0 u v g.bytes a.got g.took (kept_took _ _ _ a.grown u v (kept_but_read (fault_in r) _ _ calm a.ahead_kept)))
+        (λ from to may. may) w' put wrote comes (λ from to may. comes)
 
   -- nothing was read, where the segmenter could not be made
   ran_none : e.Settled [] [] → (X : Type 0) (has_ended : Bool) → Ran false u0 u0 w0 w0 (Ends {X = X} e reads0 reads0 has_ended u0 (λ begin end. Unit {0}) (Err (cmd.Passage fault.Memory)))

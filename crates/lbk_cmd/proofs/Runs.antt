@@ -13,7 +13,7 @@ use Rattle.lbk_files.specs.declared.faults.CellsFault.TheVariants.{Memory as Fil
 use Rattle.lbk_files.specs.declared.faults.NotReady.{NotReady}
 use Rattle.lbk_files.specs.declared.faults.NotReady.TheVariants.{Refused as StopRefused}
 use Rattle.lbk_files.specs.declared.readiness.Ready.{Ready}
-use Rattle.lbk_files.specs.FileFault.{LoadCounts}
+use Rattle.lbk_files.specs.Store.{LoadCounts}
 use Rattle.lbk_files.specs.Ready.{IsReadyFor, IsStoppedAt}
 use Rattle.lbk_cmd.specs.Devices.{Devices}
 use Rattle.lbk_cmd.specs.Operands.{Reads, Refusals, Standing, standing}
@@ -58,13 +58,13 @@ pub same_fault : (answer : Result Ready CellsFault) (one other : CellsFault) →
 same_fault answer one other e f = cc
 
 -- a list of no words
-pub no_words : (words : List (Bor (List ℕ))) → (length words == 0) ≡ true → words ≡ []
+pub no_words : (words : List (Bor (List ℕ))) → (length words == 0) ≡ true → map (λ w. w.now) words ≡ []
 no_words [] e = refl
 no_words (word ∷ words) e =
     let long : suc (length words) ≡ 0 = eqb-true _ _ e in
     absurd (omega arith)
 
-pub some_words : (words : List (Bor (List ℕ))) → (length words == 0) ≡ false → words ≡ [] → ⊥
+pub some_words : (words : List (Bor (List ℕ))) → (length words == 0) ≡ false → map (λ w. w.now) words ≡ [] → ⊥
 some_words [] e f = true≢false e
 some_words (word ∷ words) e f = cc
 

@@ -1,5 +1,5 @@
 -- What a run of the program does, by its arguments.
-use Rattle.std.specs.Prelude.{◌≡◌, ◌⊎◌, ◌+◌, ◌≤◌, ◌↔◌, ℕ, Bool, List, Option, None, Some, Result, IfOk, IfSome}
+use Rattle.std.specs.Prelude.{◌≡◌, ◌≢◌, ◌⊎◌, ◌+◌, ◌≤◌, ◌↔◌, ℕ, Bool, List, [], Option, None, Some, Result, IfOk, IfSome}
 use Rattle.std.specs.Prelude.{IsErrOf, IsTrue, IsUtf8, OnOk, if◌then◌else◌}
 use Rattle.std.specs.Str.{chars}
 use Rattle.std.specs.Io.KnownBytes.{Appends, IsAtEnd}
@@ -30,18 +30,25 @@ use Rattle.lbk_notation.specs.declared.marks.Form.TheVariants.{Plain, Kinds}
 use Rattle.lbk_args.specs.declared.order.Engine.{Engine}
 use Rattle.lbk_args.specs.declared.order.Engine.TheVariants.{Mark, Show, Segment, Chunk, Replay}
 use Rattle.lbk_args.specs.declared.order.Part.{Part}
+use Rattle.lbk_args.specs.Accepted.{AreAccepted}
 use Rattle.lbk_args.specs.Command.{default_limit}
-use Rattle.lbk_args.specs.Task.{Task}
+use Rattle.lbk_args.specs.PlainWords.{IsPlainFor}
+use Rattle.lbk_args.specs.Task.{Task, task_by}
 use Rattle.lbk_files.specs.declared.faults.CellsFault.{CellsFault}
 use Rattle.lbk_files.specs.declared.faults.NotReady.{NotReady}
 use Rattle.lbk_files.specs.SampleFiles.{AreSampleCells, IsSampleFault}
-use Rattle.lbk_files.specs.FileFault.{AreCellsFrom, LoadCounts}
+use Rattle.lbk_files.specs.FileFault.{AreCellsFrom}
 use Rattle.lbk_files.specs.Named.{files_of}
-use Rattle.lbk_files.specs.Ready.{IsStoppedAt}
+use Rattle.lbk_files.specs.Ready.{IsStoppedAt, IsStoppedByWords}
+use Rattle.lbk_files.specs.Store.{LoadCounts}
+use Rattle.lbk_files.specs.Taking.{TakesFiles}
+use Rattle.lbk_files.specs.declared.store.Store.{Ghosts as StoreMembers}
 use Rattle.lbk_files.specs.declared.readiness.Ready.{Ready}
 use Rattle.lbk_cmd.specs.declared.chunked.Asked.{Asked}
 use Rattle.lbk_cmd.specs.declared.faults.CmdFault.{CmdFault}
 use Rattle.lbk_cmd.specs.declared.ending.Ending.{Ending}
+use Rattle.lbk_cmd.specs.declared.ending.Ending.TheVariants.{Refused}
+use Rattle.lbk_cmd.specs.declared.ending.RunFault.TheVariants.{Memory}
 use Rattle.lbk_cmd.specs.declared.engine.Lines.{Lines}
 use Rattle.lbk_cmd.specs.Devices.{Devices}
 use Rattle.lbk_cmd.specs.Operands.{Reads, ReadsAlone, Standing}
@@ -183,3 +190,17 @@ PerformsAlone file task counts counts' before after ending =
     StopsBefore (IsStoppedAt file task counts counts') before after ending
     ⊎ ((cell : ℕ → Cell) × AreCellsFrom (files_of file task.files) cell
     × ReadsAlone (RunsTask task cell) task.texts before after ending)
+
+-- arguments that ask for no task: none, or some that are not accepted
+abbrev pub AskForNothing : List (List ℕ) → Type 0
+AskForNothing words = (words ≡ []) ⊎ (¬ (AreAccepted words))
+
+-- a run with these arguments; `Does` says what it does for a task
+pub record RunsWords {S : Type 0} (store : StoreMembers S) (words : List (List ℕ)) (old new : S)
+    (before after : Devices) (ending : Ending) (Does : Task → Type 0) : Type 0 where
+  pub samples : words ≡ [] → ShowsSamples before after ending
+  pub plain : (task : Task) → IsPlainFor task words → Does task
+  pub accepted : (task : Task) → words ≢ [] → AreAccepted words → task_by words ≡ Some task → Does task
+  pub others : words ≢ [] → ¬ (AreAccepted words) → StopsBefore (IsStoppedByWords words) before after ending
+  pub unloaded : AskForNothing words → store.load_count new ≡ store.load_count old
+  pub takes : TakesFiles store old new (ending ≡ Refused Memory)

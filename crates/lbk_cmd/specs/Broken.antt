@@ -1,6 +1,7 @@
 -- The result of `break_text`, by the files and by what it read.
 use Rattle.std.specs.Prelude.{◌≡◌, ◌⊎◌, ℕ, List, map, Option, Result, Ok, Err, IfSome, IsUtf8}
 use Rattle.std.specs.Str.{chars}
+use Rattle.lbk_ucd.specs.Files.{AreLawful}
 use Rattle.lbk_ucd.specs.declared.tables.Files.{Files}
 use Rattle.lbk_rules.specs.declared.Cell.{Cell}
 use Rattle.lbk_values.specs.declared.profile.Profile.{Profile}
@@ -40,6 +41,11 @@ pub record IsBroken (files : Files) (profile : Profile) (unread : Option (List �
 abbrev pub ShowsBy : Files → ℕ → Profile → Devices → Devices → Result (Unit {0}) CmdFault → Type 0
 ShowsBy files limit profile before after answer = (cell : ℕ → Cell) × AreCellsOf files cell
     × Shows cell limit profile before after answer
+
+-- the files have no fault, and `show` with their cells reads a text to its end
+pub record ReadsWhole (files : Files) (limit : ℕ) (profile : Profile) (before after : Devices) : Type 0 where
+  pub lawful : AreLawful files
+  pub shows : ShowsBy files limit profile before after (Ok (tt {0}))
 
 -- the files are refused, and nothing is read; or `show` stops by their cells
 abbrev pub IsBreakFault : Files → ℕ → Profile → Devices → Devices → BreakFault → Type 0

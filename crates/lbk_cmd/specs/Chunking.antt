@@ -4,6 +4,7 @@ use Rattle.std.specs.Io.KnownBytes.{Appends}
 use Rattle.std.specs.List.{AllByRecursion}
 use Rattle.lbk_chunks.specs.declared.chunk.Chunk.{Chunk}
 use Rattle.lbk_chunks.specs.Chunks.{cuts_past}
+use Rattle.lbk_chunks.specs.Cuts.{AreCutsPast}
 use Rattle.lbk_chunk_reader.specs.declared.window.Window.{Window}
 use Rattle.lbk_chunk_reader.specs.Settled.{IsOpen, Settle, SettleAll}
 use Rattle.lbk_chunk_reader.specs.Between.{AreCutsBetween}
@@ -31,6 +32,11 @@ Pushes (Err y) written written' waiting waiting' line = Breaks written written' 
 -- a chunk of a text
 abbrev pub IsIn : List ℕ → Chunk → Type 0
 IsIn text c = (c.start ≤ c.end) × (c.end ≤ length text)
+
+-- the cuts of a window rise from its next start on, and its next start is not after the end of its last chunk
+pub record IsInOrder (w : Window) : Type 0 where
+  pub rising : AreCutsPast (here_in w).start (cuts_in w)
+  pub told : (here_in w).start ≤ (here_in w).told
 
 -- the cuts of a window are in a text; the window keeps the text from its next start on if texts are asked for
 pub record StandsIn (asked : Asked) (text : List ℕ) (w : Window) : Type 0 where

@@ -3,6 +3,7 @@ use Rattle.std.specs.Prelude.{◌≡◌, ◌⊎◌, ℕ, ◌+◌, Bool, true, fa
 use Rattle.std.specs.Prelude.{Ok, Err}
 use Rattle.std.specs.Io.KnownBytes.{Appends}
 use Rattle.lbk_feed.specs.Devices.{Reads}
+use Rattle.lbk_feed.specs.declared.traits.Source.{Ghosts as SourceMembers}
 use Rattle.lbk_passage.specs.Marks.{Marked}
 use Rattle.lbk_passage.specs.Next.{AfterNext, IsPassage, failures_with, fault_in}
 use Rattle.lbk_passage.specs.State.{State}
@@ -36,6 +37,14 @@ pub record PutsNext (e : Engine) (old new : State) (unread unread' : Option (Lis
   pub next : AfterNext old new unread unread' ended ended' reads reads' lent
   pub failed : failures' ≡ failures_with failures (fault_in lent)
   pub puts : Puts e old lent before after at answer
+
+-- the same with a reader, which is left alone if the bytes read settle the passage
+pub record PutsRead {R : Type 0} (source : SourceMembers R) (e : Engine) (old new : State) (reader reader' : R)
+    (before after : List ℕ) (at : ℕ) (answer : Result Bool CmdFault) : Type 0 where
+  pub puts : PutsNext e old new (source.unread reader) (source.unread reader')
+      (source.has_ended reader) (source.has_ended reader') (source.reads_made reader) (source.reads_made reader')
+      (source.failure_count reader) (source.failure_count reader') before after at answer
+  pub settled : old.is_settled ≡ true → reader' ≡ reader
 
 -- how a run ends after such a result, if it does
 abbrev pub end_of : Result Bool CmdFault → Option (Result (Unit {0}) CmdFault)

@@ -13,7 +13,6 @@ pub mod Ranges
 pub mod Chunk
 pub mod Titles
 pub mod Acts
-pub mod Taking
 pub mod Headline
 pub mod Broken
 pub mod Owned

@@ -84,6 +84,12 @@ Reads source told Runs [] before after =
     Runs (codes "-") before.devices after.devices after.ending × (after.refused ≡ before.refused)
 Reads source told Runs (name ∷ names) before after = ReadsTexts source told Runs (name ∷ names) before after
 
+-- a run over texts, from the state in which it begins to that in which it ends; the content of the texts stays
+pub record RunsTexts {T : Type 0} (refused : T → Refusals) (told : T → List ℕ → Option (Option (List ℕ))) (old new : T)
+    (before after : Devices) (ending : Ending) (Runs : Standing → Standing → Type 0) : Type 0 where
+  pub runs : Runs (standing before (refused old) Done) (standing after (refused new) ending)
+  pub contents : told new ≡ told old
+
 -- without files none of these can be opened; `-` is the run's reader
 abbrev pub ReadsNoFile : (List ℕ → Devices → Devices → Ending → Type 0) → List ℕ → Devices → Devices → Ending → Type 0
 ReadsNoFile Runs name before after ending = ((name ≡ codes "-") × Runs name before after ending)

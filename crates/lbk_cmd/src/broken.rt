@@ -1,13 +1,12 @@
 //! Breaks a text in one call: from the bytes of four property files and of a text to what is read back from the lines
 //! of `show`.
 
-ghost use Rattle.std.specs.Prelude.{◌≡◌, ◌++◌, ◌∷◌, List, Ok, Err, IfNone, IfSome, IfOk, IfErr, OnOk};
-ghost use Rattle.lbk_ucd.specs.Files.{AreLawful};
+ghost use Rattle.std.specs.Prelude.{◌≡◌, ◌++◌, ◌∷◌, List, Ok, IfNone, IfSome, IfOk, IfErr, MatchResult, OnOk};
 ghost use Rattle.lbk_rules.specs.CellPages.{page_cell};
 ghost use Rattle.lbk_notation.specs.Stream.{HasNoLineEnd};
 ghost use Rattle.lbk_passage.specs.Marks.{Marked};
 ghost use Rattle.lbk_cmd.specs.Acts.{Shows};
-ghost use Rattle.lbk_cmd.specs.Broken.{IsBroken, IsLinesFault, ShowStops, ShowsBy};
+ghost use Rattle.lbk_cmd.specs.Broken.{IsBroken, IsLinesFault, ReadsWhole, ShowStops};
 ghost use Rattle.lbk_cmd.specs.declared.broken.BreakFault.TheVariants.{Files as files_fault, Text as text_fault};
 ghost use Rattle.lbk_cmd.specs.Devices.{reader_alone};
 ghost use Rattle.lbk_cmd.specs.Engines.{showing};
@@ -67,14 +66,12 @@ pub fn break_text<R: Source>(
     limit: u32,
     profile: Profile,
 ) -> Result<Vec<TestLine>, BreakFault>
-    ensures lawful { OnOk result (AreLawful files.entry) }
-
     // The bytes read are a text, and the lines are its passages by the cells of the files.
     ensures broken { IfOk result (λ lines. IsBroken files.entry profile (R.unread reader.old) lines.items) }
 
     // What was read, and why a text is refused.
-    ensures done { OnOk result (ShowsBy files.entry limit profile
-        (reader_alone R.Source reader.old) (reader_alone R.Source reader.new) (Ok (tt {0}))) }
+    ensures whole { OnOk result (ReadsWhole files.entry limit profile
+        (reader_alone R.Source reader.old) (reader_alone R.Source reader.new)) }
     ensures refused { IfErr result (IsLinesFault files.entry limit profile
         (reader_alone R.Source reader.old) (reader_alone R.Source reader.new)) }
 {
@@ -92,11 +89,11 @@ fn shown_text<R: Source>(
     limit: u32,
     profile: Profile,
 ) -> Result<Vec<u8>, CmdFault>
-    ensures whole { IfOk result (λ text. IsShown (showing (page_cell cells.now) profile limit) (R.unread reader.old)
-        text.items) }
-    ensures done { OnOk result (Shows (page_cell cells.now) limit profile
-        (reader_alone R.Source reader.old) (reader_alone R.Source reader.new) (Ok (tt {0}))) }
-    ensures refused { IfErr result (ShowStops (page_cell cells.now) limit profile
+    ensures { MatchResult result
+        (λ text. IsShown (showing (page_cell cells.now) profile limit) (R.unread reader.old) text.items
+        × Shows (page_cell cells.now) limit profile
+        (reader_alone R.Source reader.old) (reader_alone R.Source reader.new) (Ok (tt {0})))
+        (ShowStops (page_cell cells.now) limit profile
         (reader_alone R.Source reader.old) (reader_alone R.Source reader.new)) }
 {
     let mut writer = Device::new(Vec::new(alloc));
@@ -111,8 +108,7 @@ fn shown_text<R: Source>(
 /// What the lines of passages say. Fails only if memory runs out.
 fn read_lines(alloc: Global, text: &[u8]) -> Result<Vec<TestLine>, CmdFault>
     requires { AreReadable text.now }
-    ensures lines { IfOk result (λ lines. Say text.now lines.items) }
-    ensures fault { IfErr result (λ fault. fault ≡ CmdFault.Memory) }
+    ensures { MatchResult result (λ lines. Say text.now lines.items) (λ fault. fault ≡ CmdFault.Memory) }
 {
     let mut lines = Vec::new(alloc);
     let mut rest = text;
@@ -135,8 +131,7 @@ fn first_line(text: &[u8]) -> Option<(&[u8], &[u8])>
 /// What the line of a passage says.
 fn read_shown(alloc: Global, line: &[u8]) -> Result<TestLine, CmdFault>
     requires { (ms : List Marked) × (line.now ≡ line_of ms) × IsReadable ms }
-    ensures line { IfOk result (λ read. SayOf line.now read) }
-    ensures fault { IfErr result (λ fault. fault ≡ CmdFault.Memory) }
+    ensures { MatchResult result (SayOf line.now) (λ fault. fault ≡ CmdFault.Memory) }
 {
     match read_passage_line(alloc, line) {
         Ok(Some(read)) => Ok(read),

@@ -1,11 +1,9 @@
 //! The chunks of a text (`lbk_chunks`), a line or an object for each.
 
-ghost use Rattle.std.specs.Prelude.{◌≡◌, ℕ, ◌≤◌, List, OnErr, OnOk, true};
+ghost use Rattle.std.specs.Prelude.{◌≡◌, ℕ, List, OnErr, OnOk, true};
 ghost use Rattle.lbk_feed.specs.Devices.{failures_after};
-ghost use Rattle.lbk_chunks.specs.Cuts.{AreCutsPast};
-ghost use Rattle.lbk_chunk_reader.specs.Window.{cuts_in, here_in};
 ghost use Rattle.lbk_cmd.specs.Acts.{Chunks};
-ghost use Rattle.lbk_cmd.specs.Chunking.{BreaksOff, Gives, StandsIn, WritesAll};
+ghost use Rattle.lbk_cmd.specs.Chunking.{BreaksOff, Gives, IsInOrder, StandsIn, WritesAll};
 ghost use Rattle.lbk_cmd.specs.Devices.{devices_of};
 ghost use Rattle.lbk_cmd.specs.Waiting.{waiting_in};
 
@@ -75,8 +73,7 @@ fn write_last<W: Sink>(
     waiting: &mut Waiting,
     writer: &mut W,
 ) -> Result<(), Failed>
-    requires rising { AreCutsPast (here_in window.old).start (cuts_in window.old) }
-    requires told { (here_in window.old).start ≤ (here_in window.old).told }
+    requires { IsInOrder window.old }
     ensures all { (text : List ℕ) → StandsIn asked text window.old
         → OnOk result (WritesAll asked text window.old (W.written writer.old) (W.written writer.new)
         (waiting_in waiting.old)) }
@@ -98,8 +95,7 @@ fn write_chunks<W: Sink>(
     is_whole: bool,
     writer: &mut W,
 ) -> Result<(), Failed>
-    requires rising { AreCutsPast (here_in window.old).start (cuts_in window.old) }
-    requires told { (here_in window.old).start ≤ (here_in window.old).told }
+    requires { IsInOrder window.old }
     ensures gives { (text : List ℕ) → StandsIn asked text window.old
         → Gives asked text is_whole window.old window.new (W.written writer.old) (W.written writer.new)
         (waiting_in waiting.old) (waiting_in waiting.new) result }

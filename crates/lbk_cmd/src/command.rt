@@ -1,17 +1,14 @@
 //! A run of the program, from its arguments to its ending.
 
-ghost use Rattle.std.specs.Prelude.{◌≡◌, ◌≢◌, ◌⊎◌, [], Some, map};
-ghost use Rattle.lbk_args.specs.Accepted.{AreAccepted};
-ghost use Rattle.lbk_args.specs.Task.{Task, task_by, task_of};
-ghost use Rattle.lbk_args.specs.PlainWords.{IsPlainFor};
-ghost use Rattle.lbk_files.specs.FileFault.{counts_of};
-ghost use Rattle.lbk_files.specs.Ready.{IsStoppedByWords};
+ghost use Rattle.std.specs.Prelude.{◌≡◌, map};
+ghost use Rattle.lbk_args.specs.Task.{task_of};
+ghost use Rattle.lbk_files.specs.Store.{counts_of};
+ghost use Rattle.lbk_files.specs.Taking.{TakesFiles};
 ghost use Rattle.lbk_cmd.specs.Devices.{devices_of};
-ghost use Rattle.lbk_cmd.specs.Ending.{ending_of_text};
-ghost use Rattle.lbk_cmd.specs.declared.ending.Ending.TheVariants.{Done};
-ghost use Rattle.lbk_cmd.specs.Acts.{Performs, PerformsAlone, ShowsSamples, StopsBefore};
-ghost use Rattle.lbk_cmd.specs.Operands.{standing};
-ghost use Rattle.lbk_cmd.specs.Taking.{TakesFiles};
+ghost use Rattle.lbk_cmd.specs.declared.ending.Ending.TheVariants.{Done, Refused};
+ghost use Rattle.lbk_cmd.specs.declared.ending.RunFault.TheVariants.{Memory};
+ghost use Rattle.lbk_cmd.specs.Acts.{AskForNothing, Performs, PerformsAlone, RunsWords, ShowsSamples};
+ghost use Rattle.lbk_cmd.specs.Operands.{RunsTexts, standing};
 
 use super::ending::Ending;
 use super::engine::show;
@@ -42,25 +39,12 @@ pub fn run<'a, S: Store, R: Source, W: Sink>(
     reader: &mut R,
     writer: &mut W,
 ) -> Ending
-    ensures samples { words.entry.now ≡ [] → ShowsSamples
-        (devices_of R.Source W.Sink reader.old writer.old) (devices_of R.Source W.Sink reader.new writer.new) result }
-    ensures plain { (task : Task) → IsPlainFor task (map (λ w. w.now) words.entry.now)
-        → PerformsAlone (S.file store.old) task
+    ensures { RunsWords S.Store (map (λ w. w.now) words.entry.now) store.old store.new
+        (devices_of R.Source W.Sink reader.old writer.old) (devices_of R.Source W.Sink reader.new writer.new) result
+        (λ task. PerformsAlone (S.file store.old) task
         (counts_of (S.load_count store.old) (S.refusal_count store.old))
         (counts_of (S.load_count store.new) (S.refusal_count store.new))
-        (devices_of R.Source W.Sink reader.old writer.old) (devices_of R.Source W.Sink reader.new writer.new) result }
-    ensures accepted { (task : Task) → words.entry.now ≢ [] → AreAccepted (map (λ w. w.now) words.entry.now)
-        → task_by (map (λ w. w.now) words.entry.now) ≡ Some task
-        → PerformsAlone (S.file store.old) task
-        (counts_of (S.load_count store.old) (S.refusal_count store.old))
-        (counts_of (S.load_count store.new) (S.refusal_count store.new))
-        (devices_of R.Source W.Sink reader.old writer.old) (devices_of R.Source W.Sink reader.new writer.new) result }
-    ensures others { words.entry.now ≢ [] → ¬ (AreAccepted (map (λ w. w.now) words.entry.now))
-        → StopsBefore (IsStoppedByWords (map (λ w. w.now) words.entry.now))
-        (devices_of R.Source W.Sink reader.old writer.old) (devices_of R.Source W.Sink reader.new writer.new) result }
-    ensures unloaded { (words.entry.now ≡ []) ⊎ (¬ (AreAccepted (map (λ w. w.now) words.entry.now)))
-        → S.load_count store.new ≡ S.load_count store.old }
-    ensures takes { TakesFiles S.Store store.old store.new result }
+        (devices_of R.Source W.Sink reader.old writer.old) (devices_of R.Source W.Sink reader.new writer.new) result) }
 {
     run_over_texts(alloc, words, store, &mut NoTexts, reader, writer)
 }
@@ -81,30 +65,15 @@ pub fn run_over_texts<'a, S: Store, T: Texts<'a>, R: Source, W: Sink>(
     reader: &mut R,
     writer: &mut W,
 ) -> Ending
-    ensures samples { words.entry.now ≡ [] → ShowsSamples
-        (devices_of R.Source W.Sink reader.old writer.old) (devices_of R.Source W.Sink reader.new writer.new) result }
-    ensures plain { (task : Task) → IsPlainFor task (map (λ w. w.now) words.entry.now)
-        → Performs T.File.Source (S.file store.old) (T.contents texts.old) task
+    ensures runs { RunsWords S.Store (map (λ w. w.now) words.entry.now) store.old store.new
+        (devices_of R.Source W.Sink reader.old writer.old) (devices_of R.Source W.Sink reader.new writer.new) result
+        (λ task. Performs T.File.Source (S.file store.old) (T.contents texts.old) task
         (counts_of (S.load_count store.old) (S.refusal_count store.old))
         (counts_of (S.load_count store.new) (S.refusal_count store.new))
         (standing (devices_of R.Source W.Sink reader.old writer.old) (T.refused texts.old) Done)
-        (standing (devices_of R.Source W.Sink reader.new writer.new) (T.refused texts.new) result) }
-    ensures accepted { (task : Task) → words.entry.now ≢ [] → AreAccepted (map (λ w. w.now) words.entry.now)
-        → task_by (map (λ w. w.now) words.entry.now) ≡ Some task
-        → Performs T.File.Source (S.file store.old) (T.contents texts.old) task
-        (counts_of (S.load_count store.old) (S.refusal_count store.old))
-        (counts_of (S.load_count store.new) (S.refusal_count store.new))
-        (standing (devices_of R.Source W.Sink reader.old writer.old) (T.refused texts.old) Done)
-        (standing (devices_of R.Source W.Sink reader.new writer.new) (T.refused texts.new) result) }
-    ensures others { words.entry.now ≢ [] → ¬ (AreAccepted (map (λ w. w.now) words.entry.now))
-        → StopsBefore (IsStoppedByWords (map (λ w. w.now) words.entry.now))
-        (devices_of R.Source W.Sink reader.old writer.old) (devices_of R.Source W.Sink reader.new writer.new) result }
-    ensures unopened { (words.entry.now ≡ []) ⊎ (¬ (AreAccepted (map (λ w. w.now) words.entry.now)))
-        → T.refused texts.new ≡ T.refused texts.old }
+        (standing (devices_of R.Source W.Sink reader.new writer.new) (T.refused texts.new) result)) }
+    ensures unopened { AskForNothing (map (λ w. w.now) words.entry.now) → T.refused texts.new ≡ T.refused texts.old }
     ensures texts { T.contents texts.new ≡ T.contents texts.old }
-    ensures unloaded { (words.entry.now ≡ []) ⊎ (¬ (AreAccepted (map (λ w. w.now) words.entry.now)))
-        → S.load_count store.new ≡ S.load_count store.old }
-    ensures takes { TakesFiles S.Store store.old store.new result }
 {
     if words.is_empty() {
         return show_samples(alloc, reader, writer);
@@ -128,13 +97,12 @@ fn perform_order<'a, S: Store, T: Texts<'a>, R: Source, W: Sink>(
     reader: &mut R,
     writer: &mut W,
 ) -> Ending
-    ensures performs { Performs T.File.Source (S.file store.old) (T.contents texts.old) (task_of order.entry)
+    ensures performs { RunsTexts T.refused T.contents texts.old texts.new
+        (devices_of R.Source W.Sink reader.old writer.old) (devices_of R.Source W.Sink reader.new writer.new) result
+        (Performs T.File.Source (S.file store.old) (T.contents texts.old) (task_of order.entry)
         (counts_of (S.load_count store.old) (S.refusal_count store.old))
-        (counts_of (S.load_count store.new) (S.refusal_count store.new))
-        (standing (devices_of R.Source W.Sink reader.old writer.old) (T.refused texts.old) Done)
-        (standing (devices_of R.Source W.Sink reader.new writer.new) (T.refused texts.new) result) }
-    ensures texts { T.contents texts.new ≡ T.contents texts.old }
-    ensures takes { TakesFiles S.Store store.old store.new result }
+        (counts_of (S.load_count store.new) (S.refusal_count store.new))) }
+    ensures takes { TakesFiles S.Store store.old store.new (result ≡ Refused Memory) }
 {
     match prepare(alloc, order, store) {
         Ok(ready) => perform(alloc, &ready, texts, reader, writer),

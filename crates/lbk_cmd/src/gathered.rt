@@ -13,7 +13,8 @@ ghost use Rattle.lbk_passage.specs.declared.passage.Passage.{Passage};
 ghost use Rattle.lbk_passage.specs.declared.faults.PassageFault.{PassageFault};
 ghost use Rattle.lbk_cmd.specs.Engines.{engine_of, lines_of};
 ghost use Rattle.lbk_cmd.specs.declared.engine.Lines.TheVariants as kinds;
-ghost use Rattle.lbk_cmd.specs.Gathering.{PutsNext, end_of};
+ghost use Rattle.lbk_cmd.specs.Deciding.{IsPassageText};
+ghost use Rattle.lbk_cmd.specs.Gathering.{PutsRead, end_of};
 ghost use Rattle.lbk_cmd.specs.Ranges.{within};
 ghost use Rattle.lbk_cmd.specs.Writing.{WritesDue, WritesOut};
 
@@ -103,13 +104,9 @@ impl Gathered {
         cells: &C,
         profile: Profile,
     ) -> Result<bool, CmdFault>
-        ensures puts { (limit : ℕ) → PutsNext (engine_of lines.entry (C.cell_of cells.now) profile limit)
-            (state_of C.cell_of segmenter.old) (state_of C.cell_of segmenter.new)
-            (R.unread reader.old) (R.unread reader.new) (R.has_ended reader.old) (R.has_ended reader.new)
-            (R.reads_made reader.old) (R.reads_made reader.new) (R.failure_count reader.old)
-            (R.failure_count reader.new)
+        ensures { (limit : ℕ) → PutsRead R.Source (engine_of lines.entry (C.cell_of cells.now) profile limit)
+            (state_of C.cell_of segmenter.old) (state_of C.cell_of segmenter.new) reader.old reader.new
             self.old.lines.items self.new.lines.items self.new.at result }
-        ensures settled { (state_of C.cell_of segmenter.old).is_settled ≡ true → reader.new ≡ reader.old }
     {
         match lines {
             Lines::Segmented => self.put_segmented(segmenter, reader),
@@ -125,14 +122,10 @@ impl Gathered {
         segmenter: &mut Segmenter<'_, C>,
         reader: &mut R,
     ) -> Result<bool, CmdFault>
-        ensures puts { (cell : ℕ → Cell) (profile : specs.Profile) (limit : ℕ)
-            → PutsNext (engine_of kinds.Segmented cell profile limit)
-            (state_of C.cell_of segmenter.old) (state_of C.cell_of segmenter.new)
-            (R.unread reader.old) (R.unread reader.new) (R.has_ended reader.old) (R.has_ended reader.new)
-            (R.reads_made reader.old) (R.reads_made reader.new) (R.failure_count reader.old)
-            (R.failure_count reader.new)
+        ensures { (cell : ℕ → Cell) (profile : specs.Profile) (limit : ℕ)
+            → PutsRead R.Source (engine_of kinds.Segmented cell profile limit)
+            (state_of C.cell_of segmenter.old) (state_of C.cell_of segmenter.new) reader.old reader.new
             self.old.lines.items self.new.lines.items self.new.at result }
-        ensures settled { (state_of C.cell_of segmenter.old).is_settled ≡ true → reader.new ≡ reader.old }
     {
         let Some(passage) = segmenter.next(reader)? else {
             return Ok(false);
@@ -160,13 +153,9 @@ impl Gathered {
         profile: Profile,
     ) -> Result<bool, CmdFault>
         requires { ¬ (lines ≡ kinds.Segmented) }
-        ensures puts { (limit : ℕ) → PutsNext (engine_of lines.entry (C.cell_of cells.now) profile limit)
-            (state_of C.cell_of segmenter.old) (state_of C.cell_of segmenter.new)
-            (R.unread reader.old) (R.unread reader.new) (R.has_ended reader.old) (R.has_ended reader.new)
-            (R.reads_made reader.old) (R.reads_made reader.new) (R.failure_count reader.old)
-            (R.failure_count reader.new)
+        ensures { (limit : ℕ) → PutsRead R.Source (engine_of lines.entry (C.cell_of cells.now) profile limit)
+            (state_of C.cell_of segmenter.old) (state_of C.cell_of segmenter.new) reader.old reader.new
             self.old.lines.items self.new.lines.items self.new.at result }
-        ensures settled { (state_of C.cell_of segmenter.old).is_settled ≡ true → reader.new ≡ reader.old }
     {
         let Some(passage) = segmenter.next_text(reader)? else {
             return Ok(false);
@@ -195,8 +184,7 @@ impl Gathered {
         end: Verdict,
     ) -> Result<(), AllocError>
         requires kind { ¬ (lines ≡ kinds.Segmented) }
-        requires some { 0 < length text.now }
-        requires few { length text.now < 2 ^ 32 }
+        requires text { IsPassageText text.now }
         ensures text { OnOk result ((s : State) (ms : List Marked) (p : Passage) → s.cell ≡ C.cell_of cells.now
             → s.profile ≡ profile
             → IsPassage s ms p → p.text.now ≡ text.now → p.end ≡ end → is_must end.kind ≡ true
@@ -234,13 +222,10 @@ impl Gathered {
     ) -> Result<bool, CmdFault>
         requires start { self.old.at ≡ (state_of C.cell_of segmenter.old).start }
         requires early { self.old.at < part.to }
-        ensures puts { (limit : ℕ) → PutsNext (within part (engine_of lines.entry (C.cell_of cells.now) profile limit))
-            (state_of C.cell_of segmenter.old) (state_of C.cell_of segmenter.new)
-            (R.unread reader.old) (R.unread reader.new) (R.has_ended reader.old) (R.has_ended reader.new)
-            (R.reads_made reader.old) (R.reads_made reader.new) (R.failure_count reader.old)
-            (R.failure_count reader.new)
+        ensures puts { (limit : ℕ)
+            → PutsRead R.Source (within part (engine_of lines.entry (C.cell_of cells.now) profile limit))
+            (state_of C.cell_of segmenter.old) (state_of C.cell_of segmenter.new) reader.old reader.new
             self.old.lines.items self.new.lines.items self.new.at result }
-        ensures settled { (state_of C.cell_of segmenter.old).is_settled ≡ true → reader.new ≡ reader.old }
         // No memory grows for passages before the range.
         ensures memory { (result ≡ Err CmdFault.Memory) ⊎ (result ≡ Err (CmdFault.Passage PassageFault.Memory))
             → part.from ≤ self.old.at }

@@ -33,7 +33,7 @@ ghost use Rattle.lbk_chunks.specs.Chunks.{AreChunks, text_start};
 ghost use Rattle.lbk_chunk_reader.specs.Cuts.{cuts_of_passages};
 ghost use Rattle.lbk_cmd.specs.Chunk.{chunk_lines, lines_by_ranges};
 ghost use Rattle.lbk_args.specs.Task.{Task};
-ghost use Rattle.lbk_files.specs.FileFault.{LoadCounts};
+ghost use Rattle.lbk_files.specs.Store.{LoadCounts};
 ghost use Rattle.lbk_cmd.specs.Acts.{Performs, PerformsAlone};
 ghost use Rattle.lbk_cmd.specs.Operands.{Standing};
 

@@ -1,10 +1,9 @@
 //! The passages of a text in one call: from the bytes of four property files and of a text to its breaks and words.
 
 ghost use Rattle.std.specs.Prelude.{◌≡◌, [], Ok, Err, IfOk, IfErr, OnOk};
-ghost use Rattle.lbk_ucd.specs.Files.{AreLawful};
 ghost use Rattle.lbk_rules.specs.CellPages.{page_cell};
 ghost use Rattle.lbk_cmd.specs.Acts.{Shows};
-ghost use Rattle.lbk_cmd.specs.Broken.{IsBreakFault, ShowsBy};
+ghost use Rattle.lbk_cmd.specs.Broken.{IsBreakFault, ReadsWhole};
 ghost use Rattle.lbk_cmd.specs.Devices.{reader_alone};
 ghost use Rattle.lbk_cmd.specs.Owned.{AreOwned, AreRead};
 
@@ -33,14 +32,12 @@ pub fn read_passages<R: Source>(
     limit: u32,
     profile: Profile,
 ) -> Result<Vec<OwnedPassage>, BreakFault>
-    ensures lawful { OnOk result (AreLawful files.entry) }
-
     // The bytes read are a text, and these are its passages by the cells of the files.
     ensures passages { IfOk result (λ list. AreRead files.entry profile (R.unread reader.old) list.items) }
 
     // What was read, and why a text is refused: as in `show`.
-    ensures done { OnOk result (ShowsBy files.entry limit profile
-        (reader_alone R.Source reader.old) (reader_alone R.Source reader.new) (Ok (tt {0}))) }
+    ensures whole { OnOk result (ReadsWhole files.entry limit profile
+        (reader_alone R.Source reader.old) (reader_alone R.Source reader.new)) }
     ensures refused { IfErr result (IsBreakFault files.entry limit profile
         (reader_alone R.Source reader.old) (reader_alone R.Source reader.new)) }
 {

@@ -6,8 +6,7 @@ ghost use Rattle.lbk_cmd.specs.Acts.{ChunksEnd, EngineRuns, RangeEnds, RunsOver,
 ghost use Rattle.lbk_cmd.specs.Chunk.{limits_of};
 ghost use Rattle.lbk_cmd.specs.Devices.{devices_of};
 ghost use Rattle.lbk_cmd.specs.Engines.{engine_of};
-ghost use Rattle.lbk_cmd.specs.Operands.{Reads, ReadsText, ReadsTexts, refused_after, standing};
-ghost use Rattle.lbk_cmd.specs.declared.ending.Ending.TheVariants.{Done};
+ghost use Rattle.lbk_cmd.specs.Operands.{Reads, ReadsText, ReadsTexts, RunsTexts, refused_after};
 
 use super::chunked::{Asked, chunk};
 use super::ending::{Ending, RunFault};
@@ -31,11 +30,10 @@ pub(crate) fn perform<'a, T: Texts<'a>, R: Source, W: Sink>(
     reader: &mut R,
     writer: &mut W,
 ) -> Ending
-    ensures reads { Reads T.File.Source (T.contents texts.old) (RunsReady ready.now)
-        (map (λ name. name.now) ready.now.texts.items)
-        (standing (devices_of R.Source W.Sink reader.old writer.old) (T.refused texts.old) Done)
-        (standing (devices_of R.Source W.Sink reader.new writer.new) (T.refused texts.new) result) }
-    ensures contents { T.contents texts.new ≡ T.contents texts.old }
+    ensures { RunsTexts T.refused T.contents texts.old texts.new
+        (devices_of R.Source W.Sink reader.old writer.old) (devices_of R.Source W.Sink reader.new writer.new) result
+        (Reads T.File.Source (T.contents texts.old) (RunsReady ready.now)
+        (map (λ name. name.now) ready.now.texts.items)) }
 {
     let names = ready.texts.as_slice();
     if names.is_empty() {
@@ -54,11 +52,9 @@ fn perform_all<'a, T: Texts<'a>, R: Source, W: Sink>(
     reader: &mut R,
     writer: &mut W,
 ) -> Ending
-    ensures reads { ReadsTexts T.File.Source (T.contents texts.old) (RunsReady ready.now)
-        (map (λ name. name.now) names.now)
-        (standing (devices_of R.Source W.Sink reader.old writer.old) (T.refused texts.old) Done)
-        (standing (devices_of R.Source W.Sink reader.new writer.new) (T.refused texts.new) result) }
-    ensures contents { T.contents texts.new ≡ T.contents texts.old }
+    ensures { RunsTexts T.refused T.contents texts.old texts.new
+        (devices_of R.Source W.Sink reader.old writer.old) (devices_of R.Source W.Sink reader.new writer.new) result
+        (ReadsTexts T.File.Source (T.contents texts.old) (RunsReady ready.now) (map (λ name. name.now) names.now)) }
 {
     let mut so_far = Ending::Done;
     for name in names {

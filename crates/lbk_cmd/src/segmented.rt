@@ -1,8 +1,9 @@
 //! The lines that `segment` writes for a passage.
 
-ghost use Rattle.std.specs.Prelude.{◌≡◌, ℕ, ◌+◌, ◌*◌, ◌<◌, ◌≤◌, ◌^◌, List, ◌++◌, ◌∷◌, [], length, take, OnOk, OnErr};
+ghost use Rattle.std.specs.Prelude.{◌≡◌, ℕ, ◌+◌, ◌*◌, ◌<◌, ◌≤◌, ◌^◌, List, ◌++◌, ◌∷◌, [], length, take};
 ghost use Rattle.std.specs.List.{flat_map};
 ghost use Rattle.lbk_rules.specs.Labels.{label_of};
+ghost use Rattle.lbk_notation.specs.Written.{AppendsAll};
 ghost use Rattle.lbk_cmd.specs.Adding.{Adds};
 ghost use Rattle.lbk_cmd.specs.Placing.{Placed, PlacedIn};
 ghost use Rattle.lbk_cmd.specs.Segment.{kind_name, part, passage_lines, segment_line, word_line};
@@ -48,8 +49,7 @@ fn push_passage(
     end: u64,
 ) -> Result<(), AllocError>
     requires { (start < 2 ^ 63) × (end < 2 ^ 63) }
-    ensures line { OnOk result (out.new.items ≡ out.old.items ++ (part (80 ∷ []) start end ++ 10 ∷ [])) }
-    ensures kept { OnErr result (out.new.items ≡ out.old.items) }
+    ensures { AppendsAll out.old.items out.new.items (part (80 ∷ []) start end ++ 10 ∷ []) result }
 {
     let at = out.len();
     out.extend_from_slice(&ROOM[..LINE])?;
@@ -81,10 +81,8 @@ fn push_few<T: HasLine>(
     start: u64,
     parts: &[T],
 ) -> Result<(), AllocError>
-    requires start { start ≤ 2 ^ 62 }
-    requires few { length parts.now ≤ 64 }
-    ensures lines { OnOk result (out.new.items ≡ out.old.items ++ flat_map (T.line start) parts.now) }
-    ensures kept { OnErr result (out.new.items ≡ out.old.items) }
+    requires { (start ≤ 2 ^ 62) × (length parts.now ≤ 64) }
+    ensures { AppendsAll out.old.items out.new.items (flat_map (T.line start) parts.now) result }
 {
     let at = out.len();
     out.extend_from_slice(&ROOM[..LINE * parts.len()])?;
@@ -101,8 +99,7 @@ fn place_lines<T: HasLine>(
     start: u64,
     parts: &[T],
 ) -> usize
-    requires start { start ≤ 2 ^ 62 }
-    requires room { at + 64 * length parts.now ≤ length buf.old }
+    requires { (start ≤ 2 ^ 62) × (at + 64 * length parts.now ≤ length buf.old) }
     ensures { Placed buf.old buf.new at (flat_map (T.line start) parts.now) result }
 {
     let mut behind = at;

@@ -10,7 +10,7 @@ ghost use Rattle.lbk_passage.specs.Marks.{marks, ended};
 ghost use Rattle.lbk_rules.specs.Answers.{written};
 ghost use Rattle.lbk_cmd.specs.Adding.{Adds};
 ghost use Rattle.lbk_cmd.specs.Show.{verdicts_of};
-ghost use Rattle.lbk_cmd.specs.Deciding.{placed};
+ghost use Rattle.lbk_cmd.specs.Deciding.{IsPassageText, placed};
 
 use lbk_notation::{Form, mark_of, push_mark, push_scalar};
 use lbk_rules::{CellSource, Kind, Profile, Rule, Stepper, Verdict};
@@ -25,8 +25,7 @@ pub fn decide<C: CellSource>(
     end: Verdict,
     verdicts: &mut Vec<Verdict>,
 ) -> Result<(), AllocError>
-    requires some { 0 < length text.now }
-    requires few { length text.now < 2 ^ 32 }
+    requires { IsPassageText text.now }
     ensures verdicts { OnOk result (verdicts.new.items
         ≡ verdicts_of (ended end (marks profile (C.cell_of cells.now) (chars text.now)))) }
     ensures many { OnOk result (length verdicts.new.items ≡ length (chars text.now) + 1) }

@@ -7,7 +7,7 @@ use Rattle.lbk_ucd.specs.declared.which.Which.TheVariants.{LineBreak, EastAsianW
 use Rattle.lbk_ucd.specs.Files.{AreLawful, IsRefused}
 use Rattle.lbk_rules.specs.declared.Cell.{Cell}
 use Rattle.lbk_rules.specs.Cells.{AreCellsOf}
-use Rattle.lbk_files.specs.Store.{IsFront, IsUnreadable}
+use Rattle.lbk_files.specs.Store.{IsFront, IsUnreadable, LoadCounts}
 use Rattle.lbk_ucd.specs.Digests.{IsPublished}
 use Rattle.lbk_ucd.specs.Published.{IsClaimCause}
 use Rattle.lbk_ucd.specs.declared.published.ClaimCause.{ClaimCause}
@@ -69,14 +69,6 @@ pub record AreCellsFrom (four : FourFiles) (cell : ℕ → Cell) : Type 0 where
   pub loaded : AreLoaded four files
   pub lawful : AreLawful files
   pub cells : AreCellsOf files cell
-
--- how many loads a store has made, and how many of these ran out of memory
-pub record LoadCounts : Type 0 where
-  pub made : ℕ
-  pub refused : ℕ
-
-abbrev pub counts_of : ℕ → ℕ → LoadCounts
-counts_of made refused = record { made = made; refused = refused }
 
 -- how many loads were made up to that of a file, after so many: one for each
 abbrev pub loads_to : Which → ℕ → ℕ

@@ -6,6 +6,7 @@ pub mod Store
 pub mod MemoryStore
 pub mod FileStore
 pub mod FileFault
+pub mod Taking
 pub mod Named
 pub mod SampleFiles
 pub mod Ready

@@ -4,8 +4,9 @@ use Rattle.lbk_rules.specs.CellPages.{page_cell}
 use Rattle.lbk_args.specs.Accepted.{faults_of}
 use Rattle.lbk_args.specs.Refusal.{HasFault, IsCallForHelp, IsMistake}
 use Rattle.lbk_args.specs.Task.{Task}
-use Rattle.lbk_files.specs.FileFault.{AreCellsFrom, IsFileFault, LoadCounts}
+use Rattle.lbk_files.specs.FileFault.{AreCellsFrom, IsFileFault}
 use Rattle.lbk_files.specs.Named.{files_of}
+use Rattle.lbk_files.specs.Store.{LoadCounts}
 use Rattle.lbk_files.specs.declared.faults.CellsFault.TheVariants.{Memory}
 use Rattle.lbk_files.specs.declared.faults.NotReady.{NotReady}
 use Rattle.lbk_files.specs.declared.faults.NotReady.TheVariants.{Help, Usage, Refused}

@@ -1,5 +1,6 @@
 -- The result of a load, by what the store tells about the file.
-use Rattle.std.specs.Prelude.{◌≡◌, ℕ, ◌+◌, List, take, Option, None, Some, Result, Ok, Err, ⊤}
+use Rattle.std.specs.Prelude.{◌≡◌, ℕ, ◌+◌, ◌≤◌, List, take, Option, None, Some, Result, Ok, Err, IfOk, MatchResult, ⊤}
+use Rattle.std.specs.Prelude.{Vec, vec_len}
 use Rattle.lbk_feed.specs.Devices.{count_up}
 use Rattle.lbk_files.specs.declared.store.LoadFault.{LoadFault}
 use Rattle.lbk_files.specs.declared.store.LoadFault.TheVariants.{Unreadable, Memory}
@@ -25,3 +26,19 @@ abbrev pub refusals_after : {T : Type 0} → ℕ → Result T LoadFault → ℕ
 refusals_after n (Ok _) = n
 refusals_after n (Err Unreadable) = n
 refusals_after n (Err Memory) = count_up n
+
+-- how many loads a store has made, and how many of these ran out of memory
+pub record LoadCounts : Type 0 where
+  pub made : ℕ
+  pub refused : ℕ
+
+abbrev pub counts_of : ℕ → ℕ → LoadCounts
+counts_of made refused = record { made = made; refused = refused }
+
+-- one load of the first most + 1 bytes of a file, by what the store tells about the file
+pub record Loads {Z : Type 0} (told : Option (Option (List ℕ))) (most : ℕ) (before after : LoadCounts)
+    (result : Result (Vec ℕ Z) LoadFault) : Type 0 where
+  pub loaded : MatchResult result (λ bytes. IsFront told most bytes.items) (IsLoadFault told)
+  pub within : IfOk result (λ bytes. vec_len bytes ≤ most + 1)
+  pub made : after.made ≡ count_up before.made
+  pub refused : after.refused ≡ refusals_after before.refused result

@@ -1,9 +1,8 @@
 //! A store that opens files by their names.
 
-ghost use Rattle.std.specs.Prelude.{◌≡◌, ℕ, ◌+◌, ◌-◌, ◌^◌, ◌<◌, ◌≤◌, List, Option, vec_len, IfErr, IfOk, MatchResult};
-ghost use Rattle.lbk_feed.specs.Devices.{count_up};
+ghost use Rattle.std.specs.Prelude.{◌≡◌, ℕ, ◌+◌, ◌≤◌, List, Option, vec_len, IfErr, IfOk};
 ghost use Rattle.lbk_files.specs.FileStore.{AreLeft, IsRefusalOf, loads_of, opener_of, refusals_of, tells};
-ghost use Rattle.lbk_files.specs.Store.{IsFront, IsLoadFault, refusals_after};
+ghost use Rattle.lbk_files.specs.Store.{IsFront, IsLoadFault, Loads, counts_of};
 
 use super::front::read_front;
 use super::store::{LoadFault, Store};
@@ -58,16 +57,12 @@ impl<'a, O: Opens> Store for FileStore<'a, O> {
 
     /// The first `most + 1` bytes of an open file, or all of them if it has fewer.
     fn load(&mut self, alloc: Global, name: &str, most: usize) -> Result<Vec<u8>, LoadFault>
-        requires { most < 2 ^ 64 - 1 }
         ensures front { IfOk result (λ bytes. IsFront (O.contents (opener_of self.old) name.now) most bytes.items) }
         ensures fault { IfErr result (IsRefusalOf O.File.Source (O.contents (opener_of self.old) name.now)) }
         ensures opener { opener_of self.new ≡ opener_of self.old }
-        ensures loaded { MatchResult result (λ bytes. IsFront (tells self.old name.now) most bytes.items)
-            (IsLoadFault (tells self.old name.now)) }
-        ensures within { IfOk result (λ bytes. vec_len bytes ≤ most + 1) }
+        ensures loads { Loads (tells self.old name.now) most (counts_of (loads_of self.old) (refusals_of self.old))
+            (counts_of (loads_of self.new) (refusals_of self.new)) result }
         ensures files { tells self.new ≡ tells self.old }
-        ensures loads { loads_of self.new ≡ count_up (loads_of self.old) }
-        ensures refusals { refusals_of self.new ≡ refusals_after (refusals_of self.old) result }
     {
         self.loads = self.loads.saturating_add(1);
         let loaded = front_of(alloc, self.opener, name, most);
@@ -93,7 +88,6 @@ fn front_of<O: Opens>(
     name: &str,
     most: usize,
 ) -> Result<Vec<u8>, LoadFault>
-    requires { most < 2 ^ 64 - 1 }
     ensures front { IfOk result (λ bytes. IsFront (O.contents opener.now name.now) most bytes.items) }
     ensures fault { IfErr result (IsRefusalOf O.File.Source (O.contents opener.now name.now)) }
     ensures within { IfOk result (λ bytes. vec_len bytes ≤ most + 1) }

@@ -1,6 +1,6 @@
 //! The first bytes of a reader.
 
-ghost use Rattle.std.specs.Prelude.{◌≡◌, ◌+◌, ◌-◌, ◌^◌, ◌<◌, ◌≤◌, take, vec_len, Err, IfOk, IfSome, IsErrOf, IsTrue};
+ghost use Rattle.std.specs.Prelude.{◌≡◌, ◌+◌, ◌<◌, ◌≤◌, take, vec_len, Err, IfOk, IfSome, IsErrOf, IsTrue};
 ghost use Rattle.std.specs.Io.KnownBytes.{Consumes};
 ghost use Rattle.lbk_feed.specs.Devices.{count_up};
 
@@ -19,7 +19,6 @@ pub fn read_front<R: Source>(
     reader: &mut R,
     most: usize,
 ) -> Result<Vec<u8>, LoadFault>
-    requires { most < 2 ^ 64 - 1 }
     ensures front { IfOk result (λ bytes. IfSome (R.unread reader.old) (λ all. bytes.items ≡ take (most + 1) all)) }
     ensures taken { IfOk result (λ bytes. Consumes (R.unread reader.old) (R.unread reader.new) bytes.items) }
     ensures within { IfOk result (λ bytes. vec_len bytes ≤ most + 1) }
@@ -34,7 +33,7 @@ pub fn read_front<R: Source>(
     let mut front = Vec::new(alloc);
     let mut block = [0u8; BLOCK];
     while front.len() <= most {
-        let room = BLOCK.min(most - front.len() + 1);
+        let room = BLOCK.min((most - front.len()).saturating_add(1));
         let Ok(count) = reader.read(&mut block[..room]) else {
             return Err(LoadFault::Unreadable);
         };

@@ -1,11 +1,9 @@
 //! Loads the four files that arguments name, in order, and reads them.
 
-ghost use Rattle.std.specs.Prelude.{◌≡◌, ◌+◌, ◌<◌, ◌≤◌, Err, MatchResult, OnOk, true};
-ghost use Rattle.lbk_feed.specs.Devices.{count_up};
-ghost use Rattle.lbk_rules.specs.CellPages.{page_cell};
-ghost use Rattle.lbk_files.specs.FileFault.{AreCellsFrom, IsFileFault, IsLoaded, counts_of, loads_to};
-ghost use Rattle.lbk_files.specs.Named.{IsOneFault, files_of, told_of};
-ghost use Rattle.lbk_files.specs.Places.{files_at, refusals_by, told_at};
+ghost use Rattle.std.specs.Prelude.{true};
+ghost use Rattle.lbk_files.specs.Named.{files_of, told_of};
+ghost use Rattle.lbk_files.specs.Places.{LoadsOne, files_at, told_at};
+ghost use Rattle.lbk_files.specs.Taking.{ReadsFiles};
 ghost use Rattle.lbk_args.specs.Task.{files_of_names, given};
 
 use super::cells::read_cells;
@@ -29,15 +27,7 @@ pub fn load_cells<S: Store>(
     names: &FileNames<'_>,
     store: &mut S,
 ) -> Result<CellPages, CellsFault>
-    ensures loaded { MatchResult result
-        (λ pages. AreCellsFrom (files_of (S.file store.old) (files_of_names names.now)) (page_cell pages))
-        (IsFileFault (files_of (S.file store.old) (files_of_names names.now))
-        (counts_of (S.load_count store.old) (S.refusal_count store.old))
-        (counts_of (S.load_count store.new) (S.refusal_count store.new))) }
-    ensures refused { S.refusal_count store.old < S.refusal_count store.new → result ≡ Err CellsFault.Memory }
-    ensures files { S.file store.new ≡ S.file store.old }
-    ensures loads { S.load_count store.new ≤ S.load_count store.old + 4 }
-    ensures all { OnOk result (S.load_count store.new ≡ loads_to Which.Emoji (S.load_count store.old)) }
+    ensures { ReadsFiles S.Store store.old store.new (files_of (S.file store.old) (files_of_names names.now)) result }
 {
     // All names are made before the first load.
     match places_of(alloc, names) {
@@ -52,15 +42,7 @@ fn load_places<S: Store>(
     places: &Places<'_>,
     store: &mut S,
 ) -> Result<CellPages, CellsFault>
-    ensures loaded { MatchResult result
-        (λ pages. AreCellsFrom (files_at (S.file store.old) places.now) (page_cell pages))
-        (IsFileFault (files_at (S.file store.old) places.now)
-        (counts_of (S.load_count store.old) (S.refusal_count store.old))
-        (counts_of (S.load_count store.new) (S.refusal_count store.new))) }
-    ensures refused { S.refusal_count store.old < S.refusal_count store.new → result ≡ Err CellsFault.Memory }
-    ensures files { S.file store.new ≡ S.file store.old }
-    ensures loads { S.load_count store.new ≤ S.load_count store.old + 4 }
-    ensures all { OnOk result (S.load_count store.new ≡ loads_to Which.Emoji (S.load_count store.old)) }
+    ensures { ReadsFiles S.Store store.old store.new (files_at (S.file store.old) places.now) result }
 {
     let line_break = load_file(alloc, &places.line_break, store, Which::LineBreak)?;
     let east_asian = load_file(alloc, &places.east_asian, store, Which::EastAsianWidth)?;
@@ -84,11 +66,7 @@ fn load_file<S: Store>(
     store: &mut S,
     which: Which,
 ) -> Result<Vec<u8>, CellsFault>
-    ensures loaded { MatchResult result (λ bytes. IsLoaded which (told_at (S.file store.old) place.now) bytes.items)
-        (IsOneFault which (told_at (S.file store.old) place.now)) }
-    ensures refusals { S.refusal_count store.new ≡ refusals_by (S.refusal_count store.old) result }
-    ensures files { S.file store.new ≡ S.file store.old }
-    ensures loads { S.load_count store.new ≡ count_up (S.load_count store.old) }
+    ensures { LoadsOne S.Store store.old store.new which (told_at (S.file store.old) place.now) result }
 {
     match place {
         Place::Given(name) => load_named(alloc, name, store, which),
@@ -103,12 +81,8 @@ fn load_claimed<S: Store>(
     store: &mut S,
     which: Which,
 ) -> Result<Vec<u8>, CellsFault>
-    ensures loaded { MatchResult result
-        (λ bytes. IsLoaded which (record { contents = S.file store.old name.now; is_claimed = true }) bytes.items)
-        (IsOneFault which (record { contents = S.file store.old name.now; is_claimed = true })) }
-    ensures refusals { S.refusal_count store.new ≡ refusals_by (S.refusal_count store.old) result }
-    ensures files { S.file store.new ≡ S.file store.old }
-    ensures loads { S.load_count store.new ≡ count_up (S.load_count store.old) }
+    ensures { LoadsOne S.Store store.old store.new which
+        (record { contents = S.file store.old name.now; is_claimed = true }) result }
 {
     let bytes = load_named(alloc, name, store, which)?;
     match check_claim(which, &bytes) {
@@ -125,12 +99,7 @@ fn load_named<S: Store>(
     store: &mut S,
     which: Which,
 ) -> Result<Vec<u8>, CellsFault>
-    ensures loaded { MatchResult result
-        (λ bytes. IsLoaded which (told_of (S.file store.old) which (given name.now)) bytes.items)
-        (IsOneFault which (told_of (S.file store.old) which (given name.now))) }
-    ensures refusals { S.refusal_count store.new ≡ refusals_by (S.refusal_count store.old) result }
-    ensures files { S.file store.new ≡ S.file store.old }
-    ensures loads { S.load_count store.new ≡ count_up (S.load_count store.old) }
+    ensures { LoadsOne S.Store store.old store.new which (told_of (S.file store.old) which (given name.now)) result }
 {
     // Loads one more byte, so that a longer file is refused as too long.
     match store.load(alloc, name, LONGEST_FILE) {

@@ -64,7 +64,7 @@ impl Store for MemoryStore<'_> {
         let Some(contents) = self.contents(name) else {
             return Err(LoadFault::Unreadable);
         };
-        let len = contents.len().min(most + 1);
+        let len = contents.len().min(most.saturating_add(1));
         let Ok(bytes) = Vec::from_slice(alloc, &contents[..len]) else {
             self.refusals = self.refusals.saturating_add(1);
             return Err(LoadFault::Memory);

@@ -1,12 +1,14 @@
 //! From the arguments to an engine with its cells.
 
-ghost use Rattle.std.specs.Prelude.{◌≡◌, ◌+◌, ◌<◌, ◌≤◌, Some, Err, MatchResult, map};
+ghost use Rattle.std.specs.Prelude.{◌≡◌, Some, Err, MatchResult, map};
 ghost use Rattle.lbk_args.specs.Accepted.{AreAccepted};
 ghost use Rattle.lbk_args.specs.Task.{Task, files_of_names, task_by, task_of};
 ghost use Rattle.lbk_args.specs.PlainWords.{IsPlainFor};
-ghost use Rattle.lbk_files.specs.FileFault.{IsFileFault, counts_of};
+ghost use Rattle.lbk_files.specs.FileFault.{IsFileFault};
 ghost use Rattle.lbk_files.specs.Named.{files_of};
 ghost use Rattle.lbk_files.specs.Ready.{IsReadyFor, IsStoppedByWords, IsWantOfMemory};
+ghost use Rattle.lbk_files.specs.Store.{counts_of};
+ghost use Rattle.lbk_files.specs.Taking.{TakesFiles};
 
 use super::faults::{CellsFault, NotReady};
 use super::loading::load_cells;
@@ -61,9 +63,7 @@ pub fn prepare<'a, S: Store>(
         (IsFileFault (files_of (S.file store.old) (files_of_names order.entry.files))
         (counts_of (S.load_count store.old) (S.refusal_count store.old))
         (counts_of (S.load_count store.new) (S.refusal_count store.new))) }
-    ensures refused { S.refusal_count store.old < S.refusal_count store.new → result ≡ Err CellsFault.Memory }
-    ensures loads { S.load_count store.new ≤ S.load_count store.old + 4 }
-    ensures files { S.file store.new ≡ S.file store.old }
+    ensures takes { TakesFiles S.Store store.old store.new (result ≡ Err CellsFault.Memory) }
 {
     let cells = load_cells(alloc, &order.files, store)?;
     Ok(Ready {

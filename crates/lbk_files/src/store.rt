@@ -1,8 +1,7 @@
 //! Sources of files.
 
-ghost use Rattle.std.specs.Prelude.{◌≡◌, ℕ, ◌+◌, ◌-◌, ◌^◌, ◌<◌, ◌≤◌, List, Option, vec_len, IfOk, MatchResult};
-ghost use Rattle.lbk_feed.specs.Devices.{count_up};
-ghost use Rattle.lbk_files.specs.Store.{IsFront, IsLoadFault, refusals_after};
+ghost use Rattle.std.specs.Prelude.{◌≡◌, ℕ, List, Option};
+ghost use Rattle.lbk_files.specs.Store.{Loads, counts_of};
 
 use std::alloc::Global;
 
@@ -36,13 +35,9 @@ pub trait Store {
     /// Returns `Unreadable` if it cannot be opened or read, and `Memory` if memory could not grow. No load changes what
     /// the store tells.
     fn load(&mut self, alloc: Global, name: &str, most: usize) -> Result<Vec<u8>, LoadFault>
-        requires { most < 2 ^ 64 - 1 }
-        ensures loaded { MatchResult result (λ bytes. IsFront (file self.old name.now) most bytes.items)
-            (IsLoadFault (file self.old name.now)) }
-        ensures within { IfOk result (λ bytes. vec_len bytes ≤ most + 1) }
-        ensures files { file self.new ≡ file self.old }
-        ensures loads { load_count self.new ≡ count_up (load_count self.old) }
-        ensures refusals { refusal_count self.new ≡ refusals_after (refusal_count self.old) result };
+        ensures loads { Loads (file self.old name.now) most (counts_of (load_count self.old) (refusal_count self.old))
+            (counts_of (load_count self.new) (refusal_count self.new)) result }
+        ensures files { file self.new ≡ file self.old };
 
     /// How many loads were made, including failed ones.
     fn loads(&self) -> u64

@@ -6,6 +6,7 @@ pub mod Written
 pub mod Marked
 pub mod Shown
 pub mod Fault
+pub mod Reading
 pub mod Outcome
 pub mod Stream
 pub mod Findings

@@ -1,7 +1,7 @@
 -- What a replay writes and returns, by what it read.
 use Rattle.std.specs.Prelude.{◌≡◌, ℕ, ◌+◌, ◌<◌, ◌≤◌, Bool, true, false, List, ◌++◌, length, take, Option, None, Some}
-use Rattle.std.specs.Prelude.{Result, Ok, Err, IsErrOf, OnOk}
-use Rattle.std.specs.Io.KnownBytes.{Appends}
+use Rattle.std.specs.Prelude.{Result, Ok, Err, IsErrOf, IsTrue, OnOk}
+use Rattle.std.specs.Io.KnownBytes.{Appends, IsAtEnd}
 use Rattle.lbk_rules.specs.declared.Cell.{Cell}
 use Rattle.lbk_values.specs.declared.profile.Profile.{Profile}
 use Rattle.lbk_notation.specs.declared.findings.Finding.{Finding}
@@ -13,6 +13,8 @@ use Rattle.lbk_notation.specs.Findings.{AreFindings}
 use Rattle.lbk_notation.specs.ReplayText.{text_from, report_of, total_text}
 use Rattle.lbk_feed.specs.Devices.{Reads, count_up}
 use Rattle.lbk_feed.specs.Runs.{HasFailed, IsStopped}
+use Rattle.lbk_feed.specs.declared.traits.Sink.{Ghosts as SinkMembers}
+use Rattle.lbk_feed.specs.declared.traits.Source.{Ghosts as SourceMembers}
 use Rattle.lbk_notation.specs.Stream.{ended_lines, lines_of, longest_stream}
 
 -- the output for the lines that an LF ends
@@ -66,6 +68,15 @@ pub record TellsWrites {X : Type 0} (old new : ℕ) (result : Result X ReplayFau
   pub write_failed : old < new → result ≡ Err Write
   pub failed_writes : new ≡ failed_writes_with old (fault_in result)
   pub none_failed : OnOk result (new ≡ old)
+
+-- what a run of a replay does to its reader and its writer: it fails exactly if one of them did, and reads to the end
+-- if it succeeds
+pub record UsesDevices {R W X : Type 0} (source : SourceMembers R) (sink : SinkMembers W) (reader reader' : R)
+    (writer writer' : W) (result : Result X ReplayFault) : Type 0 where
+  pub ended : OnOk result (IsTrue (source.has_ended reader') × IsAtEnd (source.unread reader'))
+  pub of_reader : TellsReads (source.failure_count reader) (source.failure_count reader') result
+  pub of_writer : TellsWrites (sink.failure_count writer) (sink.failure_count writer') result
+  pub reads : (source.reads_made reader').count ≤ (source.reads_made reader).count + (longest_stream + 1)
 
 -- stopped: the output is a prefix of that of the lines that ended before some offset, or, once the end was reached, of
 -- the replay text

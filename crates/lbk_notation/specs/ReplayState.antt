@@ -1,6 +1,6 @@
 -- The state of a replay, and its steps.
 use Rattle.std.specs.Prelude.{◌≡◌, ℕ, ◌+◌, ◌<◌, ◌≤◌, Bool, true, false, List, [], ◌++◌, length, Option, Result, Ok}
-use Rattle.std.specs.Prelude.{Err, MatchResult}
+use Rattle.std.specs.Prelude.{◌⊎◌, Err, IfErr, MatchResult}
 use Rattle.std.specs.Io.KnownBytes.{Appends}
 use Rattle.lbk_feed.specs.Devices.{Reads}
 use Rattle.lbk_rules.specs.declared.Cell.{Cell}
@@ -8,13 +8,13 @@ use Rattle.lbk_values.specs.declared.profile.Profile.{Profile}
 use Rattle.lbk_notation.specs.declared.findings.Finding.{Finding}
 use Rattle.lbk_notation.specs.declared.findings.Report.{Report}
 use Rattle.lbk_notation.specs.declared.findings.ReplayFault.{ReplayFault}
-use Rattle.lbk_notation.specs.declared.findings.ReplayFault.TheVariants.{Read, Memory}
+use Rattle.lbk_notation.specs.declared.findings.ReplayFault.TheVariants.{Read, Memory, Write}
 use Rattle.lbk_notation.specs.declared.replay_state.ReplayState.{ReplayState}
 use Rattle.lbk_notation.specs.declared.marks.Form.{Form}
 use Rattle.lbk_notation.specs.Fault.{longest}
 use Rattle.lbk_notation.specs.Counted.{counted}
 use Rattle.lbk_notation.specs.Findings.{IsFinding, AreFindings}
-use Rattle.lbk_notation.specs.Replay.{IsOutOfMemory, IsReplayRun, IsReplayText, IsStoppedReplay}
+use Rattle.lbk_notation.specs.Replay.{IsOutOfMemory, IsReplayRun, IsReplayText, IsStoppedReplay, TellsWrites}
 use Rattle.lbk_notation.specs.ReplayText.{finding_text, text_from, report_of}
 use Rattle.lbk_notation.specs.Stream.{cut_of, ended_lines, lines_of}
 
@@ -57,6 +57,11 @@ pub record Settles (cell : ℕ → Cell) (form : Form) (profile : Profile) (old 
 abbrev pub IsStoppedBy : (ℕ → Cell) → Form → Profile → Type 0 → ReplayFault → List ℕ → List ℕ → Type 0
 IsStoppedBy cell form profile ended Memory read out = IsOutOfMemory cell form profile ended read out
 IsStoppedBy cell form profile ended fault read out = IsStoppedReplay cell form profile ended read out
+
+-- a call that only writes: it returns no other fault than `Memory` or `Write`, by the failures of its writer
+pub record OnlyWrites {X : Type 0} (old new : ℕ) (result : Result X ReplayFault) : Type 0 where
+  pub only : IfErr result (λ fault. (fault ≡ Memory) ⊎ (fault ≡ Write))
+  pub writes : TellsWrites old new result
 
 -- what a call that takes some bytes writes
 pub record Uses (cell : ℕ → Cell) (form : Form) (profile : Profile) (old new : ReplayState) (bytes : List ℕ)

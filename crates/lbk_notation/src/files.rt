@@ -1,10 +1,10 @@
 //! Compares whole test files with the rules.
 
-ghost use Rattle.std.specs.Prelude.{◌≡◌, ◌+◌, ◌<◌, ◌≤◌, ◌⊎◌, ℕ, List, [], ◌∷◌, length, take, IsTrue, IfSome, IfOk};
+ghost use Rattle.std.specs.Prelude.{◌≡◌, ◌+◌, ◌<◌, ◌≤◌, ℕ, [], ◌∷◌, length, take, IsTrue, IfSome, IfOk};
 ghost use Rattle.std.specs.Prelude.{IfErr, OnOk};
 ghost use Rattle.std.specs.Io.KnownBytes.{Appends, IsAtEnd};
-ghost use Rattle.lbk_notation.specs.ReplayState.{Ends, HasRead, Uses, is_read_fault_of};
-ghost use Rattle.lbk_notation.specs.Replay.{IsReplayRun, IsReplayed, TellsReads, TellsWrites, is_read_fault};
+ghost use Rattle.lbk_notation.specs.ReplayState.{Ends, HasRead, OnlyWrites, Uses, is_read_fault_of};
+ghost use Rattle.lbk_notation.specs.Replay.{IsReplayRun, IsReplayed, TellsWrites, UsesDevices, is_read_fault};
 ghost use Rattle.lbk_notation.specs.Stream.{longest_stream};
 ghost use Rattle.lbk_feed.specs.Runs.{Ran};
 
@@ -55,12 +55,9 @@ pub fn replay<R: Source, W: Sink, C: CellSource>(
         (W.written writer.new)
         (IsReplayRun (C.cell_of cells.now) form profile (R.reads_made reader.old) (R.reads_made reader.new)
         (IsTrue (R.has_ended reader.new) × IsAtEnd (R.unread reader.new)) result) }
-    ensures ended { OnOk result (IsTrue (R.has_ended reader.new) × IsAtEnd (R.unread reader.new)) }
 
     // When a device's fault is returned, and how much is read.
-    ensures reader { TellsReads (R.failure_count reader.old) (R.failure_count reader.new) result }
-    ensures writes { TellsWrites (W.failure_count writer.old) (W.failure_count writer.new) result }
-    ensures reads { (R.reads_made reader.new).count ≤ (R.reads_made reader.old).count + (longest_stream + 1) }
+    ensures devices { UsesDevices R.Source W.Sink reader.old reader.new writer.old writer.new result }
 {
     let replayer = Replayer {
         cells,
@@ -82,10 +79,7 @@ fn read_all<R: Source, W: Sink, C: CellSource>(
         (W.written writer.new)
         (HasRead (C.cell_of replayer.now.cells.now) replayer.now.form replayer.now.profile
         (R.reads_made reader.old) (R.reads_made reader.new) result) }
-    ensures ended { OnOk result (IsTrue (R.has_ended reader.new) × IsAtEnd (R.unread reader.new)) }
-    ensures reader { TellsReads (R.failure_count reader.old) (R.failure_count reader.new) result }
-    ensures writes { TellsWrites (W.failure_count writer.old) (W.failure_count writer.new) result }
-    ensures reads { (R.reads_made reader.new).count ≤ (R.reads_made reader.old).count + (longest_stream + 1) }
+    ensures devices { UsesDevices R.Source W.Sink reader.old reader.new writer.old writer.new result }
 {
     let mut progress = ReplayState::new(alloc);
     let mut block = [0u8; BLOCK];
@@ -117,8 +111,7 @@ fn take_all<W: Sink, C: CellSource>(
         progress.new
         bytes.now (W.written writer.old) (W.written writer.new) result }
     ensures taken { OnOk result (progress.new.taken ≡ progress.old.taken + length bytes.now) }
-    ensures only { IfErr result (λ fault. (fault ≡ ReplayFault.Memory) ⊎ (fault ≡ ReplayFault.Write)) }
-    ensures writes { TellsWrites (W.failure_count writer.old) (W.failure_count writer.new) result }
+    ensures faults { OnlyWrites (W.failure_count writer.old) (W.failure_count writer.new) result }
 {
     for byte in bytes {
         take(alloc, writer, replayer, progress, *byte)?;
@@ -139,8 +132,7 @@ fn take<W: Sink, C: CellSource>(
         progress.new
         (byte ∷ []) (W.written writer.old) (W.written writer.new) result }
     ensures taken { progress.new.taken ≡ progress.old.taken + 1 }
-    ensures only { IfErr result (λ fault. (fault ≡ ReplayFault.Memory) ⊎ (fault ≡ ReplayFault.Write)) }
-    ensures writes { TellsWrites (W.failure_count writer.old) (W.failure_count writer.new) result }
+    ensures faults { OnlyWrites (W.failure_count writer.old) (W.failure_count writer.new) result }
 {
     if byte != b'\n' {
         progress.add(byte)?;
@@ -159,8 +151,7 @@ fn finish<W: Sink, C: CellSource>(
 ) -> Result<Report, ReplayFault>
     ensures ends { Ends (C.cell_of replayer.now.cells.now) replayer.now.form replayer.now.profile progress
         (W.written writer.old) (W.written writer.new) result }
-    ensures only { IfErr result (λ fault. (fault ≡ ReplayFault.Memory) ⊎ (fault ≡ ReplayFault.Write)) }
-    ensures writes { TellsWrites (W.failure_count writer.old) (W.failure_count writer.new) result }
+    ensures faults { OnlyWrites (W.failure_count writer.old) (W.failure_count writer.new) result }
 {
     let mut progress = progress;
     progress.end_last(alloc, replayer)?;

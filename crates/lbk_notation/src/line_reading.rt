@@ -1,11 +1,9 @@
 //! Reading a line of the notation.
 
-ghost use Rattle.std.specs.Prelude.{◌≡◌, ◌<◌, ◌≤◌, ◌↔◌, Option, Ok, length, IfOk, IfErr, IsErrOf};
-ghost use Rattle.lbk_notation.specs.Fault.{IsFault, longest};
-ghost use Rattle.lbk_notation.specs.Grammar.{IsLine};
-ghost use Rattle.lbk_notation.specs.TestLine.{Line};
+ghost use Rattle.std.specs.Prelude.{◌≡◌, ◌≤◌, Ok, length, IfOk, IfErr};
+ghost use Rattle.lbk_notation.specs.Fault.{longest};
+ghost use Rattle.lbk_notation.specs.Reading.{IsReadAs};
 ghost use Rattle.lbk_notation.specs.Run.{run_line, IsRunFault};
-ghost use Rattle.lbk_notation.specs.declared.faults.LineFault.TheVariants.{LineTooLong};
 
 use super::faults::LineFault;
 use super::marks::Form;
@@ -21,12 +19,7 @@ pub(crate) const LONGEST: usize = 268_435_456;
 /// with the offset where it stops being the start of any line. `Memory` is returned instead of a line with marks if an
 /// allocation fails; the other results need no memory.
 pub fn read_line(alloc: Global, bytes: &[u8], form: Form) -> Result<Option<TestLine>, LineFault>
-    ensures long { IsErrOf result LineTooLong ↔ (longest < length bytes.now) }
-    // The line is one that the grammar relates to the bytes, and it relates no other.
-    ensures found { IfOk result (λ line. IsLine form bytes.now line) }
-    ensures only { IfOk result (λ line. (other : Option Line) → IsLine form bytes.now other → other ≡ line) }
-    // For `Bad` the bytes are outside the grammar, from the offset on; for `Memory` they are a line with marks.
-    ensures fault { IfErr result (λ fault. IsFault form bytes.now fault) }
+    ensures { IsReadAs form bytes.now result }
 {
     if bytes.len() > LONGEST {
         return Err(LineFault::LineTooLong);

@@ -1,16 +1,14 @@
 //! Round trips: a written line is read back.
 
-ghost use Rattle.std.specs.Prelude.{◌≡◌, ◌+◌, ◌<◌, ◌≤◌, ◌⊎◌, ◌↔◌, ℕ, List, Option, Some, length, IfOk, IfErr, OnOk};
-ghost use Rattle.std.specs.Prelude.{IsErrOf};
+ghost use Rattle.std.specs.Prelude.{◌≡◌, ◌+◌, ◌<◌, ◌≤◌, ◌⊎◌, ℕ, List, Some, length, IfOk, IfErr, OnOk};
 ghost use Rattle.std.specs.Char.{IsScalar};
 ghost use Rattle.std.specs.List.{AllByRecursion};
 ghost use Rattle.std.specs.Str.{encode_utf8_all};
 ghost use Rattle.lbk_feed.specs.Text.{greatest_limit};
-ghost use Rattle.lbk_notation.specs.Fault.{IsFault, longest};
-ghost use Rattle.lbk_notation.specs.Grammar.{IsLine};
+ghost use Rattle.lbk_notation.specs.Fault.{longest};
+ghost use Rattle.lbk_notation.specs.Reading.{IsReadAs};
 ghost use Rattle.lbk_notation.specs.declared.marks.Form.TheVariants.{Kinds};
 ghost use Rattle.lbk_notation.specs.Shown.{passage_line, passage_marks};
-ghost use Rattle.lbk_notation.specs.TestLine.{Line};
 ghost use Rattle.lbk_notation.specs.Written.{shown_line, written_line};
 ghost use Rattle.lbk_notation.specs.declared.faults.LineFault.TheVariants.{LineTooLong, Memory};
 ghost use Rattle.lbk_rules.specs.declared.Verdict.{Verdict};
@@ -38,10 +36,7 @@ pub fn read_back(alloc: Global, line: &TestLine, form: Form) -> Result<Option<Te
 /// its comment, is read as the passage's scalars and marks, or `Memory` is returned.
 pub fn read_passage_line(alloc: Global, bytes: &[u8]) -> Result<Option<TestLine>, LineFault>
     // For any bytes, the result of `read_line` in form Kinds.
-    ensures long { IsErrOf result LineTooLong ↔ (longest < length bytes.now) }
-    ensures found { IfOk result (λ line. IsLine Kinds bytes.now line) }
-    ensures only { IfOk result (λ line. (other : Option Line) → IsLine Kinds bytes.now other → other ≡ line) }
-    ensures bad { IfErr result (λ fault. IsFault Kinds bytes.now fault) }
+    ensures read { IsReadAs Kinds bytes.now result }
     // For the line of a passage, its scalars and marks, or out of memory.
     ensures same { (scalars : List ℕ) (verdicts : List Verdict) → bytes.now ≡ passage_line scalars verdicts
         → length verdicts ≡ length scalars + 1 → AllByRecursion (λ scalar. IsScalar scalar) scalars

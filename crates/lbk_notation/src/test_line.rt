@@ -53,7 +53,7 @@ impl TestLine {
     /// The scalars, in order.
     pub fn scalars(&self) -> &[char]
         ensures value { result.now ≡ self.now.scalars }
-        ensures one_less { length self.now.marks ≡ length self.now.scalars + 1 }
+        ensures one_less { length self.now.marks ≡ length result.now + 1 }
     {
         &self.scalars
     }
@@ -61,7 +61,7 @@ impl TestLine {
     /// The marks of all positions, one more than scalars.
     pub fn marks(&self) -> &[Mark]
         ensures value { result.now ≡ self.now.marks }
-        ensures one_more { length self.now.marks ≡ length self.now.scalars + 1 }
+        ensures one_more { length result.now ≡ length self.now.scalars + 1 }
     {
         &self.marks
     }

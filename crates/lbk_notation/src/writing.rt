@@ -5,7 +5,8 @@ ghost use Rattle.std.specs.Prelude.{OnErr, EachIndex, slice_index};
 ghost use Rattle.std.specs.Char.{IsScalar};
 ghost use Rattle.lbk_notation.specs.Grammar.{IsLine, digit_byte, mark_bytes};
 ghost use Rattle.lbk_notation.specs.TestLine.{Line};
-ghost use Rattle.lbk_notation.specs.Written.{HasPut, shown, token, written_marks, written_line, shown_line};
+ghost use Rattle.lbk_notation.specs.Written.{AppendsAll, HasPut, shown, shown_line, token, written_line};
+ghost use Rattle.lbk_notation.specs.Written.{written_marks};
 
 use super::marks::{Form, Mark};
 use super::test_line::TestLine;
@@ -66,8 +67,7 @@ pub fn push_scalar(
 /// Appends a mark to the text, as the form writes it. Returns an error if memory could not grow; the text is unchanged
 /// then.
 pub fn push_mark(text: &mut Vec<u8>, mark: Mark, form: Form) -> Result<(), AllocError>
-    ensures text { OnOk result (text.new.items ≡ text.old.items ++ mark_bytes (shown form mark)) }
-    ensures refused { OnErr result (text.new.items ≡ text.old.items) }
+    ensures { AppendsAll text.old.items text.new.items (mark_bytes (shown form mark)) result }
 {
     // Each mark has its own call with a constant number of bytes.
     match (form, mark) {
@@ -81,8 +81,7 @@ pub fn push_mark(text: &mut Vec<u8>, mark: Mark, form: Form) -> Result<(), Alloc
 /// needed.
 fn push_token(text: &mut Vec<u8>, code: u32) -> Result<(), AllocError>
     requires { code < 0x11_0000 }
-    ensures text { OnOk result (text.new.items ≡ text.old.items ++ (32 ∷ (token code ++ 32 ∷ []))) }
-    ensures refused { OnErr result (text.new.items ≡ text.old.items) }
+    ensures { AppendsAll text.old.items text.new.items (32 ∷ (token code ++ 32 ∷ [])) result }
 {
     let [third, second, first, last] = four_digits(code);
     if code < 0x1_0000 {

@@ -3,8 +3,8 @@ use Rattle.lbk_cmd.specs.Show.{verdicts_of}
 use Rattle.lbk_cmd.proofs.ReadingBack.{one_more}
 use Rattle.lbk_cmd.proofs.broken.read_shown.Goals as goal
 
-pub returns-in-Ok-Some-clause-line : goal.returns-in-Ok-Some-clause-line
-returns-in-Ok-Some-clause-line c = λ ms is readable.
+pub returns-in-Ok-Some : goal.returns-in-Ok-Some
+returns-in-Ok-Some c = λ ms is readable.
     (let same = c.in-Ok-Some.ensures.same (scalars_of ms) (verdicts_of ms) is (one_more ms) readable.scalars in
     let read = c.in-Ok-Some.field-0-is in
     cc)

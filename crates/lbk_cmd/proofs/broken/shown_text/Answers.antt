@@ -5,8 +5,8 @@ use Rattle.lbk_cmd.specs.Run.{by_passage}
 use Rattle.lbk_cmd.proofs.InMemory.{untold_unwritten}
 use Rattle.lbk_cmd.proofs.broken.shown_text.Goals as goal
 
-pub returns-in-Err-Write-clause-refused : goal.returns-in-Err-Write-clause-refused
-returns-in-Err-Write-clause-refused g c =
+pub returns-in-Err-Write : goal.returns-in-Err-Write
+returns-in-Err-Write g c =
     inr (
       refl,
       untold_unwritten _ (by_passage (showing (page_cell c.args.cells.now) c.args.profile c.args.limit)) _ _ c.show.result (c.in-Err-Write.is ∙ ap Err c.in-Err-Write.field-0-is)
@@ -14,4 +14,4 @@ returns-in-Err-Write-clause-refused g c =
     )
 
 pub returns : goal.returns
-returns g c = record { whole = tt; done = tt; refused = inl (search rules) }
+returns g c = inl (search rules)

@@ -1,20 +1,47 @@
-use Rattle.std.proofs.Common.{◌≤◌, ◌∙◌, List, ℕ, Ok, Err, true, false, refl, sym, ap, subst, inl, inr, ⊎_elim, arith, rules}
+use Rattle.std.proofs.Common.{◌∙◌, Bool, List, ℕ, Result, Ok, Err, true, false, refl, sym, ap, subst, inl, inr, ⊎_elim, arith, rules}
 use Rattle.std.proofs.lemmas.Result.{err_from_is_err_and}
 use Rattle.lbk_feed.specs.Devices.{count_up, failures_after}
 use Rattle.lbk_passage.specs.Shown.{state_of}
-use Rattle.lbk_chunks.specs.Cuts.{AreCutsPast}
+use Rattle.lbk_passage.specs.declared.faults.PassageFault.{PassageFault}
 use Rattle.lbk_chunk_reader.specs.Taking.{TakesNext}
-use Rattle.lbk_chunk_reader.specs.Window.{cuts_in, here_in, words_in}
 use Rattle.lbk_cmd.specs.Chunk.{chunking}
-use Rattle.lbk_cmd.specs.Chunking.{BreaksOff, StandsIn, WritesAll}
+use Rattle.lbk_cmd.specs.Chunking.{BreaksOff, IsInOrder, StandsIn, WritesAll}
 use Rattle.lbk_cmd.specs.Run.{failed_reads_with}
 use Rattle.lbk_cmd.specs.Waiting.{waiting_in}
 use Rattle.lbk_cmd.specs.declared.faults.CmdFault.TheVariants as cmd
 use Rattle.lbk_cmd.proofs.Chunking.{chunks_finish, none_settled, text_given}
-use Rattle.lbk_cmd.proofs.ChunkRuns.{Cuts, all-written, broken-off, came, cuts-due, cuts-new, end-met, ended-so, goes-on, known_chunks, last-broken-off, last-in, last-rising, last-told, most, no-limit, ok-no-limit, onward, refused, refused-failures, still-failures, then-in, then-rising, then-told, unwritten-lines, waited, write-no-limit}
+use Rattle.lbk_cmd.proofs.ChunkRuns.{Cuts, CutsDue, all-written, broken-off, came, cuts-due, cuts-new, end-met, ended-so, goes-on, known_chunks, last-broken-off, last-in, last-rising, last-told, most, no-limit, ok-no-limit, onward, refused, refused-failures, still-failures, then-in, then-rising, then-told, unwritten-lines, waited, write-no-limit}
 use Rattle.lbk_cmd.proofs.Gathering.{limit_kept}
 use Rattle.lbk_cmd.proofs.Looping.{ran_unwritten, run_none, whole_run}
+use Rattle.lbk_cmd.proofs.chunked.chunk.Given.{Over}
 use Rattle.lbk_cmd.proofs.chunked.chunk.Goals as goal
+use Rattle.lbk_cmd.proofs.chunked.chunk.Goals.{After-take_next}
+
+-- the lines that were due are written, and the next passage was taken
+due-in : (g : Over) (c : After-take_next g)
+    → CutsDue c.args.asked c.args.limits (g.C.CellSource.cell_of c.args.cells.now) c.args.profile c.args.limit
+    (g.R.Source.unread c.args.reader.now) (g.W.Sink.written c.args.writer.now) (g.R.Source.reads_made c.args.reader.now)
+    (state_of g.C.CellSource.cell_of c.loop-window.segmenter) (state_of g.C.CellSource.cell_of c.write_due.new.segmenter)
+    (g.R.Source.unread c.loop-window.reader) (g.W.Sink.written c.loop-window.writer) (g.W.Sink.written c.write_due.new.writer)
+    (g.R.Source.has_ended c.loop-window.reader) (g.R.Source.reads_made c.loop-window.reader)
+    (waiting_in c.write_due.new.self) c.loop-window.window
+due-in g c =
+    cuts-due c.args.asked c.args.limits (g.C.CellSource.cell_of c.args.cells.now) c.args.profile c.args.limit _ _ _
+    (state_of g.C.CellSource.cell_of c.loop-window.segmenter) (state_of g.C.CellSource.cell_of c.write_due.new.segmenter)
+    _ _ _ _ _ _ _ _ c.loop-window.invariant.cuts c.write_due.ensures.state
+    (⊎_elim inl (λ k. inr (k.0, ap g.W.Sink.written k.1, k.2)) c.in_ok-write_due.ensures.due)
+
+abbrev Takes : (g : Over) → After-take_next g → Result Bool PassageFault → Type 0
+Takes g c answer =
+    TakesNext (state_of g.C.CellSource.cell_of c.write_due.new.segmenter) (state_of g.C.CellSource.cell_of c.take_next.new.segmenter)
+    (g.R.Source.unread c.loop-window.reader) (g.R.Source.unread c.take_next.new.reader)
+    (g.R.Source.has_ended c.loop-window.reader) (g.R.Source.has_ended c.take_next.new.reader)
+    (g.R.Source.reads_made c.loop-window.reader) (g.R.Source.reads_made c.take_next.new.reader)
+    (g.R.Source.failure_count c.loop-window.reader) (g.R.Source.failure_count c.take_next.new.reader)
+    c.loop-window.window c.take_next.new.self answer
+
+taken-in : (g : Over) (c : After-take_next g) → Takes g c c.take_next.result
+taken-in g c = c.take_next.ensures (due-in g c).cuts.chunked.stands.words
 
 pub returns-in_err-segmenter : goal.returns-in_err-segmenter
 returns-in_err-segmenter g c =
@@ -66,60 +93,34 @@ returns-in_err-write_due g c =
       failed_writes = c.write_due.ensures.failures ∙ ap (failures_after (g.W.Sink.failure_count l.writer)) c.in_err-write_due.was ∙ ap count_up l.invariant.write_failures;
     })
 
-pub write_chunks-requires-clause-rising : goal.write_chunks-requires-clause-rising
-write_chunks-requires-clause-rising g c =
-    let cell = g.C.CellSource.cell_of c.args.cells.now in
+pub write_chunks-requires : goal.write_chunks-requires
+write_chunks-requires g c =
     let l = c.loop-window in
-    let d = cuts-due c.args.asked c.args.limits cell c.args.profile c.args.limit _ _ _ (state_of g.C.CellSource.cell_of l.segmenter) (state_of g.C.CellSource.cell_of c.write_due.new.segmenter)
-    _ _ _ _ _ _ _ _ l.invariant.cuts c.write_due.ensures.state (⊎_elim inl (λ k. inr (k.0, ap g.W.Sink.written k.1, k.2)) c.in_ok-write_due.ensures.due) in
-    let few : words_in l.window ≤ (state_of g.C.CellSource.cell_of c.write_due.new.segmenter).start = d.cuts.chunked.stands.words in
-    let n = subst (TakesNext (state_of g.C.CellSource.cell_of c.write_due.new.segmenter) (state_of g.C.CellSource.cell_of c.take_next.new.segmenter)
-    (g.R.Source.unread l.reader) (g.R.Source.unread c.take_next.new.reader) (g.R.Source.has_ended l.reader) (g.R.Source.has_ended c.take_next.new.reader)
-    (g.R.Source.reads_made l.reader) (g.R.Source.reads_made c.take_next.new.reader) (g.R.Source.failure_count l.reader) (g.R.Source.failure_count c.take_next.new.reader)
-    l.window c.take_next.new.self) (c.in-Ok-true.is ∙ ap Ok c.in-Ok-true.field-0-test) (c.take_next.ensures few) in
+    let turn = (goal.at.write_chunks-requires g c).After-take_next in
+    let d = due-in g turn in
+    let n = subst (Takes g turn) (c.in-Ok-true.is ∙ ap Ok c.in-Ok-true.field-0-test) (taken-in g turn) in
     let k = came _ _ _ _ _ _ _ _ _ _ _ _ _ _ _ _ _ _ _ _ _ _ d.cuts d.wait n in
-    then-rising _ _ _ _ _ _ _ _ _ _ _ _ _ _ _ _ _ _ _ _ _ _ d.cuts d.wait k
-
-pub write_chunks-requires-clause-told : goal.write_chunks-requires-clause-told
-write_chunks-requires-clause-told g c =
-    let cell = g.C.CellSource.cell_of c.args.cells.now in
-    let l = c.loop-window in
-    let d = cuts-due c.args.asked c.args.limits cell c.args.profile c.args.limit _ _ _ (state_of g.C.CellSource.cell_of l.segmenter) (state_of g.C.CellSource.cell_of c.write_due.new.segmenter)
-    _ _ _ _ _ _ _ _ l.invariant.cuts c.write_due.ensures.state (⊎_elim inl (λ k. inr (k.0, ap g.W.Sink.written k.1, k.2)) c.in_ok-write_due.ensures.due) in
-    let few : words_in l.window ≤ (state_of g.C.CellSource.cell_of c.write_due.new.segmenter).start = d.cuts.chunked.stands.words in
-    let n = subst (TakesNext (state_of g.C.CellSource.cell_of c.write_due.new.segmenter) (state_of g.C.CellSource.cell_of c.take_next.new.segmenter)
-    (g.R.Source.unread l.reader) (g.R.Source.unread c.take_next.new.reader) (g.R.Source.has_ended l.reader) (g.R.Source.has_ended c.take_next.new.reader)
-    (g.R.Source.reads_made l.reader) (g.R.Source.reads_made c.take_next.new.reader) (g.R.Source.failure_count l.reader) (g.R.Source.failure_count c.take_next.new.reader)
-    l.window c.take_next.new.self) (c.in-Ok-true.is ∙ ap Ok c.in-Ok-true.field-0-test) (c.take_next.ensures few) in
-    let k = came _ _ _ _ _ _ _ _ _ _ _ _ _ _ _ _ _ _ _ _ _ _ d.cuts d.wait n in
-    then-told _ _ _ _ _ _ _ _ _ _ _ _ _ _ _ _ _ _ _ _ _ _ d.cuts d.wait k
+    record {
+      rising = then-rising _ _ _ _ _ _ _ _ _ _ _ _ _ _ _ _ _ _ _ _ _ _ d.cuts d.wait k;
+      told = then-told _ _ _ _ _ _ _ _ _ _ _ _ _ _ _ _ _ _ _ _ _ _ d.cuts d.wait k;
+    }
 
 pub loop-window-smaller : goal.loop-window-smaller
 loop-window-smaller g c =
-    let cell = g.C.CellSource.cell_of c.args.cells.now in
     let l = c.loop-window in
-    let d = cuts-due c.args.asked c.args.limits cell c.args.profile c.args.limit _ _ _ (state_of g.C.CellSource.cell_of l.segmenter) (state_of g.C.CellSource.cell_of c.write_due.new.segmenter)
-    _ _ _ _ _ _ _ _ l.invariant.cuts c.write_due.ensures.state (⊎_elim inl (λ k. inr (k.0, ap g.W.Sink.written k.1, k.2)) c.in_ok-write_due.ensures.due) in
-    let few : words_in l.window ≤ (state_of g.C.CellSource.cell_of c.write_due.new.segmenter).start = d.cuts.chunked.stands.words in
-    let n = subst (TakesNext (state_of g.C.CellSource.cell_of c.write_due.new.segmenter) (state_of g.C.CellSource.cell_of c.take_next.new.segmenter)
-    (g.R.Source.unread l.reader) (g.R.Source.unread c.take_next.new.reader) (g.R.Source.has_ended l.reader) (g.R.Source.has_ended c.take_next.new.reader)
-    (g.R.Source.reads_made l.reader) (g.R.Source.reads_made c.take_next.new.reader) (g.R.Source.failure_count l.reader) (g.R.Source.failure_count c.take_next.new.reader)
-    l.window c.take_next.new.self) (c.in-Ok-true.is ∙ ap Ok c.in-Ok-true.field-0-test) (c.take_next.ensures few) in
+    let turn = (goal.at.loop-window-smaller g c).After-take_next in
+    let d = due-in g turn in
+    let n = subst (Takes g turn) (c.in-Ok-true.is ∙ ap Ok c.in-Ok-true.field-0-test) (taken-in g turn) in
     let k = came _ _ _ _ _ _ _ _ _ _ _ _ _ _ _ _ _ _ _ _ _ _ d.cuts d.wait n in
     let more = onward _ _ _ _ _ _ _ _ _ _ _ _ _ _ _ _ _ _ _ _ _ _ d.cuts d.wait k in
     omega (arith, d.start, more.0, more.1)
 
 pub loop-window-preserved : goal.loop-window-preserved
 loop-window-preserved g c =
-    let cell = g.C.CellSource.cell_of c.args.cells.now in
     let l = c.loop-window in
-    let d = cuts-due c.args.asked c.args.limits cell c.args.profile c.args.limit _ _ _ (state_of g.C.CellSource.cell_of l.segmenter) (state_of g.C.CellSource.cell_of c.write_due.new.segmenter)
-    _ _ _ _ _ _ _ _ l.invariant.cuts c.write_due.ensures.state (⊎_elim inl (λ k. inr (k.0, ap g.W.Sink.written k.1, k.2)) c.in_ok-write_due.ensures.due) in
-    let few : words_in l.window ≤ (state_of g.C.CellSource.cell_of c.write_due.new.segmenter).start = d.cuts.chunked.stands.words in
-    let n = subst (TakesNext (state_of g.C.CellSource.cell_of c.write_due.new.segmenter) (state_of g.C.CellSource.cell_of c.take_next.new.segmenter)
-    (g.R.Source.unread l.reader) (g.R.Source.unread c.take_next.new.reader) (g.R.Source.has_ended l.reader) (g.R.Source.has_ended c.take_next.new.reader)
-    (g.R.Source.reads_made l.reader) (g.R.Source.reads_made c.take_next.new.reader) (g.R.Source.failure_count l.reader) (g.R.Source.failure_count c.take_next.new.reader)
-    l.window c.take_next.new.self) (c.in-Ok-true.is ∙ ap Ok c.in-Ok-true.field-0-test) (c.take_next.ensures few) in
+    let turn = (goal.at.loop-window-preserved g c).After-take_next in
+    let d = due-in g turn in
+    let n = subst (Takes g turn) (c.in-Ok-true.is ∙ ap Ok c.in-Ok-true.field-0-test) (taken-in g turn) in
     let k = came _ _ _ _ _ _ _ _ _ _ _ _ _ _ _ _ _ _ _ _ _ _ d.cuts d.wait n in
     let gives = c.in_ok-write_chunks-in-Ok-true.ensures.gives _ (then-in _ _ _ _ _ _ _ _ _ _ _ _ _ _ _ _ _ _ _ _ _ _ d.cuts d.wait k) in
     record {
@@ -131,15 +132,10 @@ loop-window-preserved g c =
 
 pub returns-in_err-write_chunks-in-Ok-true : goal.returns-in_err-write_chunks-in-Ok-true
 returns-in_err-write_chunks-in-Ok-true g c =
-    let cell = g.C.CellSource.cell_of c.args.cells.now in
     let l = c.loop-window in
-    let d = cuts-due c.args.asked c.args.limits cell c.args.profile c.args.limit _ _ _ (state_of g.C.CellSource.cell_of l.segmenter) (state_of g.C.CellSource.cell_of c.write_due.new.segmenter)
-    _ _ _ _ _ _ _ _ l.invariant.cuts c.write_due.ensures.state (⊎_elim inl (λ k. inr (k.0, ap g.W.Sink.written k.1, k.2)) c.in_ok-write_due.ensures.due) in
-    let few : words_in l.window ≤ (state_of g.C.CellSource.cell_of c.write_due.new.segmenter).start = d.cuts.chunked.stands.words in
-    let n = subst (TakesNext (state_of g.C.CellSource.cell_of c.write_due.new.segmenter) (state_of g.C.CellSource.cell_of c.take_next.new.segmenter)
-    (g.R.Source.unread l.reader) (g.R.Source.unread c.take_next.new.reader) (g.R.Source.has_ended l.reader) (g.R.Source.has_ended c.take_next.new.reader)
-    (g.R.Source.reads_made l.reader) (g.R.Source.reads_made c.take_next.new.reader) (g.R.Source.failure_count l.reader) (g.R.Source.failure_count c.take_next.new.reader)
-    l.window c.take_next.new.self) (c.in-Ok-true.is ∙ ap Ok c.in-Ok-true.field-0-test) (c.take_next.ensures few) in
+    let turn = (goal.at.returns-in_err-write_chunks-in-Ok-true g c).After-take_next in
+    let d = due-in g turn in
+    let n = subst (Takes g turn) (c.in-Ok-true.is ∙ ap Ok c.in-Ok-true.field-0-test) (taken-in g turn) in
     let k = came _ _ _ _ _ _ _ _ _ _ _ _ _ _ _ _ _ _ _ _ _ _ d.cuts d.wait n in
     let exit = err_from_is_err_and c.from_residual-in_err-write_chunks-in-Ok-true.result c.from_residual-in_err-write_chunks-in-Ok-true.ensures.1 in
     let is = exit.1 ∙ ap Err exit.2 in
@@ -154,45 +150,24 @@ returns-in_err-write_chunks-in-Ok-true g c =
           ∙ ap count_up (c.write_due.ensures.failures ∙ ap (failures_after (g.W.Sink.failure_count l.writer)) c.in_ok-write_due.was ∙ l.invariant.write_failures);
     })
 
-pub write_last-requires-clause-rising : goal.write_last-requires-clause-rising
-write_last-requires-clause-rising g c =
-    let cell = g.C.CellSource.cell_of c.args.cells.now in
+pub write_last-requires : goal.write_last-requires
+write_last-requires g c =
     let l = c.loop-window in
-    let d = cuts-due c.args.asked c.args.limits cell c.args.profile c.args.limit _ _ _ (state_of g.C.CellSource.cell_of l.segmenter) (state_of g.C.CellSource.cell_of c.write_due.new.segmenter)
-    _ _ _ _ _ _ _ _ l.invariant.cuts c.write_due.ensures.state (⊎_elim inl (λ k. inr (k.0, ap g.W.Sink.written k.1, k.2)) c.in_ok-write_due.ensures.due) in
-    let few : words_in l.window ≤ (state_of g.C.CellSource.cell_of c.write_due.new.segmenter).start = d.cuts.chunked.stands.words in
-    let n = subst (TakesNext (state_of g.C.CellSource.cell_of c.write_due.new.segmenter) (state_of g.C.CellSource.cell_of c.take_next.new.segmenter)
-    (g.R.Source.unread l.reader) (g.R.Source.unread c.take_next.new.reader) (g.R.Source.has_ended l.reader) (g.R.Source.has_ended c.take_next.new.reader)
-    (g.R.Source.reads_made l.reader) (g.R.Source.reads_made c.take_next.new.reader) (g.R.Source.failure_count l.reader) (g.R.Source.failure_count c.take_next.new.reader)
-    l.window c.take_next.new.self) (c.in-Ok-false.is ∙ ap Ok c.in-Ok-false.field-0-test) (c.take_next.ensures few) in
+    let turn = (goal.at.write_last-requires g c).After-take_next in
+    let d = due-in g turn in
+    let n = subst (Takes g turn) (c.in-Ok-false.is ∙ ap Ok c.in-Ok-false.field-0-test) (taken-in g turn) in
     let k = ended-so _ _ _ _ _ _ _ _ _ _ _ _ _ _ _ _ _ _ _ _ _ _ d.cuts d.wait n in
-    subst (λ x. AreCutsPast (here_in x).start (cuts_in x)) (sym k.1) (last-rising _ _ _ _ _ _ _ _ _ _ _ _ _ _ _ _ _ 0 0 _ _ l.window d.cuts d.wait k.0)
-
-pub write_last-requires-clause-told : goal.write_last-requires-clause-told
-write_last-requires-clause-told g c =
-    let cell = g.C.CellSource.cell_of c.args.cells.now in
-    let l = c.loop-window in
-    let d = cuts-due c.args.asked c.args.limits cell c.args.profile c.args.limit _ _ _ (state_of g.C.CellSource.cell_of l.segmenter) (state_of g.C.CellSource.cell_of c.write_due.new.segmenter)
-    _ _ _ _ _ _ _ _ l.invariant.cuts c.write_due.ensures.state (⊎_elim inl (λ k. inr (k.0, ap g.W.Sink.written k.1, k.2)) c.in_ok-write_due.ensures.due) in
-    let few : words_in l.window ≤ (state_of g.C.CellSource.cell_of c.write_due.new.segmenter).start = d.cuts.chunked.stands.words in
-    let n = subst (TakesNext (state_of g.C.CellSource.cell_of c.write_due.new.segmenter) (state_of g.C.CellSource.cell_of c.take_next.new.segmenter)
-    (g.R.Source.unread l.reader) (g.R.Source.unread c.take_next.new.reader) (g.R.Source.has_ended l.reader) (g.R.Source.has_ended c.take_next.new.reader)
-    (g.R.Source.reads_made l.reader) (g.R.Source.reads_made c.take_next.new.reader) (g.R.Source.failure_count l.reader) (g.R.Source.failure_count c.take_next.new.reader)
-    l.window c.take_next.new.self) (c.in-Ok-false.is ∙ ap Ok c.in-Ok-false.field-0-test) (c.take_next.ensures few) in
-    let k = ended-so _ _ _ _ _ _ _ _ _ _ _ _ _ _ _ _ _ _ _ _ _ _ d.cuts d.wait n in
-    subst (λ x. (here_in x).start ≤ (here_in x).told) (sym k.1) (last-told _ _ _ _ _ _ _ _ _ _ _ _ _ _ _ _ _ 0 0 _ _ l.window d.cuts d.wait k.0)
+    subst IsInOrder (sym k.1) (record {
+      rising = last-rising _ _ _ _ _ _ _ _ _ _ _ _ _ _ _ _ _ 0 0 _ _ l.window d.cuts d.wait k.0;
+      told = last-told _ _ _ _ _ _ _ _ _ _ _ _ _ _ _ _ _ 0 0 _ _ l.window d.cuts d.wait k.0;
+    })
 
 pub returns-in_err-write_last-in-Ok-false : goal.returns-in_err-write_last-in-Ok-false
 returns-in_err-write_last-in-Ok-false g c =
-    let cell = g.C.CellSource.cell_of c.args.cells.now in
     let l = c.loop-window in
-    let d = cuts-due c.args.asked c.args.limits cell c.args.profile c.args.limit _ _ _ (state_of g.C.CellSource.cell_of l.segmenter) (state_of g.C.CellSource.cell_of c.write_due.new.segmenter)
-    _ _ _ _ _ _ _ _ l.invariant.cuts c.write_due.ensures.state (⊎_elim inl (λ k. inr (k.0, ap g.W.Sink.written k.1, k.2)) c.in_ok-write_due.ensures.due) in
-    let few : words_in l.window ≤ (state_of g.C.CellSource.cell_of c.write_due.new.segmenter).start = d.cuts.chunked.stands.words in
-    let n = subst (TakesNext (state_of g.C.CellSource.cell_of c.write_due.new.segmenter) (state_of g.C.CellSource.cell_of c.take_next.new.segmenter)
-    (g.R.Source.unread l.reader) (g.R.Source.unread c.take_next.new.reader) (g.R.Source.has_ended l.reader) (g.R.Source.has_ended c.take_next.new.reader)
-    (g.R.Source.reads_made l.reader) (g.R.Source.reads_made c.take_next.new.reader) (g.R.Source.failure_count l.reader) (g.R.Source.failure_count c.take_next.new.reader)
-    l.window c.take_next.new.self) (c.in-Ok-false.is ∙ ap Ok c.in-Ok-false.field-0-test) (c.take_next.ensures few) in
+    let turn = (goal.at.returns-in_err-write_last-in-Ok-false g c).After-take_next in
+    let d = due-in g turn in
+    let n = subst (Takes g turn) (c.in-Ok-false.is ∙ ap Ok c.in-Ok-false.field-0-test) (taken-in g turn) in
     let k = ended-so _ _ _ _ _ _ _ _ _ _ _ _ _ _ _ _ _ _ _ _ _ _ d.cuts d.wait n in
     let text = text_given d.cuts.going.standing.given in
     let exit = err_from_is_err_and c.from_residual-in_err-write_last-in-Ok-false.result c.from_residual-in_err-write_last-in-Ok-false.ensures.1 in
@@ -212,15 +187,10 @@ returns-in_err-write_last-in-Ok-false g c =
 
 pub returns-in-Ok-false : goal.returns-in-Ok-false
 returns-in-Ok-false g c =
-    let cell = g.C.CellSource.cell_of c.args.cells.now in
     let l = c.loop-window in
-    let d = cuts-due c.args.asked c.args.limits cell c.args.profile c.args.limit _ _ _ (state_of g.C.CellSource.cell_of l.segmenter) (state_of g.C.CellSource.cell_of c.write_due.new.segmenter)
-    _ _ _ _ _ _ _ _ l.invariant.cuts c.write_due.ensures.state (⊎_elim inl (λ k. inr (k.0, ap g.W.Sink.written k.1, k.2)) c.in_ok-write_due.ensures.due) in
-    let few : words_in l.window ≤ (state_of g.C.CellSource.cell_of c.write_due.new.segmenter).start = d.cuts.chunked.stands.words in
-    let n = subst (TakesNext (state_of g.C.CellSource.cell_of c.write_due.new.segmenter) (state_of g.C.CellSource.cell_of c.take_next.new.segmenter)
-    (g.R.Source.unread l.reader) (g.R.Source.unread c.take_next.new.reader) (g.R.Source.has_ended l.reader) (g.R.Source.has_ended c.take_next.new.reader)
-    (g.R.Source.reads_made l.reader) (g.R.Source.reads_made c.take_next.new.reader) (g.R.Source.failure_count l.reader) (g.R.Source.failure_count c.take_next.new.reader)
-    l.window c.take_next.new.self) (c.in-Ok-false.is ∙ ap Ok c.in-Ok-false.field-0-test) (c.take_next.ensures few) in
+    let turn = (goal.at.returns-in-Ok-false g c).After-take_next in
+    let d = due-in g turn in
+    let n = subst (Takes g turn) (c.in-Ok-false.is ∙ ap Ok c.in-Ok-false.field-0-test) (taken-in g turn) in
     let k = ended-so _ _ _ _ _ _ _ _ _ _ _ _ _ _ _ _ _ _ _ _ _ _ d.cuts d.wait n in
     let text = text_given d.cuts.going.standing.given in
     let end = end-met _ _ _ _ _ _ _ _ _ _ _ _ _ _ _ _ _ 0 0 _ _ l.window d.cuts d.wait k.0 in
@@ -228,7 +198,7 @@ returns-in-Ok-false g c =
     (subst (λ x. WritesAll c.args.asked text x (g.W.Sink.written c.write_due.new.writer) (g.W.Sink.written c.write_last.new.writer) (waiting_in c.write_due.new.self)) k.1
     (c.in_ok-write_last-in-Ok-false.ensures.all text (subst (StandsIn c.args.asked text) (sym k.1) (last-in _ _ _ _ _ _ _ _ _ _ _ _ _ _ _ _ _ 0 0 _ _ l.window d.cuts d.wait k.0)))) in
     record {
-      shown = known_chunks c.args.asked c.args.limits cell c.args.profile c.args.limit _ _ _ _ _ _ _ run end.1;
+      shown = known_chunks c.args.asked c.args.limits (g.C.CellSource.cell_of c.args.cells.now) c.args.profile c.args.limit _ _ _ _ _ _ _ run end.1;
       ended = (end.0, end.1);
       run = run;
       reads = most _ _ _ _ _ _ _ _ _ _ _ _ _ _ _ _ _ _ _ _ _ _ d.cuts d.wait (Ok false) n;
@@ -240,15 +210,10 @@ returns-in-Ok-false g c =
 
 pub returns-in_err-write-in-Err : goal.returns-in_err-write-in-Err
 returns-in_err-write-in-Err g c =
-    let cell = g.C.CellSource.cell_of c.args.cells.now in
     let l = c.loop-window in
-    let d = cuts-due c.args.asked c.args.limits cell c.args.profile c.args.limit _ _ _ (state_of g.C.CellSource.cell_of l.segmenter) (state_of g.C.CellSource.cell_of c.write_due.new.segmenter)
-    _ _ _ _ _ _ _ _ l.invariant.cuts c.write_due.ensures.state (⊎_elim inl (λ k. inr (k.0, ap g.W.Sink.written k.1, k.2)) c.in_ok-write_due.ensures.due) in
-    let few : words_in l.window ≤ (state_of g.C.CellSource.cell_of c.write_due.new.segmenter).start = d.cuts.chunked.stands.words in
-    let n = subst (TakesNext (state_of g.C.CellSource.cell_of c.write_due.new.segmenter) (state_of g.C.CellSource.cell_of c.take_next.new.segmenter)
-    (g.R.Source.unread l.reader) (g.R.Source.unread c.take_next.new.reader) (g.R.Source.has_ended l.reader) (g.R.Source.has_ended c.take_next.new.reader)
-    (g.R.Source.reads_made l.reader) (g.R.Source.reads_made c.take_next.new.reader) (g.R.Source.failure_count l.reader) (g.R.Source.failure_count c.take_next.new.reader)
-    l.window c.take_next.new.self) (c.in-Err.is) (c.take_next.ensures few) in
+    let turn = (goal.at.returns-in_err-write-in-Err g c).After-take_next in
+    let d = due-in g turn in
+    let n = subst (Takes g turn) (c.in-Err.is) (taken-in g turn) in
     let exit = err_from_is_err_and c.from_residual-in_err-write-in-Err.result c.from_residual-in_err-write-in-Err.ensures.1 in
     let is = exit.1 ∙ ap Err exit.2 in
     let settled = waited (state_of g.C.CellSource.cell_of c.write_due.new.segmenter) (waiting_in c.write_due.new.self) d.wait c.write.result c.in_err-write-in-Err.field-0.0 c.in_err-write-in-Err.was (λ none. (c.write.ensures.out.nothing none).0) in
@@ -266,15 +231,10 @@ returns-in_err-write-in-Err g c =
 
 pub returns-in-Err : goal.returns-in-Err
 returns-in-Err g c =
-    let cell = g.C.CellSource.cell_of c.args.cells.now in
     let l = c.loop-window in
-    let d = cuts-due c.args.asked c.args.limits cell c.args.profile c.args.limit _ _ _ (state_of g.C.CellSource.cell_of l.segmenter) (state_of g.C.CellSource.cell_of c.write_due.new.segmenter)
-    _ _ _ _ _ _ _ _ l.invariant.cuts c.write_due.ensures.state (⊎_elim inl (λ k. inr (k.0, ap g.W.Sink.written k.1, k.2)) c.in_ok-write_due.ensures.due) in
-    let few : words_in l.window ≤ (state_of g.C.CellSource.cell_of c.write_due.new.segmenter).start = d.cuts.chunked.stands.words in
-    let n = subst (TakesNext (state_of g.C.CellSource.cell_of c.write_due.new.segmenter) (state_of g.C.CellSource.cell_of c.take_next.new.segmenter)
-    (g.R.Source.unread l.reader) (g.R.Source.unread c.take_next.new.reader) (g.R.Source.has_ended l.reader) (g.R.Source.has_ended c.take_next.new.reader)
-    (g.R.Source.reads_made l.reader) (g.R.Source.reads_made c.take_next.new.reader) (g.R.Source.failure_count l.reader) (g.R.Source.failure_count c.take_next.new.reader)
-    l.window c.take_next.new.self) (c.in-Err.is) (c.take_next.ensures few) in
+    let turn = (goal.at.returns-in-Err g c).After-take_next in
+    let d = due-in g turn in
+    let n = subst (Takes g turn) (c.in-Err.is) (taken-in g turn) in
     record {
       shown = tt;
       ended = tt;

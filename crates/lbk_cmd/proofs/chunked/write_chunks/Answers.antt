@@ -3,7 +3,7 @@ use Rattle.std.proofs.lemmas.Result.{err_from_is_err_and}
 use Rattle.lbk_feed.specs.Devices.{failures_after}
 use Rattle.lbk_cmd.specs.Chunking.{Breaks, Passes}
 use Rattle.lbk_cmd.specs.Waiting.{waiting_in}
-use Rattle.lbk_cmd.proofs.ChunkGiving.{broke-off, fewer-then, gave-more, gave-none, is-in, kept-text, line-is, rising-then, told-then}
+use Rattle.lbk_cmd.proofs.ChunkGiving.{broke-off, fewer-then, gave-more, gave-none, line-of, rising-then, told-then}
 use Rattle.lbk_cmd.proofs.chunked.write_chunks.Goals as goal
 
 pub loop-chunk-init : goal.loop-chunk-init
@@ -24,13 +24,9 @@ loop-chunk-preserved g c =
     record {
       gave = λ text st.
           let gave = i.gave text st in
-          let kept = kept-text c.args.asked text whole c.args.window.now l.window _ _ _ _ gave c.requires.rising c.requires.told i.rising i.told
-          w' chunk c.next.ensures.limits.0 c.next.ensures.limits.1 c.next.ensures.held c.in-Some.ensures.chunk c.in-Some.ensures.behind in
-          let is = is-in c.args.asked text whole c.args.window.now l.window _ _ _ _ gave c.requires.rising c.requires.told i.rising i.told
-          w' chunk c.next.ensures.limits.0 c.next.ensures.limits.1 c.next.ensures.held c.in-Some.ensures.chunk c.in-Some.ensures.behind in
-          let line = line-is c.args.asked text whole c.args.window.now l.window _ _ _ _ gave c.requires.rising c.requires.told i.rising i.told
+          let line = line-of c.args.asked text whole c.args.window.now l.window _ _ _ _ gave c.requires.rising c.requires.told i.rising i.told
           w' chunk c.next.ensures.limits.0 c.next.ensures.limits.1 c.next.ensures.held c.in-Some.ensures.chunk c.in-Some.ensures.behind
-          _ (c.text_of.ensures text kept is.0 is.1) in
+          _ (λ kept is. c.text_of.ensures text kept is.0 is.1) in
           gave-more c.args.asked text whole c.args.window.now l.window _ _ _ _ gave c.requires.rising c.requires.told i.rising i.told
           w' chunk c.next.ensures.limits.0 c.next.ensures.limits.1 c.next.ensures.held c.in-Some.ensures.chunk c.in-Some.ensures.behind _ _
           (subst (Passes _ _ _ _) line c.in_ok-push.ensures.line);
@@ -53,13 +49,9 @@ returns-in_err-push-clause-gives g c = λ text st.
     let whole = c.args.is_whole in
     let exit = err_from_is_err_and c.from_residual.result c.from_residual.ensures.1 in
     let gave = i.gave text st in
-    let kept = kept-text c.args.asked text whole c.args.window.now l.window _ _ _ _ gave c.requires.rising c.requires.told i.rising i.told
-    w' chunk c.next.ensures.limits.0 c.next.ensures.limits.1 c.next.ensures.held c.in-Some.ensures.chunk c.in-Some.ensures.behind in
-    let is = is-in c.args.asked text whole c.args.window.now l.window _ _ _ _ gave c.requires.rising c.requires.told i.rising i.told
-    w' chunk c.next.ensures.limits.0 c.next.ensures.limits.1 c.next.ensures.held c.in-Some.ensures.chunk c.in-Some.ensures.behind in
-    let line = line-is c.args.asked text whole c.args.window.now l.window _ _ _ _ gave c.requires.rising c.requires.told i.rising i.told
+    let line = line-of c.args.asked text whole c.args.window.now l.window _ _ _ _ gave c.requires.rising c.requires.told i.rising i.told
     w' chunk c.next.ensures.limits.0 c.next.ensures.limits.1 c.next.ensures.held c.in-Some.ensures.chunk c.in-Some.ensures.behind
-    _ (c.text_of.ensures text kept is.0 is.1) in
+    _ (λ kept is. c.text_of.ensures text kept is.0 is.1) in
     rw exit.1 (broke-off c.args.asked text whole c.args.window.now l.window _ _ _ _ gave c.requires.rising c.requires.told i.rising i.told
     w' chunk c.next.ensures.limits.0 c.next.ensures.limits.1 c.next.ensures.held c.in-Some.ensures.chunk c.in-Some.ensures.behind _
     (subst (Breaks _ _ _) line c.in_err-push.ensures.line))

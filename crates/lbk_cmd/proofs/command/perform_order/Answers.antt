@@ -6,32 +6,30 @@ use Rattle.lbk_cmd.proofs.Runs.{ready_performs, same_fault}
 use Rattle.lbk_cmd.proofs.command.perform_order.Goals as goal
 
 pub returns-in-Ok-clause-performs : goal.returns-in-Ok-clause-performs
-returns-in-Ok-clause-performs g c =
-    ready_performs g.T.File.Source (g.S.Store.file c.args.store.now) _ (task_of c.args.order) _ _ c.in-Ok.ready _ _
-    c.in-Ok.ensures.made c.perform.ensures.reads
+returns-in-Ok-clause-performs g c = record {
+  runs = ready_performs g.T.File.Source (g.S.Store.file c.args.store.now) _ (task_of c.args.order) _ _ c.in-Ok.ready _ _
+      c.in-Ok.ensures.made c.perform.ensures.runs;
+  contents = c.perform.ensures.contents;
+}
 
 pub returns-in-Err-clause-performs : goal.returns-in-Err-clause-performs
-returns-in-Err-clause-performs g c =
-    inl ((Refused c.in-Err.fault, inr c.in-Err.ensures.made, c.of_files.ensures, refl), refl)
-
-pub returns-in-Ok-clause-texts : goal.returns-in-Ok-clause-texts
-returns-in-Ok-clause-texts g c = c.perform.ensures.contents
-
-pub returns-in-Err-clause-texts : goal.returns-in-Err-clause-texts
-returns-in-Err-clause-texts g c = refl
+returns-in-Err-clause-performs g c = record {
+  runs = inl ((Refused c.in-Err.fault, inr c.in-Err.ensures.made, c.of_files.ensures, refl), refl);
+  contents = refl;
+}
 
 pub returns-in-Ok-clause-takes : goal.returns-in-Ok-clause-takes
 returns-in-Ok-clause-takes g c = record {
-  refused = λ more. let other = c.in-Ok.ensures.refused more in absurd (cc other);
-  loads = c.in-Ok.ensures.loads;
-  files = c.in-Ok.ensures.files;
+  refused = λ more. let other = c.in-Ok.ensures.takes.refused more in absurd (cc other);
+  loads = c.in-Ok.ensures.takes.loads;
+  files = c.in-Ok.ensures.takes.files;
 }
 
 pub returns-in-Err-clause-takes : goal.returns-in-Err-clause-takes
 returns-in-Err-clause-takes g c = record {
-  refused = λ more. c.of_files.ensures ∙ ap ending_of_files (same_fault _ _ _ refl (c.in-Err.ensures.refused more));
-  loads = c.in-Err.ensures.loads;
-  files = c.in-Err.ensures.files;
+  refused = λ more. c.of_files.ensures ∙ ap ending_of_files (same_fault _ _ _ refl (c.in-Err.ensures.takes.refused more));
+  loads = c.in-Err.ensures.takes.loads;
+  files = c.in-Err.ensures.takes.files;
 }
 
 pub perform-requires : goal.perform-requires

@@ -64,7 +64,7 @@ returns-in_err-write g c =
     let l = c.loop-gathered in
     let d = due (by_passage e) _ _ _ (state_of g.C.CellSource.cell_of l.segmenter) (state_of g.C.CellSource.cell_of c.write_due.new.segmenter) _ _ _ _ _ _ _ l.invariant.going
     c.write_due.ensures.writes.state (⊎_elim inl (λ k. inr (k.0, ap g.W.Sink.written k.1, k.2)) c.in_ok-write_due.ensures.writes.due) in
-    let put = c.put_next-put.ensures.puts c.args.limit in
+    let put = (c.put_next-put.ensures c.args.limit).puts in
     let answer = sym c.end_of.ensures ∙ c.in-Some.is in
     let settled = waits e _ _ _ _ _ _ _ _ _ _ _ _ _ _ _ _ _ _ d.going d.wait put c.in-Some.answer answer c.write.result c.in_err-write.field-0.0 c.in_err-write.was
     (λ none. (c.write.ensures.out.nothing none).0) in
@@ -75,7 +75,7 @@ returns-in_err-write g c =
       run = whole_run (held_back e _ _ _ _ _ _ _ _ _ _ _ _ _ _ _ _ _ _ d.going d.wait put c.in-Some.answer answer settled _ front.0 front.1);
       reads = most e _ _ _ _ _ _ _ _ _ _ _ _ _ _ _ _ _ _ d.going d.wait put;
       limit = limit_kept c.args.limit c.new.result c.in_ok-segmenter.segmenter c.in_ok-segmenter.was c.new.ensures.limit _ (λ same. cc);
-      failed_reads = ap g.R.Source.failure_count (c.put_next-put.ensures.settled settled) ∙ l.invariant.read_failures;
+      failed_reads = ap g.R.Source.failure_count ((c.put_next-put.ensures c.args.limit).settled settled) ∙ l.invariant.read_failures;
       failed_writes = c.write.ensures.out.failures ∙ ap (failures_after (g.W.Sink.failure_count c.write_due.new.writer)) c.in_err-write.was
           ∙ ap count_up (c.write_due.ensures.writes.failures ∙ ap (failures_after (g.W.Sink.failure_count l.writer)) c.in_ok-write_due.was ∙ l.invariant.write_failures);
     })
@@ -86,7 +86,7 @@ returns-in-Some g c =
     let l = c.loop-gathered in
     let d = due (by_passage e) _ _ _ (state_of g.C.CellSource.cell_of l.segmenter) (state_of g.C.CellSource.cell_of c.write_due.new.segmenter) _ _ _ _ _ _ _ l.invariant.going
     c.write_due.ensures.writes.state (⊎_elim inl (λ k. inr (k.0, ap g.W.Sink.written k.1, k.2)) c.in_ok-write_due.ensures.writes.due) in
-    let put = c.put_next-put.ensures.puts c.args.limit in
+    let put = (c.put_next-put.ensures c.args.limit).puts in
     let answer = sym c.end_of.ensures ∙ c.in-Some.is in
     let run = whole_run (ends e _ _ _ _ _ _ _ _ _ _ _ _ _ _ _ _ _ _ d.going d.wait put c.in-Some.answer answer _ c.in_ok-write.ensures.out.written.1) in
     let end = to_its_end e _ _ _ _ _ _ _ _ _ _ _ _ _ _ _ _ _ _ d.going d.wait put c.in-Some.answer answer in
@@ -111,7 +111,7 @@ loop-gathered-smaller g c =
     let l = c.loop-gathered in
     let d = due (by_passage e) _ _ _ (state_of g.C.CellSource.cell_of l.segmenter) (state_of g.C.CellSource.cell_of c.write_due.new.segmenter) _ _ _ _ _ _ _ l.invariant.going
     c.write_due.ensures.writes.state (⊎_elim inl (λ k. inr (k.0, ap g.W.Sink.written k.1, k.2)) c.in_ok-write_due.ensures.writes.due) in
-    let more = on e _ _ _ _ _ _ _ _ _ _ _ _ _ _ _ _ _ _ d.going d.wait (c.put_next-put.ensures.puts c.args.limit) (sym c.end_of.ensures ∙ c.in_default.is) in
+    let more = on e _ _ _ _ _ _ _ _ _ _ _ _ _ _ _ _ _ _ d.going d.wait (c.put_next-put.ensures c.args.limit).puts (sym c.end_of.ensures ∙ c.in_default.is) in
     omega (arith, d.start, more.onward, more.few)
 
 pub loop-gathered-preserved : goal.loop-gathered-preserved
@@ -120,7 +120,7 @@ loop-gathered-preserved g c =
     let l = c.loop-gathered in
     let d = due (by_passage e) _ _ _ (state_of g.C.CellSource.cell_of l.segmenter) (state_of g.C.CellSource.cell_of c.write_due.new.segmenter) _ _ _ _ _ _ _ l.invariant.going
     c.write_due.ensures.writes.state (⊎_elim inl (λ k. inr (k.0, ap g.W.Sink.written k.1, k.2)) c.in_ok-write_due.ensures.writes.due) in
-    let more = on e _ _ _ _ _ _ _ _ _ _ _ _ _ _ _ _ _ _ d.going d.wait (c.put_next-put.ensures.puts c.args.limit) (sym c.end_of.ensures ∙ c.in_default.is) in
+    let more = on e _ _ _ _ _ _ _ _ _ _ _ _ _ _ _ _ _ _ d.going d.wait (c.put_next-put.ensures c.args.limit).puts (sym c.end_of.ensures ∙ c.in_default.is) in
     record {
       going = more.going;
       read_failures = more.none_failed ∙ l.invariant.read_failures;

@@ -3,24 +3,24 @@ use Rattle.lbk_cmd.specs.Acts.{RunsReady}
 use Rattle.lbk_cmd.proofs.Over.{reader_read, texts_read}
 use Rattle.lbk_cmd.proofs.performing.perform.Goals as goal
 
-pub returns-then-is_empty-clause-reads : goal.returns-then-is_empty-clause-reads
-returns-then-is_empty-clause-reads g c =
+pub returns-then-is_empty : goal.returns-then-is_empty
+returns-then-is_empty g c =
     let same : c.as_slice-names.result.now ≡ c.args.ready.now.texts.items = search rules in
-    reader_read g.T.File.Source (g.T.Opens.contents c.args.texts.now) (RunsReady c.args.ready.now)
-    c.as_slice-names.result.now c.args.ready.now.texts.items _ _ same (sym c.is_empty.ensures ∙ c.if-is_empty.true)
-    c.perform_titled.ensures refl
+    record {
+      runs = reader_read g.T.File.Source (g.T.Opens.contents c.args.texts.now) (RunsReady c.args.ready.now)
+          c.as_slice-names.result.now c.args.ready.now.texts.items _ _ same
+          (sym c.is_empty.ensures ∙ c.if-is_empty.true) c.perform_titled.ensures refl;
+      contents = refl;
+    }
 
-pub returns-then-is_empty-clause-contents : goal.returns-then-is_empty-clause-contents
-returns-then-is_empty-clause-contents g c = refl
-
-pub returns-else-is_empty-clause-reads : goal.returns-else-is_empty-clause-reads
-returns-else-is_empty-clause-reads g c =
+pub returns-else-is_empty : goal.returns-else-is_empty
+returns-else-is_empty g c =
     let same : c.as_slice-names.result.now ≡ c.args.ready.now.texts.items = search rules in
-    texts_read g.T.File.Source _ _ c.as_slice-names.result.now c.args.ready.now.texts.items _ _ same (sym c.is_empty.ensures ∙ c.if-is_empty.false)
-    c.perform_all.ensures.reads
-
-pub returns-else-is_empty-clause-contents : goal.returns-else-is_empty-clause-contents
-returns-else-is_empty-clause-contents g c = c.perform_all.ensures.contents
+    record {
+      runs = texts_read g.T.File.Source _ _ c.as_slice-names.result.now c.args.ready.now.texts.items _ _ same
+          (sym c.is_empty.ensures ∙ c.if-is_empty.false) c.perform_all.ensures.runs;
+      contents = c.perform_all.ensures.contents;
+    }
 
 pub perform_all-requires : goal.perform_all-requires
 perform_all-requires g c κs = (refl, tt)

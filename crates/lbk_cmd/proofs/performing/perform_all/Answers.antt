@@ -8,18 +8,19 @@ use Rattle.lbk_cmd.proofs.performing.perform_all.Goals as goal
 pub loop-name-init : goal.loop-name-init
 loop-name-init g c = record { reads = λ after reads. reads; contents = refl }
 
-pub returns-then-is_last-clause-reads : goal.returns-then-is_last-clause-reads
-returns-then-is_last-clause-reads g c =
-    c.loop-name.invariant.reads _ (last_read g.T.File.Source (g.T.Opens.contents c.args.texts.now)
-    (RunsReady c.args.ready.now)
-    c.args.names.now c.loop-name.name-index _ c.loop-name-test.true
-    (standing (devices_of g.R.Source g.W.Sink c.loop-name.reader c.loop-name.writer) (g.T.Texts.refused c.loop-name.texts) c.loop-name.so_far)
-    (devices_of g.R.Source g.W.Sink c.perform_named-ending.new.reader c.perform_named-ending.new.writer) c.perform_named-ending.result
-    (g.T.Opens.contents c.loop-name.texts) c.loop-name.invariant.contents c.perform_named-ending.ensures
-    (sym c.if-is_last.true ∙ c.is_last.ensures))
-
-pub returns-then-is_last-clause-contents : goal.returns-then-is_last-clause-contents
-returns-then-is_last-clause-contents g c = c.loop-name.invariant.contents
+pub returns-then-is_last : goal.returns-then-is_last
+returns-then-is_last g c = record {
+  runs = c.loop-name.invariant.reads _ (last_read g.T.File.Source (g.T.Opens.contents c.args.texts.now)
+      (RunsReady c.args.ready.now)
+      c.args.names.now c.loop-name.name-index _ c.loop-name-test.true
+      (standing (devices_of g.R.Source g.W.Sink c.loop-name.reader c.loop-name.writer)
+      (g.T.Texts.refused c.loop-name.texts) c.loop-name.so_far)
+      (devices_of g.R.Source g.W.Sink c.perform_named-ending.new.reader c.perform_named-ending.new.writer)
+      c.perform_named-ending.result
+      (g.T.Opens.contents c.loop-name.texts) c.loop-name.invariant.contents c.perform_named-ending.ensures
+      (sym c.if-is_last.true ∙ c.is_last.ensures));
+  contents = c.loop-name.invariant.contents;
+}
 
 pub loop-name-preserved : goal.loop-name-preserved
 loop-name-preserved g c = record {
@@ -35,11 +36,10 @@ loop-name-preserved g c = record {
   contents = c.report.ensures.contents ∙ c.loop-name.invariant.contents;
 }
 
-pub returns-clause-reads : goal.returns-clause-reads
-returns-clause-reads g c =
-    c.loop-name.invariant.reads _ (all_read g.T.File.Source (g.T.Opens.contents c.args.texts.now)
-    (RunsReady c.args.ready.now)
-    c.args.names.now c.loop-name.name-index _ (omega arith))
-
-pub returns-clause-contents : goal.returns-clause-contents
-returns-clause-contents g c = c.loop-name.invariant.contents
+pub returns : goal.returns
+returns g c = record {
+  runs = c.loop-name.invariant.reads _ (all_read g.T.File.Source (g.T.Opens.contents c.args.texts.now)
+      (RunsReady c.args.ready.now)
+      c.args.names.now c.loop-name.name-index _ (omega arith));
+  contents = c.loop-name.invariant.contents;
+}

@@ -31,10 +31,10 @@ returns-in-Replay g c = rw (c.in-Replay.is, ← c.form.ensures) (
   record {
     replayed = c.replay.ensures.replayed;
     run = c.replay.ensures.run;
-    ended = c.replay.ensures.ended;
-    failed_reads = c.replay.ensures.reader.failed_reads;
-    failed_writes = c.replay.ensures.writes.failed_writes;
-    reads = c.replay.ensures.reads;
+    ended = c.replay.ensures.devices.ended;
+    failed_reads = c.replay.ensures.devices.of_reader.failed_reads;
+    failed_writes = c.replay.ensures.devices.of_writer.failed_writes;
+    reads = c.replay.ensures.devices.reads;
   },
   c.of_replay.ensures,
 )

@@ -18,7 +18,7 @@ returns c =
     let front = part (80 ∷ []) p.start (p.start + length p.text.now) in
     let segments = flat_map (segment_line p.start) p.segments.now in
     let words = flat_map (word_line p.start) p.pieces.now in
-    let first : one ≡ old ++ (front ++ 10 ∷ []) = c.in_ok-push_passage.ensures.line in
+    let first : one ≡ old ++ (front ++ 10 ∷ []) = c.in_ok-push_passage.ensures.text in
     let second : more ≡ one ++ segments = c.in_ok-push_lines.ensures.all in
     let kept : take (length old) one ≡ old =
     subst (λ l. take (length old) l ≡ old) (sym first) (front_append old old (front ++ 10 ∷ []) (take_all (length old) old (omega arith))) in

@@ -24,7 +24,7 @@ returns-in_err-take_all-clause-run g c =
     rw (p.1, p.2)
     (Ran-stopped _ _ _ c.loop-count.progress c.take_all.new.progress (take count buf) (take counted buf) (drop counted (take count buf))
     _ _ _ _ _ _ c.in_err-take_all.field-0.0 _ _ c.loop-count.invariant.reads c.in-Ok.ensures.bytes.0 c.in_err-take_all.ensures.uses
-    (front-split counted count buf below) (omega (arith, c.min-counted.ensures, c.room.ensures)) c.in_err-take_all.ensures.only
+    (front-split counted count buf below) (omega (arith, c.min-counted.ensures, c.room.ensures)) c.in_err-take_all.ensures.faults.only
     (length-take-le count buf within ∙ sym c.in-Ok.ensures.gave) (omega (arith, c.in-Ok.ensures.reads, c.loop-count.invariant.few)))
 
 pub returns-then-counted-count-clause-run : goal.returns-then-counted-count-clause-run
@@ -55,7 +55,7 @@ loop-count-preserved g c =
           c.loop-count.invariant.reads (rw same c.in-Ok.ensures.bytes.0) c.in_ok-take_all.ensures.uses;
       few = omega (arith, c.in-Ok.ensures.reads, c.in_ok-take_all.ensures.taken, c.loop-count.invariant.few);
       none_failed_to_read = c.in-Ok.ensures.failures ∙ c.loop-count.invariant.none_failed_to_read;
-      none_failed_to_write = c.in_ok-take_all.ensures.writes.none_failed ∙ c.loop-count.invariant.none_failed_to_write;
+      none_failed_to_write = c.in_ok-take_all.ensures.faults.writes.none_failed ∙ c.loop-count.invariant.none_failed_to_write;
     }
 
 pub returns-in_default-clause-run : goal.returns-in_default-clause-run

@@ -9,8 +9,8 @@ returns-in_err-progress-clause-run g c =
 
 pub returns-clause-run : goal.returns-clause-run
 returns-clause-run g c =
-    Ran-finished _ _ _ _ c.in_ok-progress.progress c.finish.result _ _ _ _ _ _ _ c.in_ok-progress.ensures.ended c.in_ok-progress.progress.within
-    c.finish.ensures.only c.in_ok-progress.ensures.run c.finish.ensures.ends
+    Ran-finished _ _ _ _ c.in_ok-progress.progress c.finish.result _ _ _ _ _ _ _ c.in_ok-progress.ensures.devices.ended c.in_ok-progress.progress.within
+    c.finish.ensures.faults.only c.in_ok-progress.ensures.run c.finish.ensures.ends
 
 pub returns-clause-replayed : goal.returns-clause-replayed
-returns-clause-replayed g c = IfOk-replayed _ _ _ _ c.finish.result _ _ _ _ _ _ c.in_ok-progress.ensures.ended.1 (returns-clause-run g c)
+returns-clause-replayed g c = IfOk-replayed _ _ _ _ c.finish.result _ _ _ _ _ _ c.in_ok-progress.ensures.devices.ended.1 (returns-clause-run g c)

@@ -24,7 +24,7 @@ loop-byte-preserved g c =
       uses = Uses-more _ _ _ c.args.progress.now c.loop-byte.progress c.take.new.progress (take i all) (take (i + 1) all) _ _ _ _ c.in_ok-take.field-0
           (sym (take_more all i _ within)) c.loop-byte.invariant.uses c.in_ok-take.ensures.uses;
       taken = omega (arith, c.in_ok-take.ensures.taken);
-      none_failed = c.in_ok-take.ensures.writes.none_failed ∙ c.loop-byte.invariant.none_failed;
+      none_failed = c.in_ok-take.ensures.faults.writes.none_failed ∙ c.loop-byte.invariant.none_failed;
     }
 
 pub returns-clause-uses : goal.returns-clause-uses

@@ -1,25 +1,28 @@
-use Rattle.std.proofs.Common.{◌∙◌}
+use Rattle.std.proofs.Common.{◌∙◌, rules}
 use Rattle.lbk_notation.proofs.Answered.{answered_found, answered_only, answered_fault, only, refused}
 use Rattle.lbk_notation.proofs.Sound.{sound}
 use Rattle.lbk_notation.proofs.line_reading.read_line.Goals as goal
 
-pub returns-in-Ok-read-clause-found : goal.returns-in-Ok-read-clause-found
-returns-in-Ok-read-clause-found c = sound c.args.form c.args.bytes.now c.in-Ok-read.line (c.in-Ok.ensures ∙ c.in-Ok-read.is)
+pub returns-in-Ok-read : goal.returns-in-Ok-read
+returns-in-Ok-read c = record {
+  long = search rules;
+  found = sound c.args.form c.args.bytes.now c.in-Ok-read.line (c.in-Ok.ensures ∙ c.in-Ok-read.is);
+  only = λ other is. only c.args.form c.args.bytes.now c.in-Ok-read.line other (c.in-Ok.ensures ∙ c.in-Ok-read.is) is;
+  fault = tt;
+}
 
-pub returns-in-Ok-read-clause-only : goal.returns-in-Ok-read-clause-only
-returns-in-Ok-read-clause-only c = λ other is.
-    only c.args.form c.args.bytes.now c.in-Ok-read.line other (c.in-Ok.ensures ∙ c.in-Ok-read.is) is
+pub returns-in-Err : goal.returns-in-Err
+returns-in-Err c = record {
+  long = search rules;
+  found = tt;
+  only = tt;
+  fault = refused c.args.form c.args.bytes.now c.in-Err.at c.if-bytes-gt-LONGEST.false (c.in-Ok.ensures ∙ c.in-Err.is);
+}
 
-pub returns-in-Err-clause-fault : goal.returns-in-Err-clause-fault
-returns-in-Err-clause-fault c =
-    refused c.args.form c.args.bytes.now c.in-Err.at c.if-bytes-gt-LONGEST.false (c.in-Ok.ensures ∙ c.in-Err.is)
-
-pub returns-in_default-clause-found : goal.returns-in_default-clause-found
-returns-in_default-clause-found c = answered_found c.args.form c.args.bytes.now c.judge.result c.judge.ensures.line
-
-pub returns-in_default-clause-only : goal.returns-in_default-clause-only
-returns-in_default-clause-only c = answered_only c.args.form c.args.bytes.now c.judge.result c.judge.ensures.line
-
-pub returns-in_default-clause-fault : goal.returns-in_default-clause-fault
-returns-in_default-clause-fault c =
-    answered_fault c.args.form c.args.bytes.now c.judge.result c.if-bytes-gt-LONGEST.false c.judge.ensures.fault
+pub returns-in_default : goal.returns-in_default
+returns-in_default c = record {
+  long = search rules;
+  found = answered_found c.args.form c.args.bytes.now c.judge.result c.judge.ensures.line;
+  only = answered_only c.args.form c.args.bytes.now c.judge.result c.judge.ensures.line;
+  fault = answered_fault c.args.form c.args.bytes.now c.judge.result c.if-bytes-gt-LONGEST.false c.judge.ensures.fault;
+}

@@ -1,4 +1,4 @@
-use Rattle.std.proofs.Common.{Err, ap, sym, ◌∙◌, arith}
+use Rattle.std.proofs.Common.{Err, ap, sym, ◌∙◌, arith, rules}
 use Rattle.std.proofs.lemmas.Result.{err_from_is_err_and}
 use Rattle.lbk_passage.specs.Next.{failures_with, fault_in}
 use Rattle.lbk_passage.specs.Shown.{state_of}
@@ -9,13 +9,17 @@ use Rattle.lbk_cmd.proofs.gathered.Gathered.put_within.Goals as goal
 pub returns-then-self-from-clause-puts : goal.returns-then-self-from-clause-puts
 returns-then-self-from-clause-puts g c = λ limit.
     let cell = g.C.CellSource.cell_of c.args.cells.now in
-    let put = c.put_next.ensures.puts limit in
+    let next = c.put_next.ensures limit in
+    let put = next.puts in
     record {
-      lent = put.lent;
-      next = put.next;
-      failed = put.failed;
-      puts = puts_here c.args.part (lines_of c.args.lines cell) cell c.args.profile limit _ _ _ _ _ _ _ _ put.lent _ _ _ _ put.next
-          (omega (arith, c.requires.start, c.if-self-from.true, c.from.ensures)) (omega (arith, c.requires.start, c.requires.early)) put.puts;
+      puts = record {
+        lent = put.lent;
+        next = put.next;
+        failed = put.failed;
+        puts = puts_here c.args.part (lines_of c.args.lines cell) cell c.args.profile limit _ _ _ _ _ _ _ _ put.lent _ _ _ _ put.next
+            (omega (arith, c.requires.start, c.if-self-from.true, c.from.ensures)) (omega (arith, c.requires.start, c.requires.early)) put.puts;
+      };
+      settled = next.settled;
     }
 
 pub returns-in_err-end-clause-puts : goal.returns-in_err-end-clause-puts
@@ -25,10 +29,13 @@ returns-in_err-end-clause-puts g c = λ limit.
     let passes = c.pass.ensures.passes in
     let same = lent_fault passes.lent c.in_err-end.field-0.0 (sym c.in_err-end.was ∙ passes.is) in
     record {
-      lent = passes.lent;
-      next = passes.after;
-      failed = c.pass.ensures.failures ∙ ap (λ r. failures_with (g.R.Source.failure_count c.args.reader.now) (fault_in r)) c.in_err-end.was
-          ∙ ap (λ r. failures_with (g.R.Source.failure_count c.args.reader.now) (fault_in r)) (sym same);
-      puts = puts_fault (engine_in c.args.part c.args.lines cell c.args.profile limit) (state_of g.C.CellSource.cell_of c.args.segmenter.now) passes.lent
-          c.args.self.now.lines.items c.args.self.now.at c.in_err-end.field-0.0 same c.from_residual.result (exit.1 ∙ ap Err exit.2);
+      puts = record {
+        lent = passes.lent;
+        next = passes.after;
+        failed = c.pass.ensures.failures ∙ ap (λ r. failures_with (g.R.Source.failure_count c.args.reader.now) (fault_in r)) c.in_err-end.was
+            ∙ ap (λ r. failures_with (g.R.Source.failure_count c.args.reader.now) (fault_in r)) (sym same);
+        puts = puts_fault (engine_in c.args.part c.args.lines cell c.args.profile limit) (state_of g.C.CellSource.cell_of c.args.segmenter.now) passes.lent
+            c.args.self.now.lines.items c.args.self.now.at c.in_err-end.field-0.0 same c.from_residual.result (exit.1 ∙ ap Err exit.2);
+      };
+      settled = search rules;
     }
