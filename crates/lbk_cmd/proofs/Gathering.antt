@@ -1,5 +1,5 @@
 -- A run by the answers of the calls that gather its lines.
-use Rattle.std.proofs.Common.{◌≡◌, ℕ, ◌+◌, ◌<◌, ◌≤◌, ◌⊎◌, ◌↔◌, Bool, true, false, List, [], ◌++◌, take, Option, None, Some, Result, Ok, Err, IsErrOf, IsTrue, OnOk, refl, sym, ap, subst, ◌∙◌, inl, inr, ⊎_elim}
+use Rattle.std.proofs.Common.{◌≡◌, ℕ, ◌+◌, ◌<◌, ◌≤◌, ◌⊎◌, ◌↔◌, Bool, true, false, List, [], ◌++◌, take, Option, None, Some, Result, Ok, Err, IsErrOf, IsTrue, OnOk, refl, sym, ap, subst, ◌∙◌, inl, inr, ⊎_elim, arith}
 use Rattle.std.specs.Io.KnownBytes.{Appends, IsAtEnd}
 use Rattle.lbk_feed.specs.Devices.{Reads}
 use Rattle.lbk_feed.specs.Runs.{Ran}
@@ -11,11 +11,13 @@ use Rattle.lbk_passage.specs.declared.faults.PassageFault.TheVariants as fault
 use Rattle.lbk_passage.specs.declared.passage.Passage.{Passage}
 use Rattle.lbk_cmd.specs.Gathering.{Puts, PutsNext, end_of}
 use Rattle.lbk_cmd.specs.Ranges.{ReadsBefore}
-use Rattle.lbk_cmd.specs.Run.{Engine, by_passage, failed_reads_with, failed_writes_with, is_failed_read}
+use Rattle.lbk_cmd.specs.Acts.{TextRuns}
+use Rattle.lbk_cmd.specs.Devices.{Devices}
+use Rattle.lbk_cmd.specs.Run.{Engine, Writing, by_passage, failed_reads_with, failed_writes_with, is_failed_read}
 use Rattle.lbk_cmd.specs.declared.faults.CmdFault.{CmdFault}
 use Rattle.lbk_cmd.specs.declared.faults.CmdFault.TheVariants as cmd
 use Rattle.lbk_cmd.proofs.Running.{given_now, lined, lines_finish, passage_now, start_now}
-use Rattle.lbk_cmd.proofs.Looping.{Ends, Going, MayEnd, MayStop, Wait, at_the_end, goes_to, most_reads, ran_fault, ran_held_back, ran_memory, ran_whole}
+use Rattle.lbk_cmd.proofs.Looping.{Ends, Going, MayEnd, MayStop, Wait, at_the_end, goes_to, most_reads, ran_fault, ran_held_back, ran_memory, ran_whole, run_none, whole_run}
 
 -- a run that goes on has no answer
 none_some : {X : Type 0} (o : Option X) (x : X) → o ≡ None → o ≡ Some x → ⊥
@@ -183,3 +185,19 @@ module _ (e : Engine) (u0 w0 : Option (List ℕ)) (reads0 : Reads) (s t : State)
 pub limit_kept : {S : Type 0} (limit : ℕ) (made : Result S PassageFault) (s : S) → made ≡ Ok s → (IsErrOf made fault.Limit ↔ (¬ (IsLimit limit)))
     → (answer : Result (Unit {0}) CmdFault) → ¬ (answer ≡ Err (cmd.Passage fault.Limit)) → IsErrOf answer (cmd.Passage fault.Limit) ↔ (¬ (IsLimit limit))
 limit_kept limit made s was told answer none = (λ h. absurd (none h), λ bad. absurd (let both : Ok s ≡ Err fault.Limit = sym was ∙ told.1 bad in cc))
+
+-- the segmenter could not be made: nothing was read or written
+pub none_made : (Written : List ℕ → Option (List ℕ) → Option (List ℕ) → Type 0) (e : Writing) (d : Devices)
+    (answer : Result (Unit {0}) CmdFault) (why : PassageFault)
+    → e.Settled [] [] → answer ≡ Err (cmd.Passage why) → (why ≡ fault.Limit) ⊎ (why ≡ fault.Memory)
+    → (IsErrOf answer (cmd.Passage fault.Limit) ↔ (¬ (IsLimit e.limit))) → TextRuns Written e d d answer
+none_made Written e d answer why settled is one limit =
+    subst (TextRuns Written e d d) (sym is) (record {
+      shown = tt;
+      ended = tt;
+      run = whole_run (run_none e d.unread d.written d.reads (Unit {0}) (Err (cmd.Passage why)) settled why d.has_ended refl one);
+      reads = omega arith;
+      limit = subst (λ r. IsErrOf r (cmd.Passage fault.Limit) ↔ (¬ (IsLimit e.limit))) is limit;
+      failed_reads = ⊎_elim (λ (same : why ≡ fault.Limit). rw same refl) (λ (same : why ≡ fault.Memory). rw same refl) one;
+      failed_writes = refl;
+    })

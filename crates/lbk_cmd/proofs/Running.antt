@@ -100,9 +100,10 @@ module _ (e : Writing) where
   unfolding Standing-new
   Standing-new-given s is none_settled = refl
 
-  -- the same of equal text
-  unfoldable pub Standing-same : (s : State) (bytes out out' : List ℕ) → out' ≡ out → Standing s bytes out → Standing s bytes out'
-  Standing-same s bytes out out' same st = record {
+  -- the same of equal text, whether the next passage was found already or not
+  abbrev pub Standing-as : (s : State) (is_settled : Bool) (bytes out out' : List ℕ) → out' ≡ out → Standing s bytes out
+      → Standing (record s { is_settled = is_settled }) bytes out'
+  Standing-as s is_settled bytes out out' same st = record {
     scalars = st.scalars;
     given = st.given;
     cell = st.cell;
@@ -116,25 +117,6 @@ module _ (e : Writing) where
     joined = st.joined;
     within = st.within;
     is = subst (e.Settled st.given) (sym same) st.is;
-    stands = st.stands;
-  }
-
-  -- whether the next passage was found already
-  unfoldable pub Standing-settled : (s : State) (is_settled : Bool) (bytes out : List ℕ) → Standing s bytes out → Standing (record s { is_settled = is_settled }) bytes out
-  Standing-settled s is_settled bytes out st = record {
-    scalars = st.scalars;
-    given = st.given;
-    cell = st.cell;
-    profile = st.profile;
-    limit = st.limit;
-    unspent = st.unspent;
-    utf8 = st.utf8;
-    bytes_are = st.bytes_are;
-    start = st.start;
-    few = st.few;
-    joined = st.joined;
-    within = st.within;
-    is = st.is;
     stands = by st.stands;
   }
     where
@@ -142,6 +124,12 @@ module _ (e : Writing) where
       by (fresh no_scalars no_given) = fresh no_scalars no_given
       by (goes_on next rest held utf8 near first) = goes_on next rest held utf8 near first
       by (ended held at_end given) = ended held at_end given
+
+  unfoldable pub Standing-same : (s : State) (bytes out out' : List ℕ) → out' ≡ out → Standing s bytes out → Standing s bytes out'
+  Standing-same s bytes out out' same st = Standing-as s s.is_settled bytes out out' same st
+
+  unfoldable pub Standing-settled : (s : State) (is_settled : Bool) (bytes out : List ℕ) → Standing s bytes out → Standing (record s { is_settled = is_settled }) bytes out
+  Standing-settled s is_settled bytes out st = Standing-as s is_settled bytes out out refl st
 
   module _ (s : State) (bytes out : List ℕ) (st : Standing s bytes out) where
     -- a passage of more text begins behind those given

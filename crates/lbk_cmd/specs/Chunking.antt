@@ -1,5 +1,7 @@
 -- The lines of the chunks of a window.
-use Rattle.std.specs.Prelude.{◌≡◌, ℕ, ◌≤◌, Bool, true, false, List, [], ◌++◌, length, take, Option, Result, Ok, Err}
+use Rattle.std.specs.Prelude.{◌≡◌, ℕ, ◌≤◌, Bool, true, false, List, [], ◌++◌, length, take, Option, Result, Ok, Err, OnOk, OnErr}
+use Rattle.lbk_feed.specs.Devices.{failures_after}
+use Rattle.lbk_feed.specs.declared.traits.Sink.{Ghosts as SinkMembers}
 use Rattle.std.specs.Io.KnownBytes.{Appends}
 use Rattle.std.specs.List.{AllByRecursion}
 use Rattle.lbk_chunks.specs.declared.chunk.Chunk.{Chunk}
@@ -75,6 +77,15 @@ pub record WritesAll (asked : Asked) (text : List ℕ) (old : Window) (written w
   pub chunks : List Chunk
   pub all : SettleAll (limits_in old) true (here_in old) (cuts_in old) chunks
   pub wrote : Appends written written' (waiting ++ chunk_lines asked text chunks)
+
+-- what a call does that writes them; or a write failed
+pub record WritesLast {W X Y : Type 0} (sink : SinkMembers W) (asked : Asked) (window : Window) (old new : W)
+    (waiting : List ℕ) (result : Result X Y) : Type 0 where
+  pub all : (text : List ℕ) → StandsIn asked text window
+      → OnOk result (WritesAll asked text window (sink.written old) (sink.written new) waiting)
+  pub front : (text : List ℕ) → StandsIn asked text window
+      → OnErr result (BreaksOff asked text true window (sink.written old) (sink.written new) waiting)
+  pub failures : sink.failure_count new ≡ failures_after (sink.failure_count old) result
 
 abbrev pub Gives : {X Y : Type 0} → Asked → List ℕ → Bool → Window → Window → Option (List ℕ) → Option (List ℕ)
     → List ℕ → List ℕ → Result X Y → Type 0

@@ -1,9 +1,9 @@
 //! The chunks of a text (`lbk_chunks`), a line or an object for each.
 
-ghost use Rattle.std.specs.Prelude.{◌≡◌, ℕ, List, OnErr, OnOk, true};
+ghost use Rattle.std.specs.Prelude.{◌≡◌, ℕ, List, true};
 ghost use Rattle.lbk_feed.specs.Devices.{failures_after};
 ghost use Rattle.lbk_cmd.specs.Acts.{Chunks};
-ghost use Rattle.lbk_cmd.specs.Chunking.{BreaksOff, Gives, IsInOrder, StandsIn, WritesAll};
+ghost use Rattle.lbk_cmd.specs.Chunking.{Gives, IsInOrder, StandsIn, WritesLast};
 ghost use Rattle.lbk_cmd.specs.Devices.{devices_of};
 ghost use Rattle.lbk_cmd.specs.Waiting.{waiting_in};
 
@@ -74,13 +74,7 @@ fn write_last<W: Sink>(
     writer: &mut W,
 ) -> Result<(), Failed>
     requires { IsInOrder window.old }
-    ensures all { (text : List ℕ) → StandsIn asked text window.old
-        → OnOk result (WritesAll asked text window.old (W.written writer.old) (W.written writer.new)
-        (waiting_in waiting.old)) }
-    ensures front { (text : List ℕ) → StandsIn asked text window.old
-        → OnErr result (BreaksOff asked text true window.old (W.written writer.old) (W.written writer.new)
-        (waiting_in waiting.old)) }
-    ensures failures { W.failure_count writer.new ≡ failures_after (W.failure_count writer.old) result }
+    ensures { WritesLast W.Sink asked window.old writer.old writer.new (waiting_in waiting.old) result }
 {
     write_chunks(asked, window, waiting, true, writer)?;
     waiting.write(writer)?;

@@ -1,21 +1,22 @@
 //! The passages of a text in one call: from the bytes of four property files and of a text to its breaks and words.
 
-ghost use Rattle.std.specs.Prelude.{◌≡◌, [], Ok, Err, IfOk, IfErr, OnOk};
+ghost use Rattle.std.specs.Prelude.{◌≡◌, [], ◌∷◌, ◌++◌, Ok, Err, IfOk, IfErr, OnOk};
 ghost use Rattle.lbk_rules.specs.CellPages.{page_cell};
 ghost use Rattle.lbk_cmd.specs.Acts.{Shows};
 ghost use Rattle.lbk_cmd.specs.Broken.{IsBreakFault, ReadsWhole};
 ghost use Rattle.lbk_cmd.specs.Devices.{reader_alone};
-ghost use Rattle.lbk_cmd.specs.Owned.{AreOwned, AreRead};
+ghost use Rattle.lbk_passage.specs.Next.{IsPlaced};
+ghost use Rattle.lbk_cmd.specs.Owned.{AreOwned, AreRead, lent_as};
 
 use super::broken::BreakFault;
 use super::faults::CmdFault;
 use super::owned::OwnedPassage;
 use lbk_feed::Source;
 use lbk_files::read_cells;
-use lbk_passage::Segmenter;
+use lbk_passage::{Passage, Segmenter};
 use lbk_rules::{CellPages, Profile};
 use lbk_ucd::Files;
-use std::alloc::Global;
+use std::alloc::{AllocError, Global};
 
 /// The passages of a text by the rules (UAX #14, section 6) and four property files, each with its text, its breaks and
 /// its words (UAX #29, section 4). They depend only on the bytes, not on how the reader cuts them.
@@ -65,8 +66,21 @@ fn own_passages<R: Source>(
 {
     let mut segmenter = Segmenter::new(alloc, cells, limit, profile)?;
     while let Some(passage) = segmenter.next(reader)? {
-        let owned = OwnedPassage::of(alloc, &passage)?;
-        passages.push(owned)?;
+        push_owned(alloc, &passage, passages)?;
     }
+    Ok(())
+}
+
+/// Appends a copy of a passage that a segmenter lends.
+fn push_owned(
+    alloc: Global,
+    passage: &Passage<'_>,
+    passages: &mut Vec<OwnedPassage>,
+) -> Result<(), AllocError>
+    requires { IsPlaced passage.now }
+    ensures { OnOk result (passages.new.items ≡ passages.old.items ++ lent_as passage.now ∷ []) }
+{
+    let owned = OwnedPassage::of(alloc, passage)?;
+    passages.push(owned)?;
     Ok(())
 }

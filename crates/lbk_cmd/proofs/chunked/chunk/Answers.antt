@@ -5,14 +5,15 @@ use Rattle.lbk_passage.specs.Shown.{state_of}
 use Rattle.lbk_passage.specs.declared.faults.PassageFault.{PassageFault}
 use Rattle.lbk_chunk_reader.specs.Taking.{TakesNext}
 use Rattle.lbk_cmd.specs.Chunk.{chunking}
+use Rattle.lbk_cmd.specs.Devices.{devices_of}
 use Rattle.lbk_cmd.specs.Chunking.{BreaksOff, IsInOrder, StandsIn, WritesAll}
 use Rattle.lbk_cmd.specs.Run.{failed_reads_with}
 use Rattle.lbk_cmd.specs.Waiting.{waiting_in}
 use Rattle.lbk_cmd.specs.declared.faults.CmdFault.TheVariants as cmd
 use Rattle.lbk_cmd.proofs.Chunking.{chunks_finish, none_settled, text_given}
 use Rattle.lbk_cmd.proofs.ChunkRuns.{Cuts, CutsDue, all-written, broken-off, came, cuts-due, cuts-new, end-met, ended-so, goes-on, known_chunks, last-broken-off, last-in, last-rising, last-told, most, no-limit, ok-no-limit, onward, refused, refused-failures, still-failures, then-in, then-rising, then-told, unwritten-lines, waited, write-no-limit}
-use Rattle.lbk_cmd.proofs.Gathering.{limit_kept}
-use Rattle.lbk_cmd.proofs.Looping.{ran_unwritten, run_none, whole_run}
+use Rattle.lbk_cmd.proofs.Gathering.{limit_kept, none_made}
+use Rattle.lbk_cmd.proofs.Looping.{ran_unwritten, whole_run}
 use Rattle.lbk_cmd.proofs.chunked.chunk.Given.{Over}
 use Rattle.lbk_cmd.proofs.chunked.chunk.Goals as goal
 use Rattle.lbk_cmd.proofs.chunked.chunk.Goals.{After-take_next}
@@ -47,17 +48,11 @@ pub returns-in_err-segmenter : goal.returns-in_err-segmenter
 returns-in_err-segmenter g c =
     let exit = err_from_is_err_and c.from_residual.result c.from_residual.ensures.1 in
     let cell = g.C.CellSource.cell_of c.args.cells.now in
-    record {
-      shown = search rules;
-      ended = search rules;
-      run = whole_run (run_none (chunking c.args.asked c.args.limits cell c.args.profile c.args.limit)
-          _ _ (g.R.Source.reads_made c.args.reader.now) _ c.from_residual.result (none_settled c.args.asked c.args.limits cell c.args.profile c.args.limit)
-          c.in_err-segmenter.field-0.0 _ (exit.1 ∙ ap Err exit.2) c.in_err-segmenter.ensures.only);
-      reads = search rules;
-      limit = search rules;
-      failed_reads = search rules;
-      failed_writes = search rules;
-    }
+    none_made _ (chunking c.args.asked c.args.limits cell c.args.profile c.args.limit)
+    (devices_of g.R.Source g.W.Sink c.args.reader.now c.args.writer.now)
+    c.from_residual.result c.in_err-segmenter.field-0.0
+    (none_settled c.args.asked c.args.limits cell c.args.profile c.args.limit) (exit.1 ∙ ap Err exit.2)
+    c.in_err-segmenter.ensures.only (search rules)
 
 pub loop-window-init : goal.loop-window-init
 loop-window-init g c =

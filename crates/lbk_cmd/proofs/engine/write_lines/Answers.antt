@@ -2,28 +2,22 @@ use Rattle.std.proofs.Common.{rules, Err, refl, sym, ap, subst, ◌∙◌, inl, 
 use Rattle.std.proofs.lemmas.Result.{err_from_is_err_and}
 use Rattle.lbk_feed.specs.Devices.{count_up, failures_after}
 use Rattle.lbk_passage.specs.Shown.{state_of}
+use Rattle.lbk_cmd.specs.Devices.{devices_of}
 use Rattle.lbk_cmd.specs.Engines.{engine_of}
 use Rattle.lbk_cmd.specs.Run.{by_passage, failed_reads_with}
 use Rattle.lbk_cmd.proofs.Known.{known_whole}
-use Rattle.lbk_cmd.proofs.Looping.{Going, Going-new, due, ran_unwritten, run_none, whole_run}
+use Rattle.lbk_cmd.proofs.Looping.{Going, Going-new, due, ran_unwritten, whole_run}
 use Rattle.lbk_cmd.proofs.Running.{lines_finish}
-use Rattle.lbk_cmd.proofs.Gathering.{ends, failed_reads, held_back, limit_kept, most, no_failed_write, no_limit, on, to_its_end, waits}
+use Rattle.lbk_cmd.proofs.Gathering.{ends, failed_reads, held_back, limit_kept, most, no_failed_write, no_limit, none_made, on, to_its_end, waits}
 use Rattle.lbk_cmd.proofs.engine.write_lines.Goals as goal
 
 pub returns-in_err-segmenter : goal.returns-in_err-segmenter
 returns-in_err-segmenter g c =
     let exit = err_from_is_err_and c.from_residual.result c.from_residual.ensures.1 in
-    record {
-      shown = search rules;
-      ended = search rules;
-      run = whole_run (run_none (by_passage (engine_of c.args.lines (g.C.CellSource.cell_of c.args.cells.now) c.args.profile c.args.limit))
-          _ _ (g.R.Source.reads_made c.args.reader.now) _ c.from_residual.result refl c.in_err-segmenter.field-0.0 _ (exit.1 ∙ ap Err exit.2)
-          c.in_err-segmenter.ensures.only);
-      reads = search rules;
-      limit = search rules;
-      failed_reads = search rules;
-      failed_writes = search rules;
-    }
+    none_made _ (by_passage (engine_of c.args.lines (g.C.CellSource.cell_of c.args.cells.now) c.args.profile c.args.limit))
+    (devices_of g.R.Source g.W.Sink c.args.reader.now c.args.writer.now)
+    c.from_residual.result c.in_err-segmenter.field-0.0 refl (exit.1 ∙ ap Err exit.2) c.in_err-segmenter.ensures.only
+    (search rules)
 
 pub loop-gathered-init : goal.loop-gathered-init
 loop-gathered-init g c =

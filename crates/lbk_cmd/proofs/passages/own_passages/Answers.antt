@@ -1,29 +1,24 @@
-use Rattle.std.proofs.Common.{rules, None, Ok, Err, [], inl, ◌∷◌, ◌++◌, refl, ap, ◌∙◌}
+use Rattle.std.proofs.Common.{rules, None, Ok, Err, [], inl, refl, ap, ◌∙◌}
 use Rattle.std.proofs.lemmas.Result.{err_from_is_err_and}
 use Rattle.lbk_rules.specs.CellPages.{page_cell}
 use Rattle.lbk_passage.specs.Next.{failures_with, fault_in}
 use Rattle.lbk_passage.specs.Shown.{state_of}
+use Rattle.lbk_cmd.specs.Devices.{reader_alone}
 use Rattle.lbk_cmd.specs.Engines.{showing}
 use Rattle.lbk_cmd.specs.Run.{by_passage}
+use Rattle.lbk_cmd.proofs.Gathering.{none_made}
 use Rattle.lbk_cmd.proofs.Known.{known_whole}
-use Rattle.lbk_cmd.proofs.Looping.{most_reads, run_none, run_stopped, run_ended, run_out_of_memory, whole_run}
+use Rattle.lbk_cmd.proofs.Looping.{most_reads, run_stopped, run_ended, run_out_of_memory, whole_run}
 use Rattle.lbk_cmd.proofs.Owning.{Owning-new, Owning-next, all_owned, shows_err}
 use Rattle.lbk_cmd.proofs.passages.own_passages.Goals as goal
 
 pub returns-in_err-segmenter-clause-refused : goal.returns-in_err-segmenter-clause-refused
 returns-in_err-segmenter-clause-refused g c =
     let exit = err_from_is_err_and c.from_residual.result c.from_residual.ensures.1 in
-    shows_err (page_cell c.args.cells.now) c.args.limit c.args.profile _ _ c.from_residual.result (record {
-      shown = search rules;
-      ended = search rules;
-      run = whole_run (run_none (by_passage (showing (page_cell c.args.cells.now) c.args.profile c.args.limit))
-          _ _ (g.R.Source.reads_made c.args.reader.now) _ c.from_residual.result refl c.in_err-segmenter.field-0.0 _ (exit.1 ∙ ap Err exit.2)
-          c.in_err-segmenter.ensures.only);
-      reads = search rules;
-      limit = search rules;
-      failed_reads = search rules;
-      failed_writes = search rules;
-    })
+    shows_err (page_cell c.args.cells.now) c.args.limit c.args.profile _ _ c.from_residual.result
+    (none_made _ (by_passage (showing (page_cell c.args.cells.now) c.args.profile c.args.limit))
+    (reader_alone g.R.Source c.args.reader.now) c.from_residual.result c.in_err-segmenter.field-0.0 refl
+    (exit.1 ∙ ap Err exit.2) c.in_err-segmenter.ensures.only (search rules))
 
 pub loop-segmenter-init : goal.loop-segmenter-init
 loop-segmenter-init g c = record {
@@ -48,30 +43,14 @@ returns-in_err-passage-clause-refused g c =
       failed_writes = search rules;
     })
 
-pub returns-in_err-owned-clause-refused : goal.returns-in_err-owned-clause-refused
-returns-in_err-owned-clause-refused g c =
-    let exit = err_from_is_err_and c.from_residual-in_err-owned.result c.from_residual-in_err-owned.ensures.1 in
-    shows_err (page_cell c.args.cells.now) c.args.limit c.args.profile _ _ c.from_residual-in_err-owned.result (record {
+pub returns-in_err-push_owned-clause-refused : goal.returns-in_err-push_owned-clause-refused
+returns-in_err-push_owned-clause-refused g c =
+    let exit = err_from_is_err_and c.from_residual-in_err-push_owned.result c.from_residual-in_err-push_owned.ensures.1 in
+    shows_err (page_cell c.args.cells.now) c.args.limit c.args.profile _ _ c.from_residual-in_err-push_owned.result (record {
       shown = search rules;
       ended = search rules;
       run = whole_run (run_out_of_memory (by_passage (showing (page_cell c.args.cells.now) c.args.profile c.args.limit)) _ _ _ _
-          c.from_residual-in_err-owned.result _ _ _ _ _ _ _ _ _ c.next.result [] c.loop-segmenter.invariant.owning.going (inl refl) c.next.follows.holds-at-none.0 None tt
-          c.in-Some.passage (c.in_ok-passage.was ∙ ap Ok c.in-Some.is) (exit.1 ∙ ap Err exit.2));
-      reads = most_reads (by_passage (showing (page_cell c.args.cells.now) c.args.profile c.args.limit)) _ _ _ _ _ _ _ _ _ _ _ _ []
-          c.loop-segmenter.invariant.owning.going (inl refl) c.next.result c.next.follows.holds-at-none.0;
-      limit = search rules;
-      failed_reads = search rules;
-      failed_writes = search rules;
-    })
-
-pub returns-in_err-push-clause-refused : goal.returns-in_err-push-clause-refused
-returns-in_err-push-clause-refused g c =
-    let exit = err_from_is_err_and c.from_residual-in_err-push.result c.from_residual-in_err-push.ensures.1 in
-    shows_err (page_cell c.args.cells.now) c.args.limit c.args.profile _ _ c.from_residual-in_err-push.result (record {
-      shown = search rules;
-      ended = search rules;
-      run = whole_run (run_out_of_memory (by_passage (showing (page_cell c.args.cells.now) c.args.profile c.args.limit)) _ _ _ _
-          c.from_residual-in_err-push.result _ _ _ _ _ _ _ _ _ c.next.result [] c.loop-segmenter.invariant.owning.going (inl refl) c.next.follows.holds-at-none.0 None tt
+          c.from_residual-in_err-push_owned.result _ _ _ _ _ _ _ _ _ c.next.result [] c.loop-segmenter.invariant.owning.going (inl refl) c.next.follows.holds-at-none.0 None tt
           c.in-Some.passage (c.in_ok-passage.was ∙ ap Ok c.in-Some.is) (exit.1 ∙ ap Err exit.2));
       reads = most_reads (by_passage (showing (page_cell c.args.cells.now) c.args.profile c.args.limit)) _ _ _ _ _ _ _ _ _ _ _ _ []
           c.loop-segmenter.invariant.owning.going (inl refl) c.next.result c.next.follows.holds-at-none.0;
@@ -86,7 +65,7 @@ loop-segmenter-preserved g c =
     record {
       owning = Owning-next (showing (page_cell c.args.cells.now) c.args.profile c.args.limit) _ _ _ _ _ _ _ _ _ _ c.next.result
           c.loop-segmenter.passages.items c.loop-segmenter.invariant.owning c.next.follows.holds-at-none.0 c.in-Some.passage was _
-          (c.in_ok-push.ensures.items ∙ ap (λ x. c.loop-segmenter.passages.items ++ x ∷ []) c.in_ok-owned.ensures);
+          c.in_ok-push_owned.ensures;
       read_failures = c.next.ensures.failures ∙ ap (λ r. failures_with (g.R.Source.failure_count c.loop-segmenter.reader) (fault_in r)) was
           ∙ c.loop-segmenter.invariant.read_failures;
     }
