@@ -10,16 +10,18 @@ use Rattle.lbk_rules.specs.declared.flat_table.FlatTable.{FlatTable}
 use Rattle.lbk_rules.specs.FlatTable.{IsFlatOf, KnowsTaken}
 use Rattle.lbk_bytes.specs.declared.fill_state.FillState.{FillState}
 use Rattle.lbk_bytes.specs.Bytes.{end_in}
-use Rattle.lbk_bytes.specs.Marking.{Marked}
+use Rattle.lbk_bytes.specs.Marking.{Marked, uncounted}
 use Rattle.lbk_bytes.specs.Marks.{boundary_from, from_on, is_marked, stands_among}
-use Rattle.lbk_bytes.specs.Reached.{Onward, ReachedBy, onward_to}
+use Rattle.lbk_bytes.specs.Reached.{Onward, onward_to}
 use Rattle.lbk_bytes.proofs.BoundaryLemmas.{boundary-end, boundary-here}
 use Rattle.lbk_bytes.proofs.MarkLemmas.{among-append, below-wider, or-false}
 use Rattle.lbk_bytes.proofs.MarkPlaceLemmas.{end-below, from-none, from-wider, left-behind, left-from, left-past, onward-from}
 use Rattle.lbk_calls.specs.declared.interface.State.{State}
-use Rattle.lbk_calls.specs.Coming.{ComesBy, IsGoing, IsSpent, MarksBy, from_state}
+use Rattle.lbk_units.specs.Reached.{UnitsReachedBy, on_from}
+use Rattle.lbk_calls.specs.Coming.{IsGoing, IsSpent, MarksBy, UnitsComeBy, from_state}
 use Rattle.lbk_calls.specs.State.{plain, profile_numbered}
 use Rattle.lbk_calls.proofs.ComingLemmas.{same-profile, spent-ended}
+use Rattle.lbk_calls.proofs.UnitsComingLemmas.{onto-end, onto-here}
 
 -- the words are told before the text's end
 pub Marks-full : (goes_on : Bool) (profile : Profile) (cell : ℕ → Cell) (text : List ℕ) (to_come : List Break) (place stop : ℕ) (here : FillState) (state : State) (words : List ℕ)
@@ -39,20 +41,12 @@ Marks-full goes_on profile cell text to_come place stop here state words m is_st
           ∙ sym (or-false (stands_among (place + i) m.given) (stands_among (place + i) rest) (from-none here.at (place + i) rest from (omega arith)))
           ∙ sym (among-append (place + i) m.given rest)
           ∙ ap (stands_among (place + i)) (sym r.joined);
-      onto = record {
-        within = omega arith;
-        goes_on = λ _. record {
-          taken = r.taken;
-          knows = subst (λ n. KnowsTaken cell n r.taken) (sym row_same) r.knows;
-          some = λ more. r.some (omega arith);
-          joined =
-              ap (from_on room) r.joined
-              ∙ left-behind room m.given rest (below-wider stop room m.given (omega arith) m.below)
-              ∙ left-from room rest (from-wider room here.at rest past from)
-              ∙ ap (λ n. onward_to end profile cell r.taken n (pieces (drop n text))) (sym at_same);
-        };
-        none_come = λ ended. absurd (omega arith);
-      };
+      onto =
+          onto-here (onward_to end) pieces profile cell text to_come m.given _ (uncounted here) state (record { taken = r.taken; knows = r.knows; some = r.some; joined = r.joined })
+          (ap (from_on room) r.joined
+          ∙ left-behind room m.given rest (below-wider stop room m.given (omega arith) m.below)
+          ∙ left-from room rest (from-wider room here.at rest past from))
+          within at_same row_same unended;
       boundary = at_same ∙ sym (boundary-here text here.at room past) ∙ ap (boundary_from text here.at) (sym is_stop) ∙ m.boundary ∙ ap (boundary_from text place) is_stop;
     }
 
@@ -78,34 +72,31 @@ Marks-ended goes_on profile cell text to_come place stop here state old new m sa
           ∙ ap (λ b. b || stands_among (place + i) last) (m.marked i (omega arith))
           ∙ sym (among-append (place + i) m.given last)
           ∙ ap (stands_among (place + i)) (sym all);
-      onto = record {
-        within = omega arith;
-        goes_on = λ unended. absurd (omega arith);
-        none_come = λ _.
-            ap (from_on room) all
-            ∙ left-behind room m.given last (below-wider stop room m.given few m.below)
-            ∙ left-past room last (end-below goes_on profile cell r.taken (length text) room inside);
-      };
+      onto =
+          onto-end (onward_to end) pieces profile cell text _ state (at_same ∙ ends) ended
+          (ap (from_on room) all
+          ∙ left-behind room m.given last (below-wider stop room m.given few m.below)
+          ∙ left-past room last (end-below goes_on profile cell r.taken (length text) room inside));
       boundary = at_same ∙ ends ∙ sym (boundary-end text place room (omega arith) (omega arith));
     }
 
 -- what a call tells of the breaks to come
 pub Comes-marks : (from : Onward) (profile : Profile) (cell : ℕ → Cell) (table : FlatTable) (text : List ℕ) (place : ℕ) (old new : State) (to_come : List Break) (words : List ℕ)
     → ((cell : ℕ → Cell) (to_come : List Break) → IsFlatOf table cell
-    → ReachedBy from profile cell text to_come (from_state old) []
+    → UnitsReachedBy from profile cell (on_from pieces text) to_come (from_state old) []
     → MarksBy from profile cell text to_come place new words)
-    → IsGoing profile old (length text) → (c : ComesBy from cell table text old to_come)
+    → IsGoing profile old (length text) → (c : UnitsComeBy from pieces cell table text old to_come)
     → MarksBy from profile cell text to_come place new words
 Comes-marks from profile cell table text place old new to_come words marks going c =
     let same = same-profile c.profile profile old c.named going.named in
     marks cell to_come c.flat
-    (subst (λ p. ReachedBy from p cell text to_come (from_state old) []) same (c.onto.goes_on going.unended))
+    (subst (λ p. UnitsReachedBy from p cell (on_from pieces text) to_come (from_state old) []) same (c.onto.goes_on going.unended))
 
 -- and the others come from the next state on
 pub Comes-behind : (from : Onward) (profile : Profile) (cell : ℕ → Cell) (table : FlatTable) (text : List ℕ) (place : ℕ) (old new : State) (to_come : List Break) (words : List ℕ)
-    → IsGoing profile old (length text) → new.profile ≡ old.profile → (c : ComesBy from cell table text old to_come)
+    → IsGoing profile old (length text) → new.profile ≡ old.profile → (c : UnitsComeBy from pieces cell table text old to_come)
     → MarksBy from profile cell text to_come place new words
-    → ComesBy from cell table text new (from_on (place + 64 * length words) to_come)
+    → UnitsComeBy from pieces cell table text new (from_on (place + 64 * length words) to_come)
 Comes-behind from profile cell table text place old new to_come words going kept c marks = record {
   profile = profile;
   named = ap profile_numbered kept ∙ going.named;
@@ -118,7 +109,7 @@ never-spent state len spent few unended within = (let ended = spent-ended state 
 
 -- where something is to come, or nothing, a state that is spent has ended
 pub Comes-unspent : (from : Onward) (cell : ℕ → Cell) (table : FlatTable) (text : List ℕ) (state : State) (to_come : List Break)
-    → IsSpent state (length text) → ComesBy from cell table text state to_come → state.ended ≡ 0 → ⊥
+    → IsSpent state (length text) → UnitsComeBy from pieces cell table text state to_come → state.ended ≡ 0 → ⊥
 Comes-unspent from cell table text state to_come (inl unnamed) c unended = (let named = c.named in cc)
 Comes-unspent from cell table text state to_come (inr (inl ended)) c unended = omega arith
 Comes-unspent from cell table text state to_come (inr (inr past)) c unended = (let within = c.onto.within in omega arith)

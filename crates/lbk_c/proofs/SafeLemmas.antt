@@ -22,14 +22,15 @@ use Rattle.lbk_units.specs.Units.{breaks_of_part_of}
 use Rattle.lbk_bytes.specs.Order.{no_break}
 use Rattle.lbk_bytes.specs.Shown.{given_in, shown}
 use Rattle.lbk_bytes.proofs.BlockLemmas.{order}
-use Rattle.lbk_bytes.proofs.PartLemmas.{part-onward}
 use Rattle.std.proofs.Math.Logic.{⊎_elim}
 use Rattle.lbk_rules.specs.FlatTable.{IsFlatOf}
-use Rattle.lbk_bytes.specs.Reached.{ReachedBy, onward, scalars_of}
+use Rattle.lbk_bytes.specs.Reached.{onward, scalars_of}
+use Rattle.lbk_units.specs.Reached.{UnitsReachedBy, on_from}
 use Rattle.lbk_calls.specs.declared.interface.State.{State}
-use Rattle.lbk_calls.specs.Coming.{Comes, ComesBy, from_state, onward_in}
+use Rattle.lbk_calls.specs.Coming.{Comes, UnitsComeBy, from_state, onward_in}
 use Rattle.lbk_calls.specs.State.{plain, profile_number}
-use Rattle.lbk_calls.proofs.ComingLemmas.{Comes-part, same-profile}
+use Rattle.lbk_calls.proofs.ComingLemmas.{same-profile}
+use Rattle.lbk_calls.proofs.UnitsComingLemmas.{bytes-begin}
 use Rattle.lbk_streams.specs.Cuts.{IsCutBefore, IsSafeCut, JoinsAt}
 use Rattle.lbk_c.specs.SafeBreaks.{IsSafeBreak}
 
@@ -59,15 +60,15 @@ onward-alike profile cell a b at (p ∷ ps) same =
     (facts-on cell a b (or_replacement p.char) same))
 
 reached-alike : (p q : Profile) (cell : ℕ → Cell) (text : List ℕ) (state : State) (a b : List Break) → p ≡ q
-    → ReachedBy onward p cell text a (from_state state) [] → ReachedBy onward q cell text b (from_state state) [] → a ≡ b
+    → UnitsReachedBy onward p cell (on_from pieces text) a (from_state state) [] → UnitsReachedBy onward q cell (on_from pieces text) b (from_state state) [] → a ≡ b
 reached-alike p q cell text state a b same one other =
-    let two = subst (λ r. ReachedBy onward r cell text b (from_state state) []) (sym same) other in
+    let two = subst (λ r. UnitsReachedBy onward r cell (on_from pieces text) b (from_state state) []) (sym same) other in
     one.joined
     ∙ onward-alike p cell one.taken two.taken state.at (pieces (drop state.at text)) (sym one.knows.1 ∙ two.knows.1)
     ∙ sym two.joined
 
 by-onward : (cell : ℕ → Cell) (table : FlatTable) (text : List ℕ) (state : State) (a b : List Break)
-    → ComesBy onward cell table text state a → ComesBy onward cell table text state b → a ≡ b
+    → UnitsComeBy onward pieces cell table text state a → UnitsComeBy onward pieces cell table text state b → a ≡ b
 by-onward cell table text state a b one other = split state.ended refl
   where
     split : (n : ℕ) → state.ended ≡ n → a ≡ b
@@ -80,12 +81,12 @@ pub comes-same : (cell : ℕ → Cell) (table : FlatTable) (text : List ℕ) (st
     → Comes cell table text state a → Comes cell table text state b → a ≡ b
 comes-same cell table text state First a b named one other =
     by-onward cell table text (plain state) a b
-    (subst (λ n. ComesBy (onward_in n) cell table text (plain state) a) named one)
-    (subst (λ n. ComesBy (onward_in n) cell table text (plain state) b) named other)
+    (subst (λ n. UnitsComeBy (onward_in n) pieces cell table text (plain state) a) named one)
+    (subst (λ n. UnitsComeBy (onward_in n) pieces cell table text (plain state) b) named other)
 comes-same cell table text state Second a b named one other =
     by-onward cell table text (plain state) a b
-    (subst (λ n. ComesBy (onward_in n) cell table text (plain state) a) named one)
-    (subst (λ n. ComesBy (onward_in n) cell table text (plain state) b) named other)
+    (subst (λ n. UnitsComeBy (onward_in n) pieces cell table text (plain state) a) named one)
+    (subst (λ n. UnitsComeBy (onward_in n) pieces cell table text (plain state) b) named other)
 
 pub moved-none : (bs : List Break) → map (moved 0) bs ≡ bs
 moved-none [] = refl
@@ -111,8 +112,8 @@ safe-start rules cell text (suc n) within before joins =
 pub fresh : (rules : Profile) (cell : ℕ → Cell) (table : FlatTable) (text : List ℕ) (at number : ℕ) → IsFlatOf table cell → number ≡ profile_number rules → at ≤ length text
     → Comes cell table text (record { at = at; row = 0; profile = number; ended = 0 }) (map (moved at) (breaks_of_bytes rules cell (drop at text)))
 fresh rules cell table text at number flat named within =
-    Comes-part cell table text false rules at _ _ flat within (ap (λ n. record { at = at; row = 0; profile = n; ended = 0 }) named)
-    (part-onward false rules cell at (drop at text))
+    (bytes-begin table text (record { at = at; row = 0; profile = number; ended = 0 })).part cell rules false at flat within
+    (ap (λ n. record { at = at; row = 0; profile = n; ended = 0 }) named)
 
 pub goes-start : (rules : Profile) (cell : ℕ → Cell) (table : FlatTable) (text : List ℕ) (cut number : ℕ) → IsFlatOf table cell → number ≡ profile_number rules → cut ≤ length text
     → IsSafeBreak rules cell text cut → Goes rules cell table text (record { at = cut; row = 0; profile = number; ended = 0 })

@@ -1,16 +1,17 @@
 -- Segments between breaks, some breaks more.
 use Rattle.std.proofs.Common.{◌≡◌, ℕ, zero, suc, ◌+◌, ◌-◌, ◌<◌, ◌≤◌, ◌⊎◌, inl, inr, List, [], ◌∷◌, ◌++◌, length, drop, map, min, set, take, slice_index_or, refl, sym, ap, ap₂, subst, ◌∙◌, arith}
 use Rattle.std.proofs.Math.Logic.{⊎_elim}
-use Rattle.std.proofs.lemmas.List.{append_assoc, drop-drop, length-append, length-take-le, map-append, take_more, take_more_set}
+use Rattle.std.proofs.lemmas.List.{append_assoc, drop-drop, length-append, length-take-le, map-append, take-append-le, take_more, take_more_set}
 use Rattle.lbk_rules.specs.declared.Break.{Break}
 use Rattle.lbk_rules.specs.declared.Cell.{Cell}
 use Rattle.lbk_rules.specs.declared.flat_table.FlatTable.{FlatTable}
 use Rattle.lbk_bytes.specs.declared.raw_break.RawBreak.{RawBreak}
 use Rattle.lbk_bytes.specs.Order.{AreInOrder, IsBreak, no_break}
-use Rattle.lbk_bytes.specs.Shown.{given_in, raw_of}
+use Rattle.lbk_bytes.specs.Shown.{raw_of}
 use Rattle.lbk_bytes.proofs.BlockLemmas.{zero-or}
 use Rattle.lbk_chunks.proofs.BreakLemmas.{shown-front}
 use Rattle.lbk_calls.specs.declared.interface.State.{State}
+use Rattle.lbk_calls.specs.Calls.{GivesBreaks}
 use Rattle.lbk_calls.specs.Coming.{Comes}
 use Rattle.lbk_c.specs.declared.segments.Segment.{Segment}
 use Rattle.lbk_c.specs.declared.segments.SegmentState.{SegmentState}
@@ -80,19 +81,13 @@ take-both {X} (suc m) n (x ∷ xs) =
 abbrev pub IsStill : State → ℕ → ℕ → Type 0
 IsStill state size room = (3 < state.profile) ⊎ ((0 < state.ended) ⊎ ((size < state.at) ⊎ (room ≡ 0)))
 
--- what a call for breaks says of those that it gave
-pub record Gave (table : FlatTable) (text : List ℕ) (old new : State) (block : List RawBreak) (given room : ℕ) : Type 0 where
-  pub within : given ≤ room
-  pub profile_same : new.profile ≡ old.profile
-  pub in_order : AreInOrder block given old.at (suc (length text))
-  pub before_state : new.ended ≡ 0 → AreInOrder block given old.at new.at
-  pub onward : old.at ≤ new.at
-  pub inside : old.at ≤ length text → new.at ≤ length text
-  pub at_end : old.ended ≡ 0 → 0 < new.ended → new.at ≡ length text
-  pub count : (cell : ℕ → Cell) (to_come : List Break) → Comes cell table text old to_come → given ≡ min room (length to_come)
-  pub front : (cell : ℕ → Cell) (to_come : List Break) → Comes cell table text old to_come → given_in block given ≡ take given to_come
-  pub rest : (cell : ℕ → Cell) (to_come : List Break) → Comes cell table text old to_come → Comes cell table text new (drop given to_come)
-  pub still : IsStill old (length text) room → (given ≡ 0) × (new ≡ old)
+-- the ways in which a call gives nothing
+still-call : (table : FlatTable) (text : List ℕ) (old new : State) (block : List RawBreak) (given room : ℕ) → GivesBreaks table text old new room block given
+    → IsStill old (length text) room → (given ≡ 0) × (new ≡ old)
+still-call table text old new block given room g (inl a) = g.goes_over.advances.unknown a
+still-call table text old new block given room g (inr (inl a)) = g.goes_over.advances.ended a
+still-call table text old new block given room g (inr (inr (inl a))) = g.goes_over.advances.past a
+still-call table text old new block given room g (inr (inr (inr a))) = g.goes_over.advances.no_room a
 
 -- of what was to come, as the first breaks these were found, and the others come from the state on
 pub record Taken (cell : ℕ → Cell) (table : FlatTable) (text : List ℕ) (new : SegmentState) (found : List RawBreak) (count : ℕ) (to_come : List Break) : Type 0 where
@@ -165,48 +160,48 @@ next-one start k breaks few =
     ap (next_start start) (take_more breaks k no_break few) ∙ next-append start (take k breaks) (slice_index_or breaks k no_break ∷ [])
 
 -- where the last of the breaks that were given stands: not behind the state
-last-within : (table : FlatTable) (text : List ℕ) (old new : State) (block : List RawBreak) (given room : ℕ) → Gave table text old new block given room
+last-within : (table : FlatTable) (text : List ℕ) (old new : State) (block : List RawBreak) (given room : ℕ) → GivesBreaks table text old new room block given
     → (k : ℕ) → k < given → (slice_index_or block k no_break).at ≤ new.at
 last-within table text old new block given room g k few =
-    ⊎_elim (λ (open_ : new.ended ≡ 0). (let b = (g.before_state open_).within k few in omega (arith, b.1)))
-    (λ (ended : 0 < new.ended). ⊎_elim (λ (was_open : old.ended ≡ 0). (let e = g.at_end was_open ended in let b = g.in_order.within k few in omega (arith, e, b.1)))
-    (λ (was_ended : 0 < old.ended). (let none = g.still (inr (inl was_ended)) in absurd (omega (arith, few, none.0))))
+    ⊎_elim (λ (open_ : new.ended ≡ 0). (let b = (g.goes_over.before_state open_).within k few in omega (arith, b.1)))
+    (λ (ended : 0 < new.ended). ⊎_elim (λ (was_open : old.ended ≡ 0). (let e = g.goes_over.advances.at_end was_open ended in let b = g.goes_over.in_order.within k few in omega (arith, e, b.1)))
+    (λ (was_ended : 0 < old.ended). (let none = g.goes_over.advances.ended was_ended in absurd (omega (arith, few, none.0))))
     (zero-or old.ended))
     (zero-or new.ended)
 
 -- some segments more
 pub put-more : (table : FlatTable) (text : List ℕ) (old here : SegmentState) (new : State) (next : ℕ) (before out : List Segment) (block breaks : List RawBreak) (count given room : ℕ)
-    → IsPut table text old here before count → Gave table text here.breaks new block given room
+    → IsPut table text old here before count → GivesBreaks table text here.breaks new room block given
     → given ≤ length block → breaks ≡ take given block → room ≡ min 64 (length before - count) → length out ≡ length before
     → take (count + length breaks) out ≡ take count before ++ segments_between here.start breaks → next ≡ next_start here.start breaks
     → IsPut table text old (record { breaks = new; start = next }) out (count + given)
 put-more table text old here new next before out block breaks count given room i g few are full size front starts = record {
   found = i.found ++ take given block;
-  room = (let a = i.room in let b = g.within in omega (arith, a, b, full, size));
+  room = (let a = i.room in let b = g.goes_over.within in omega (arith, a, b, full, size));
   front =
       ap (λ n. take (count + n) out) (sym many) ∙ front ∙ ap₂ (λ (a b : List Segment). a ++ b) i.front (ap₂ segments_between i.next are)
       ∙ sym (between-append old.start i.found (take given block));
   next = starts ∙ ap₂ next_start i.next are ∙ sym (next-append old.start i.found (take given block));
-  profile_same = g.profile_same ∙ i.profile_same;
-  inside = λ within. g.inside (i.inside within);
+  profile_same = g.goes_over.advances.profile_same ∙ i.profile_same;
+  inside = λ within. g.goes_over.advances.inside (i.inside within);
   taken = λ cell to_come comes. (
       let were = i.taken cell to_come comes in
       let more = drop count to_come in
-      taken-more cell table text here (record { breaks = new; start = next }) i.found block count given room to_come were (g.count cell more were.comes)
-      (shown-front given block (take given more) few (g.front cell more were.comes) g.in_order.each) (g.rest cell more were.comes));
+      taken-more cell table text here (record { breaks = new; start = next }) i.found block count given room to_come were (g.gives cell more were.comes).count
+      (shown-front given block (take given more) few (g.gives cell more were.comes).front g.goes_over.in_order.each) (g.gives cell more were.comes).rest);
   sound = λ low within. (
       let s = i.sound low within in
       let at = i.inside within in
-      let r = rise block given here.start here.breaks.at (suc (length text)) (length text) g.in_order s.1 (omega arith) in
+      let r = rise block given here.start here.breaks.at (suc (length text)) (length text) g.goes_over.in_order s.1 (omega arith) in
       let more = within-block block given here.start (length text) r in
       let joined = within-append (length text) (segments_between old.start i.found) (segments_between here.start (take given block)) s.0 more in
-      let last = next-block block given here.start new.at (omega (arith, s.1, g.onward)) (last-within table text here.breaks new block given room g) in (
+      let last = next-block block given here.start new.at (omega (arith, s.1, g.goes_over.advances.onward)) (last-within table text here.breaks new block given room g) in (
         subst (AreWithin (length text)) (ap (λ n. segments_between old.start i.found ++ segments_between n (take given block)) i.next ∙ sym (between-append old.start i.found (take given block))) joined,
         subst (λ n. n ≤ new.at) (sym (starts ∙ ap (next_start here.start) are)) last,
       ));
   still = λ stays. (
       let was = i.still (subst (IsStill old.breaks (length text)) size stays) in
-      let now = g.still (subst (λ (s : SegmentState). IsStill s.breaks (length text) room) (sym was.1) (still-room old.breaks (length text) (length before) room (λ empty. omega (arith, full, empty)) (subst (IsStill old.breaks (length text)) size stays))) in
+      let now = still-call table text here.breaks new block given room g (subst (λ (s : SegmentState). IsStill s.breaks (length text) room) (sym was.1) (still-room old.breaks (length text) (length before) room (λ empty. omega (arith, full, empty)) (subst (IsStill old.breaks (length text)) size stays))) in
       let stood : next ≡ here.start = starts ∙ ap (next_start here.start) (are ∙ ap (λ n. take n block) now.0) in
       (omega (arith, was.0, now.0), ap₂ (λ (b : State) (n : ℕ). record { breaks = b; start = n }) now.1 stood ∙ was.1));
 }
@@ -220,12 +215,18 @@ put-more table text old here new next before out block breaks count given room i
     still-room state len n room empty (inr (inr (inl past))) = inr (inr (inl past))
     still-room state len n room empty (inr (inr (inr full_))) = inr (inr (inr (empty full_)))
 
--- the ways in which a call gives nothing, as its clauses say them
-pub still-call : {P : Type 0} → (state : State) (len room : ℕ) → (3 < state.profile → P) → (0 < state.ended → P) → (len < state.at → P) → (room ≡ 0 → P) → IsStill state len room → P
-still-call state len room profile ended past full (inl a) = profile a
-still-call state len room profile ended past full (inr (inl a)) = ended a
-still-call state len room profile ended past full (inr (inr (inl a))) = past a
-still-call state len room profile ended past full (inr (inr (inr a))) = full a
+-- the segments to the breaks of a call, which gave them into the front of a block
+pub put-given : (table : FlatTable) (text : List ℕ) (old here : SegmentState) (new : State) (next : ℕ) (before out : List Segment) (block front rest : List RawBreak) (count given room : ℕ)
+    → IsPut table text old here before count → length block ≡ 64 → room ≡ min 64 (length before - count) → length front ≡ length (take room block)
+    → GivesBreaks table text here.breaks new (length (take room block)) front given → length out ≡ length before
+    → take (count + length (take given (front ++ rest))) out ≡ take count before ++ segments_between here.start (take given (front ++ rest))
+    → next ≡ next_start here.start (take given (front ++ rest))
+    → IsPut table text old (record { breaks = new; start = next }) out (count + given)
+put-given table text old here new next before out block front rest count given room i sized is_room long g same put starts =
+    let size = length-take-le room block (omega (arith, is_room, sized)) in
+    let few : given ≤ length front = omega (arith, g.goes_over.within, long) in
+    put-more table text old here new next before out front (take given (front ++ rest)) count given room i
+    (subst (λ n. GivesBreaks table text here.breaks new n front given) size g) few (take-append-le given front rest few) is_room same put starts
 
 -- a block whose front was written is as long as before
 pub same-length : (front block : List RawBreak) (room size : ℕ) → length front ≡ room → room ≤ size → length block ≡ size → length (front ++ drop room block) ≡ size

@@ -1,17 +1,21 @@
 -- What a call promises that takes the next piece of a stream of units: each set of clauses once.
-use Rattle.std.specs.Prelude.{◌≡◌, ℕ, suc, ◌+◌, ◌-◌, ◌<◌, ◌≤◌, ◌⊎◌, Bool, true, false, List, [], ◌++◌}
-use Rattle.std.specs.Prelude.{drop, length, take}
+use Rattle.std.specs.Prelude.{◌≡◌, ℕ, suc, ◌+◌, ◌-◌, ◌^◌, ◌<◌, ◌≤◌, ◌⊎◌, Bool, true, false, List, [], ◌++◌}
+use Rattle.std.specs.Prelude.{drop, length, map, take}
 use Rattle.bstr.specs.Utf8.{Decoded}
 use Rattle.lbk_rules.specs.declared.Break.{Break}
 use Rattle.lbk_rules.specs.declared.Cell.{Cell}
 use Rattle.lbk_rules.specs.declared.flat_table.FlatTable.{FlatTable}
+use Rattle.lbk_values.specs.declared.profile.Profile.{Profile}
+use Rattle.lbk_rules.specs.FlatTable.{IsFlatOf}
+use Rattle.lbk_rules.specs.Joins.{moved}
 use Rattle.lbk_bytes.specs.declared.raw_break.RawBreak.{RawBreak}
 use Rattle.lbk_bytes.specs.Order.{AreBreaks, AreInOrder}
 use Rattle.lbk_bytes.specs.Shown.{given_in}
 use Rattle.lbk_streams.specs.declared.stream.Fed.{Fed}
 use Rattle.lbk_streams.specs.declared.stream.Stream.{Stream}
 use Rattle.lbk_streams.specs.Stands.{StreamsIn}
-use Rattle.lbk_streams.specs.Streams.{AreUnsettledIn, IsSoundIn, cut_units, most_left_in, next_place, place_of}
+use Rattle.lbk_streams.specs.Streams.{AreUnsettledIn, IsSoundIn, cut_units, most_left_in, next_place, part_stream}
+use Rattle.lbk_streams.specs.Streams.{place_of, stream_start}
 
 -- whatever the table and the stream, of a piece of so many units: at most one break for each unit, one that waited and
 -- the end; from a stream's start on their places rise, in a call and from one call to the next; and where the stream
@@ -49,3 +53,25 @@ pub record FeedsNext {A : Type 0} (pieces_of : List A → List Decoded) (carried
       → AreUnsettledIn pieces_of carried could_go_on cell new more (drop fed.count to_come)
   pub seen : (last ≡ true → more ≡ []) → old.ended ≡ 0
       → new.at + length (cut_units carried new) ≡ old.at + length (cut_units carried old) + fed.taken
+
+-- all that such a call promises. `whole` says which breaks a text has, and `part_of` which a part of one has, after
+-- which the text goes on or ends; a stream holds at most so many units that were cut
+pub record TakesPiece {A : Type 0} (pieces_of : List A → List Decoded) (carried : List ℕ → List A)
+    (could_go_on : List A → Bool) (widest : ℕ) (whole : Profile → (ℕ → Cell) → List A → List Break)
+    (part_of : Bool → Profile → (ℕ → Cell) → List A → List Break) (table : FlatTable) (old new : Stream)
+    (piece : List A) (last : Bool) (room : ℕ) (out : List RawBreak) (fed : Fed) : Type 0 where
+  pub over : FeedsOver carried old new (length piece) last room out fed
+  pub start : (cell : ℕ → Cell) (profile : Profile) (text : List A) → IsFlatOf table cell → length text < 2 ^ 64
+      → old ≡ stream_start profile
+      → StreamsIn pieces_of carried cell table old text (whole profile cell text)
+  -- places count from the text's start, if the part's place is given
+  pub part : (cell : ℕ → Cell) (profile : Profile) (goes_on : Bool) (at : ℕ) (text : List A) → IsFlatOf table cell
+      → at + length text < 2 ^ 64
+      → old ≡ part_stream goes_on profile at
+      → StreamsIn pieces_of carried cell table old text (map (moved at) (part_of goes_on profile cell text))
+  pub next : (cell : ℕ → Cell) (more : List A) (to_come : List Break)
+      → StreamsIn pieces_of carried cell table old (piece ++ more) to_come
+      → FeedsNext pieces_of carried could_go_on cell table old new piece more last room out fed to_come
+  pub cut : old.cut_size ≤ widest → new.cut_size ≤ widest
+  pub end : (cell : ℕ → Cell) (to_come : List Break) → StreamsIn pieces_of carried cell table old piece to_come
+      → last ≡ true → fed.count < room → fed.count ≡ length to_come

@@ -2,6 +2,8 @@ pub mod Checked
 pub mod ClaimTexts
 pub mod Faults
 pub mod Feeds
+pub mod Marks
+pub mod Reads
 pub mod SafeBreaks
 pub mod Segments
 pub mod Texts

@@ -1,8 +1,12 @@
 -- The segments of a text: its cutting at its breaks, each with the kind and rule at its end (UAX #14, section 3).
-use Rattle.std.specs.Prelude.{ℕ, ◌≤◌, List, [], ◌∷◌, ⊤}
+use Rattle.std.specs.Prelude.{◌≡◌, ℕ, ◌≤◌, List, [], ◌∷◌, ⊤, drop, length, map, min, take}
+use Rattle.lbk_rules.specs.declared.Break.{Break}
 use Rattle.lbk_bytes.specs.declared.raw_break.RawBreak.{RawBreak}
 use Rattle.lbk_bytes.specs.Order.{IsBreak}
+use Rattle.lbk_bytes.specs.Shown.{raw_of}
+use Rattle.lbk_calls.specs.declared.interface.State.{State}
 use Rattle.lbk_c.specs.declared.segments.Segment.{Segment}
+use Rattle.lbk_c.specs.declared.segments.SegmentState.{SegmentState}
 
 -- the segment that ends at a break
 abbrev pub segment_to : ℕ → RawBreak → Segment
@@ -26,3 +30,12 @@ end_of s = record { at = s.end; kind = s.kind; rule = s.rule }
 abbrev pub AreWithin : ℕ → List Segment → Type 0
 AreWithin size [] = ⊤
 AreWithin size (s ∷ segments) = (s.start ≤ s.end) × (s.end ≤ size) × IsBreak (end_of s) × AreWithin size segments
+
+-- where these breaks come from a state on: the segments that end at as many of them as there is room for are given, and
+-- the other breaks come next
+pub record SegmentsNext (Come : State → List Break → Type 0) (old new : SegmentState) (room : ℕ) (out : List Segment)
+    (result : ℕ) (to_come : List Break) : Type 0 where
+  pub count : result ≡ min room (length to_come)
+  pub front : take result out ≡ segments_between old.start (map raw_of (take result to_come))
+  pub next : new.start ≡ next_start old.start (map raw_of (take result to_come))
+  pub rest : Come new.breaks (drop result to_come)

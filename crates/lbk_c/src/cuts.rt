@@ -1,10 +1,7 @@
 //! Where a text may be cut into parts.
 
-ghost use Rattle.std.specs.Prelude.{◌≡◌, ℕ, ◌<◌, ◌≤◌, length};
-ghost use Rattle.lbk_rules.specs.declared.Cell.{Cell};
-ghost use Rattle.lbk_values.specs.declared.profile.Profile.{Profile};
-ghost use Rattle.lbk_rules.specs.FlatTable.{IsFlatOf};
-ghost use Rattle.lbk_streams.specs.Cuts.{IsCutAfter, IsCutBefore, IsPieceStart, JoinsAt};
+ghost use Rattle.bstr.specs.Utf8.{pieces};
+ghost use Rattle.lbk_streams.specs.Cuts.{CutsAfter, CutsBefore};
 
 use lbk_rules::FlatTable;
 use lbk_streams::{cut, cut_before};
@@ -17,16 +14,7 @@ use lbk_streams::{cut, cut_before};
 /// part except the last is a break by rule 4 or 5 instead of 3.
 #[unsafe(no_mangle)]
 pub extern "C" fn lbk_cut(table: &FlatTable, text: &[u8], at: usize) -> usize
-    ensures within { result ≤ length text.now }
-    ensures past { length text.now ≤ at → result ≡ length text.now }
-    ensures behind { at ≤ length text.now → at ≤ result }
-    ensures start { at ≡ 0 → result ≡ 0 }
-    // Whatever the table, no part begins within a scalar, nor within bytes that are read as one U+FFFD.
-    ensures begins { IsPieceStart text.now result }
-    ensures first { (cell : ℕ → Cell) → IsFlatOf table.now cell → IsCutAfter cell text.now at result }
-    ensures joined { (cell : ℕ → Cell) (profile : Profile) → IsFlatOf table.now cell → 0 < result
-        → result < length text.now
-        → JoinsAt profile cell text.now result }
+    ensures { CutsAfter pieces table.now text.now at result }
 {
     cut(table, text, at)
 }
@@ -34,14 +22,7 @@ pub extern "C" fn lbk_cut(table: &FlatTable, text: &[u8], at: usize) -> usize
 /// The last offset at or before `at` at which a part of a text may begin. An `at` past the text counts as its end.
 #[unsafe(no_mangle)]
 pub extern "C" fn lbk_cut_before(table: &FlatTable, text: &[u8], at: usize) -> usize
-    ensures within { result ≤ length text.now }
-    ensures past { length text.now ≤ at → result ≡ length text.now }
-    ensures before { result ≤ at }
-    ensures begins { IsPieceStart text.now result }
-    ensures last { (cell : ℕ → Cell) → IsFlatOf table.now cell → IsCutBefore cell text.now at result }
-    ensures joined { (cell : ℕ → Cell) (profile : Profile) → IsFlatOf table.now cell → 0 < result
-        → result < length text.now
-        → JoinsAt profile cell text.now result }
+    ensures { CutsBefore pieces table.now text.now at result }
 {
     cut_before(table, text, at)
 }

@@ -10,8 +10,7 @@ ghost use Rattle.lbk_ucd.specs.File.{Format, IsLawful, property_of};
 ghost use Rattle.lbk_rules.specs.FlatTable.{IsWhole, digest_with};
 ghost use Rattle.lbk_c.specs.Checked.{DifferInOne, numbers_of};
 ghost use Rattle.lbk_units.specs.Units.{pieces_of_utf16, pieces_of_utf32};
-ghost use Rattle.lbk_calls.specs.Coming.{Comes};
-ghost use Rattle.lbk_calls.specs.UnitsComing.{PositionsCome, UnitsCome};
+ghost use Rattle.lbk_calls.specs.Coming.{Comes, PositionsCome, UnitsCome};
 ghost use Rattle.lbk_words.specs.Words.{words_on};
 
 /// What is returned from a state on depends only on the state and on the bytes of the text from its offset on. The

@@ -1,23 +1,15 @@
 //! The positions of a text with the verdict of each, a block at a time.
 
-ghost use Rattle.std.specs.Prelude.{◌≡◌, ◌⊎◌, ℕ, Bool, suc, ◌<◌, ◌≤◌, true, List, drop, length, map, min, take};
+ghost use Rattle.std.specs.Prelude.{◌≡◌, ℕ, true, List, length, map};
 ghost use Rattle.std.specs.Str.{all_scalars, encode_utf8_all};
 ghost use Rattle.bstr.specs.Utf8.{pieces};
-ghost use Rattle.lbk_rules.specs.declared.Break.{Break};
 ghost use Rattle.lbk_rules.specs.declared.Cell.{Cell};
 ghost use Rattle.lbk_values.specs.declared.profile.Profile.{Profile};
-ghost use Rattle.lbk_rules.specs.Joins.{moved};
-ghost use Rattle.lbk_rules.specs.FlatTable.{IsFlatOf};
 ghost use Rattle.lbk_bytes.specs.Bytes.{breaks_of_bytes};
-ghost use Rattle.lbk_bytes.specs.Order.{ArePositionsInOrder};
-ghost use Rattle.lbk_bytes.specs.Shown.{given_in};
 ghost use Rattle.lbk_units.specs.Encodings.{encode_utf16_all, placed_in};
-ghost use Rattle.lbk_units.specs.Positions.{breaks_among, positions_of_bytes, positions_of_part_of, positions_of_utf16};
-ghost use Rattle.lbk_units.specs.Positions.{positions_of_utf32};
+ghost use Rattle.lbk_units.specs.Positions.{breaks_among, positions_of_bytes, positions_of_utf16, positions_of_utf32};
 ghost use Rattle.lbk_units.specs.Units.{breaks_of_utf16, breaks_of_utf32, pieces_of_utf16, pieces_of_utf32};
-ghost use Rattle.lbk_calls.specs.Calls.{GivesNext, GoesOver};
-ghost use Rattle.lbk_calls.specs.State.{part_start, start_in};
-ghost use Rattle.lbk_calls.specs.UnitsComing.{PositionsCome};
+ghost use Rattle.lbk_calls.specs.Calls.{GivesPositionsOf};
 
 use lbk_bytes::RawBreak;
 use lbk_calls::{State, next_of};
@@ -39,19 +31,7 @@ pub extern "C" fn lbk_positions(
     text: &[u8],
     out: &mut [RawBreak],
 ) -> usize
-    ensures goes_over { GoesOver ArePositionsInOrder state.old state.new (length text.now) (length out.old) out.new
-        result }
-    ensures start { (cell : ℕ → Cell) (profile : Profile) → IsFlatOf table.now cell → state.old ≡ start_in profile
-        → PositionsCome pieces cell table.now text.now state.old (positions_of_bytes profile cell text.now) }
-    // A part of the text that begins at any of its bytes, and after which the text may go on.
-    ensures part { (cell : ℕ → Cell) (profile : Profile) (goes_on : Bool) (at : ℕ) → IsFlatOf table.now cell
-        → at ≤ length text.now
-        → state.old ≡ part_start goes_on profile at
-        → PositionsCome pieces cell table.now text.now state.old
-        (map (moved at) (positions_of_part_of goes_on profile cell (pieces (drop at text.now)))) }
-    ensures gives { (cell : ℕ → Cell) (to_come : List Break) → PositionsCome pieces cell table.now text.now state.old
-        to_come
-        → GivesNext (PositionsCome pieces cell table.now text.now) state.new (length out.old) out.new result to_come }
+    ensures gives { GivesPositionsOf pieces table.now text.now state.old state.new (length out.old) out.new result }
     // The breaks of a text are those of its positions where a line may or must end.
     ensures breaks { (cell : ℕ → Cell) (profile : Profile)
         → breaks_among (positions_of_bytes profile cell text.now) ≡ breaks_of_bytes profile cell text.now }
@@ -77,19 +57,7 @@ pub extern "C" fn lbk_positions_utf16(
     text: &[u16],
     out: &mut [RawBreak],
 ) -> usize
-    ensures goes_over { GoesOver ArePositionsInOrder state.old state.new (length text.now) (length out.old) out.new
-        result }
-    ensures start { (cell : ℕ → Cell) (profile : Profile) → IsFlatOf table.now cell → state.old ≡ start_in profile
-        → PositionsCome pieces_of_utf16 cell table.now text.now state.old (positions_of_utf16 profile cell text.now) }
-    ensures part { (cell : ℕ → Cell) (profile : Profile) (goes_on : Bool) (at : ℕ) → IsFlatOf table.now cell
-        → at ≤ length text.now
-        → state.old ≡ part_start goes_on profile at
-        → PositionsCome pieces_of_utf16 cell table.now text.now state.old
-        (map (moved at) (positions_of_part_of goes_on profile cell (pieces_of_utf16 (drop at text.now)))) }
-    ensures gives { (cell : ℕ → Cell) (to_come : List Break) → PositionsCome pieces_of_utf16 cell table.now text.now
-        state.old to_come
-        → GivesNext (PositionsCome pieces_of_utf16 cell table.now text.now) state.new (length out.old) out.new result
-        to_come }
+    ensures gives { GivesPositionsOf pieces_of_utf16 table.now text.now state.old state.new (length out.old) out.new result }
     // The breaks of a text are those of its positions where a line may or must end.
     ensures breaks { (cell : ℕ → Cell) (profile : Profile)
         → breaks_among (positions_of_utf16 profile cell text.now) ≡ breaks_of_utf16 profile cell text.now }
@@ -115,19 +83,7 @@ pub extern "C" fn lbk_positions_utf32(
     text: &[u32],
     out: &mut [RawBreak],
 ) -> usize
-    ensures goes_over { GoesOver ArePositionsInOrder state.old state.new (length text.now) (length out.old) out.new
-        result }
-    ensures start { (cell : ℕ → Cell) (profile : Profile) → IsFlatOf table.now cell → state.old ≡ start_in profile
-        → PositionsCome pieces_of_utf32 cell table.now text.now state.old (positions_of_utf32 profile cell text.now) }
-    ensures part { (cell : ℕ → Cell) (profile : Profile) (goes_on : Bool) (at : ℕ) → IsFlatOf table.now cell
-        → at ≤ length text.now
-        → state.old ≡ part_start goes_on profile at
-        → PositionsCome pieces_of_utf32 cell table.now text.now state.old
-        (map (moved at) (positions_of_part_of goes_on profile cell (pieces_of_utf32 (drop at text.now)))) }
-    ensures gives { (cell : ℕ → Cell) (to_come : List Break) → PositionsCome pieces_of_utf32 cell table.now text.now
-        state.old to_come
-        → GivesNext (PositionsCome pieces_of_utf32 cell table.now text.now) state.new (length out.old) out.new result
-        to_come }
+    ensures gives { GivesPositionsOf pieces_of_utf32 table.now text.now state.old state.new (length out.old) out.new result }
     // The breaks of a text are those of its positions where a line may or must end.
     ensures breaks { (cell : ℕ → Cell) (profile : Profile)
         → breaks_among (positions_of_utf32 profile cell text.now) ≡ breaks_of_utf32 profile cell text.now }

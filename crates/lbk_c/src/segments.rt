@@ -1,16 +1,11 @@
 //! The segments of a text, a block at a time.
 
-ghost use Rattle.std.specs.Prelude.{◌≡◌, ◌⊎◌, ℕ, Bool, ◌+◌, ◌<◌, ◌≤◌, ◌++◌, List, drop, length, map, min, take};
+ghost use Rattle.std.specs.Prelude.{◌≡◌, ◌⊎◌, ℕ, ◌+◌, ◌<◌, ◌≤◌, ◌++◌, List, length, take};
 ghost use Rattle.lbk_rules.specs.declared.Break.{Break};
 ghost use Rattle.lbk_rules.specs.declared.Cell.{Cell};
-ghost use Rattle.lbk_values.specs.declared.profile.Profile.{Profile};
-ghost use Rattle.lbk_rules.specs.Joins.{moved};
-ghost use Rattle.lbk_rules.specs.FlatTable.{IsFlatOf};
-ghost use Rattle.lbk_bytes.specs.Bytes.{breaks_of_bytes, breaks_of_part};
-ghost use Rattle.lbk_bytes.specs.Shown.{raw_of};
+ghost use Rattle.lbk_calls.specs.Calls.{BreaksComeAtStart};
 ghost use Rattle.lbk_calls.specs.Coming.{Comes};
-ghost use Rattle.lbk_calls.specs.State.{part_start, start_in};
-ghost use Rattle.lbk_c.specs.Segments.{AreWithin, next_start, segments_between};
+ghost use Rattle.lbk_c.specs.Segments.{AreWithin, SegmentsNext, next_start, segments_between};
 
 use lbk_bytes::RawBreak;
 use lbk_calls::{State, give_breaks};
@@ -60,25 +55,9 @@ pub extern "C" fn lbk_segments(
     ensures profile_same { state.new.breaks.profile ≡ state.old.breaks.profile }
     ensures all { state.old.breaks.profile ≤ 3 → state.old.breaks.at ≤ length text.now → result < length out.old
         → 0 < state.new.breaks.ended }
-    ensures whole { (cell : ℕ → Cell) (profile : Profile) → IsFlatOf table.now cell
-        → state.old.breaks ≡ start_in profile
-        → Comes cell table.now text.now state.old.breaks (breaks_of_bytes profile cell text.now) }
-    ensures part { (cell : ℕ → Cell) (profile : Profile) (goes_on : Bool) (at : ℕ) → IsFlatOf table.now cell
-        → at ≤ length text.now
-        → state.old.breaks ≡ part_start goes_on profile at
-        → Comes cell table.now text.now state.old.breaks
-        (map (moved at) (breaks_of_part goes_on profile cell (drop at text.now))) }
-    ensures count { (cell : ℕ → Cell) (to_come : List Break)
-        → Comes cell table.now text.now state.old.breaks to_come → result ≡ min (length out.old) (length to_come) }
-    ensures front { (cell : ℕ → Cell) (to_come : List Break)
-        → Comes cell table.now text.now state.old.breaks to_come
-        → take result out.new ≡ segments_between state.old.start (map raw_of (take result to_come)) }
-    ensures next { (cell : ℕ → Cell) (to_come : List Break)
-        → Comes cell table.now text.now state.old.breaks to_come
-        → state.new.start ≡ next_start state.old.start (map raw_of (take result to_come)) }
-    ensures rest { (cell : ℕ → Cell) (to_come : List Break)
-        → Comes cell table.now text.now state.old.breaks to_come
-        → Comes cell table.now text.now state.new.breaks (drop result to_come) }
+    ensures begins { BreaksComeAtStart table.now text.now state.old.breaks }
+    ensures gives { (cell : ℕ → Cell) (to_come : List Break) → Comes cell table.now text.now state.old.breaks to_come
+        → SegmentsNext (Comes cell table.now text.now) state.old state.new (length out.old) out.new result to_come }
     // Of any table: each segment is within the text, and ends at a break by a rule.
     ensures sound { state.old.start ≤ state.old.breaks.at → state.old.breaks.at ≤ length text.now
         → AreWithin (length text.now) (take result out.new) × (state.new.start ≤ state.new.breaks.at)

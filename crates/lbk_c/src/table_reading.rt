@@ -1,13 +1,9 @@
 //! A table from property files: the only module with calls that allocate.
 
-ghost use Rattle.std.specs.Prelude.{◌≡◌, ◌<◌, ℕ};
-ghost use Rattle.lbk_ucd.specs.Files.{AreLawful};
-ghost use Rattle.lbk_rules.specs.Cells.{AreCellsOf, cell_of_files};
-ghost use Rattle.lbk_rules.specs.declared.Cell.{Cell};
-ghost use Rattle.lbk_rules.specs.FlatTable.{AreKindsAlone, IsFlatOf, IsWhole};
-ghost use Rattle.lbk_rules.specs.Neighbours.{AreNeighboursOf};
 ghost use Rattle.lbk_ucd.specs.Digests.{ArePublished};
-ghost use Rattle.lbk_c.specs.Faults.{IsFaultOf, IsFaultOfPublished, files_of, no_fault};
+ghost use Rattle.lbk_ucd.specs.Files.{AreLawful};
+ghost use Rattle.lbk_c.specs.Faults.{IsFaultOf, IsFaultOfPublished, files_of};
+ghost use Rattle.lbk_c.specs.Reads.{ReadsTable};
 
 use crate::faults::{NO_FAULT, UNMADE_FAULT, given_fault, unpublished_fault};
 use crate::interface::Fault;
@@ -29,20 +25,8 @@ pub extern "C" fn lbk_read(
     category: &[u8],
     emoji: &[u8],
 ) -> Fault
-    ensures lawful { result.cause ≡ 0
-        → AreLawful (files_of line_break.entry east_asian.entry category.entry emoji.entry) }
-    ensures table { result.cause ≡ 0 → (cell : ℕ → Cell)
-        → AreCellsOf (files_of line_break.entry east_asian.entry category.entry emoji.entry) cell
-        → IsFlatOf table.new cell }
-    ensures whole { result.cause ≡ 0 → IsWhole table.new }
-    ensures neighbours { result.cause ≡ 0 → AreNeighboursOf table.new.kinds table.new.pairs }
-    ensures kinds { result.cause ≡ 0
-        → AreKindsAlone table.new (cell_of_files
-        (files_of line_break.entry east_asian.entry category.entry emoji.entry)) }
-    ensures none { result.cause ≡ 0 → result ≡ no_fault }
-    ensures refused { 0 < result.cause
-        → IsFaultOf (files_of line_break.entry east_asian.entry category.entry emoji.entry) result }
-    ensures untouched { 0 < result.cause → table.new ≡ table.old }
+    ensures { ReadsTable AreLawful IsFaultOf (files_of line_break.entry east_asian.entry category.entry emoji.entry)
+        table.old table.new result }
 {
     let files = Files {
         line_break,
@@ -73,20 +57,8 @@ pub extern "C" fn lbk_read_published(
     category: &[u8],
     emoji: &[u8],
 ) -> Fault
-    ensures published { result.cause ≡ 0
-        → ArePublished (files_of line_break.entry east_asian.entry category.entry emoji.entry) }
-    ensures table { result.cause ≡ 0 → (cell : ℕ → Cell)
-        → AreCellsOf (files_of line_break.entry east_asian.entry category.entry emoji.entry) cell
-        → IsFlatOf table.new cell }
-    ensures whole { result.cause ≡ 0 → IsWhole table.new }
-    ensures neighbours { result.cause ≡ 0 → AreNeighboursOf table.new.kinds table.new.pairs }
-    ensures kinds { result.cause ≡ 0
-        → AreKindsAlone table.new (cell_of_files
-        (files_of line_break.entry east_asian.entry category.entry emoji.entry)) }
-    ensures none { result.cause ≡ 0 → result ≡ no_fault }
-    ensures refused { 0 < result.cause
-        → IsFaultOfPublished (files_of line_break.entry east_asian.entry category.entry emoji.entry) result }
-    ensures untouched { 0 < result.cause → table.new ≡ table.old }
+    ensures { ReadsTable ArePublished IsFaultOfPublished (files_of line_break.entry east_asian.entry category.entry emoji.entry)
+        table.old table.new result }
 {
     let files = Files {
         line_break,

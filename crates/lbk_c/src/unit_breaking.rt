@@ -1,21 +1,13 @@
 //! The breaks of a text in UTF-16 or UTF-32, a block at a time.
 
-ghost use Rattle.std.specs.Prelude.{◌≡◌, ℕ, Bool, suc, ◌<◌, ◌≤◌, ◌⊎◌, true, List, drop, length, map, min, take};
+ghost use Rattle.std.specs.Prelude.{◌≡◌, ℕ, true, List, length, map};
 ghost use Rattle.std.specs.Str.{all_scalars, encode_utf8_all};
-ghost use Rattle.lbk_rules.specs.declared.Break.{Break};
 ghost use Rattle.lbk_rules.specs.declared.Cell.{Cell};
 ghost use Rattle.lbk_values.specs.declared.profile.Profile.{Profile};
 ghost use Rattle.lbk_rules.specs.Breaks.{breaks};
-ghost use Rattle.lbk_rules.specs.Joins.{moved};
-ghost use Rattle.lbk_rules.specs.FlatTable.{IsFlatOf};
-ghost use Rattle.lbk_bytes.specs.Order.{AreInOrder};
-ghost use Rattle.lbk_bytes.specs.Shown.{given_in};
 ghost use Rattle.lbk_units.specs.Encodings.{encode_utf16_all, placed_in};
-ghost use Rattle.lbk_units.specs.Units.{breaks_of_part_of, breaks_of_utf16, breaks_of_utf32, pieces_of_utf16};
-ghost use Rattle.lbk_units.specs.Units.{pieces_of_utf32};
-ghost use Rattle.lbk_calls.specs.Calls.{GivesNext, GoesOver};
-ghost use Rattle.lbk_calls.specs.State.{part_start, start_in};
-ghost use Rattle.lbk_calls.specs.UnitsComing.{UnitsCome};
+ghost use Rattle.lbk_units.specs.Units.{breaks_of_utf16, breaks_of_utf32, pieces_of_utf16, pieces_of_utf32};
+ghost use Rattle.lbk_calls.specs.Calls.{GivesBreaksOf};
 
 use lbk_bytes::RawBreak;
 use lbk_calls::{State, next_of};
@@ -36,19 +28,7 @@ pub extern "C" fn lbk_breaks_utf16(
     text: &[u16],
     out: &mut [RawBreak],
 ) -> usize
-    ensures goes_over { GoesOver AreInOrder state.old state.new (length text.now) (length out.old) out.new result }
-    ensures start { (cell : ℕ → Cell) (profile : Profile) → IsFlatOf table.now cell → state.old ≡ start_in profile
-        → UnitsCome pieces_of_utf16 cell table.now text.now state.old (breaks_of_utf16 profile cell text.now) }
-    // A part of the text that begins at any of its units, and after which the text may go on.
-    ensures part { (cell : ℕ → Cell) (profile : Profile) (goes_on : Bool) (at : ℕ) → IsFlatOf table.now cell
-        → at ≤ length text.now
-        → state.old ≡ part_start goes_on profile at
-        → UnitsCome pieces_of_utf16 cell table.now text.now state.old
-        (map (moved at) (breaks_of_part_of goes_on profile cell (pieces_of_utf16 (drop at text.now)))) }
-    ensures gives { (cell : ℕ → Cell) (to_come : List Break) → UnitsCome pieces_of_utf16 cell table.now text.now
-        state.old to_come
-        → GivesNext (UnitsCome pieces_of_utf16 cell table.now text.now) state.new (length out.old) out.new result
-        to_come }
+    ensures gives { GivesBreaksOf pieces_of_utf16 table.now text.now state.old state.new (length out.old) out.new result }
     // Of well-formed text the breaks are those of its scalars.
     ensures well_formed { (cell : ℕ → Cell) (profile : Profile) (scalars : List ℕ) → all_scalars scalars ≡ true
         → text.now ≡ encode_utf16_all scalars
@@ -72,18 +52,7 @@ pub extern "C" fn lbk_breaks_utf32(
     text: &[u32],
     out: &mut [RawBreak],
 ) -> usize
-    ensures goes_over { GoesOver AreInOrder state.old state.new (length text.now) (length out.old) out.new result }
-    ensures start { (cell : ℕ → Cell) (profile : Profile) → IsFlatOf table.now cell → state.old ≡ start_in profile
-        → UnitsCome pieces_of_utf32 cell table.now text.now state.old (breaks_of_utf32 profile cell text.now) }
-    ensures part { (cell : ℕ → Cell) (profile : Profile) (goes_on : Bool) (at : ℕ) → IsFlatOf table.now cell
-        → at ≤ length text.now
-        → state.old ≡ part_start goes_on profile at
-        → UnitsCome pieces_of_utf32 cell table.now text.now state.old
-        (map (moved at) (breaks_of_part_of goes_on profile cell (pieces_of_utf32 (drop at text.now)))) }
-    ensures gives { (cell : ℕ → Cell) (to_come : List Break) → UnitsCome pieces_of_utf32 cell table.now text.now
-        state.old to_come
-        → GivesNext (UnitsCome pieces_of_utf32 cell table.now text.now) state.new (length out.old) out.new result
-        to_come }
+    ensures gives { GivesBreaksOf pieces_of_utf32 table.now text.now state.old state.new (length out.old) out.new result }
     // Of well-formed text the breaks are those of its scalars, which the rules know by their places in UTF-8.
     ensures well_formed { (cell : ℕ → Cell) (profile : Profile) → all_scalars text.now ≡ true
         → breaks profile cell text.now

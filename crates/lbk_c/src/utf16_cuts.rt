@@ -1,11 +1,7 @@
 //! Where a text in UTF-16 may be cut into parts.
 
-ghost use Rattle.std.specs.Prelude.{◌≡◌, ℕ, ◌<◌, ◌≤◌, length};
-ghost use Rattle.lbk_rules.specs.declared.Cell.{Cell};
-ghost use Rattle.lbk_values.specs.declared.profile.Profile.{Profile};
-ghost use Rattle.lbk_rules.specs.FlatTable.{IsFlatOf};
 ghost use Rattle.lbk_units.specs.Units.{pieces_of_utf16};
-ghost use Rattle.lbk_streams.specs.Cuts.{BeginsIn, IsCutAfterIn, IsCutBeforeIn, JoinsIn};
+ghost use Rattle.lbk_streams.specs.Cuts.{CutsAfter, CutsBefore};
 
 use lbk_rules::FlatTable;
 use lbk_streams::{cut_before_utf16, cut_utf16};
@@ -15,17 +11,7 @@ use lbk_streams::{cut_before_utf16, cut_utf16};
 /// is 0, where the first part begins.
 #[unsafe(no_mangle)]
 pub extern "C" fn lbk_cut_utf16(table: &FlatTable, text: &[u16], at: usize) -> usize
-    ensures within { result ≤ length text.now }
-    ensures past { length text.now ≤ at → result ≡ length text.now }
-    ensures behind { at ≤ length text.now → at ≤ result }
-    ensures start { at ≡ 0 → result ≡ 0 }
-    // Whatever the table, no part begins within a surrogate pair.
-    ensures begins { BeginsIn pieces_of_utf16 text.now result }
-    ensures first { (cell : ℕ → Cell) → IsFlatOf table.now cell
-        → IsCutAfterIn pieces_of_utf16 cell text.now at result }
-    ensures joined { (cell : ℕ → Cell) (profile : Profile) → IsFlatOf table.now cell → 0 < result
-        → result < length text.now
-        → JoinsIn pieces_of_utf16 profile cell text.now result }
+    ensures { CutsAfter pieces_of_utf16 table.now text.now at result }
 {
     cut_utf16(table, text, at)
 }
@@ -34,15 +20,7 @@ pub extern "C" fn lbk_cut_utf16(table: &FlatTable, text: &[u16], at: usize) -> u
 /// end.
 #[unsafe(no_mangle)]
 pub extern "C" fn lbk_cut_before_utf16(table: &FlatTable, text: &[u16], at: usize) -> usize
-    ensures within { result ≤ length text.now }
-    ensures past { length text.now ≤ at → result ≡ length text.now }
-    ensures before { result ≤ at }
-    ensures begins { BeginsIn pieces_of_utf16 text.now result }
-    ensures last { (cell : ℕ → Cell) → IsFlatOf table.now cell
-        → IsCutBeforeIn pieces_of_utf16 cell text.now at result }
-    ensures joined { (cell : ℕ → Cell) (profile : Profile) → IsFlatOf table.now cell → 0 < result
-        → result < length text.now
-        → JoinsIn pieces_of_utf16 profile cell text.now result }
+    ensures { CutsBefore pieces_of_utf16 table.now text.now at result }
 {
     cut_before_utf16(table, text, at)
 }

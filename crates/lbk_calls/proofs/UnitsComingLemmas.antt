@@ -5,32 +5,32 @@ use Rattle.std.proofs.lemmas.List.{append-nil}
 use Rattle.std.proofs.lemmas.Str.{chars-encodes}
 use Rattle.std.proofs.Math.Seq.{drop-length}
 use lib.Utf8.{scalars}
-use Rattle.bstr.specs.Utf8.{Decoded}
+use Rattle.bstr.specs.Utf8.{Decoded, pieces}
 use Rattle.lbk_rules.specs.declared.Break.{Break}
 use Rattle.lbk_rules.specs.declared.Cell.{Cell}
 use Rattle.lbk_rules.specs.declared.flat_table.FlatTable.{FlatTable}
 use Rattle.lbk_values.specs.declared.profile.Profile.{Profile}
 use Rattle.lbk_values.specs.declared.profile.Profile.TheVariants.{First, Second}
 use Rattle.lbk_rules.specs.Breaks.{breaks}
-use Rattle.lbk_rules.specs.Joins.{moved}
 use Rattle.lbk_rules.specs.FlatTable.{IsFlatOf, KnowsTaken}
 use Rattle.lbk_rules.proofs.FlatLemmas.{left-start}
 use Rattle.lbk_bytes.specs.declared.fill_state.FillState.{FillState}
 use Rattle.lbk_bytes.specs.declared.raw_break.RawBreak.{RawBreak}
 use Rattle.lbk_bytes.specs.Bytes.{end_in}
-use Rattle.lbk_bytes.specs.Reached.{Onward, onward_all, onward_to, position_end_in}
+use Rattle.lbk_bytes.specs.Order.{AreInOrder, ArePositionsInOrder}
+use Rattle.lbk_bytes.specs.Reached.{Onward, ReachedBy, onward_all, onward_to, position_end_in}
 use Rattle.lbk_bytes.specs.Shown.{given_in}
 use Rattle.lbk_units.specs.Encodings.{placed_in}
 use Rattle.lbk_units.specs.Reached.{UnitsReachedBy, on_from}
-use Rattle.lbk_units.specs.Positions.{positions_of_part_of, positions_of_pieces}
-use Rattle.lbk_units.specs.Units.{breaks_of_part_of, breaks_of_pieces, breaks_of_utf32}
+use Rattle.lbk_units.specs.Units.{breaks_of_utf32}
 use Rattle.lbk_units.proofs.PositionLemmas.{all-part, all-start, pieces-part}
 use Rattle.lbk_units.proofs.EncodingLemmas as encoding
 use Rattle.lbk_calls.specs.declared.interface.State.{State}
-use Rattle.lbk_calls.specs.Coming.{IsGoing, IsSpent, from_state}
 use Rattle.lbk_calls.specs.State.{goes_on, part_start, plain, profile_number, profile_numbered, start_in}
-use Rattle.lbk_calls.specs.UnitsComing.{PositionsCome, UnitsCome, UnitsComeBy, UnitsGo}
+use Rattle.lbk_calls.specs.Coming.{Comes, IsGoing, IsSpent, PositionsCome, PutsEnd, UnitsCome, UnitsComeBy, UnitsGo, UnitsOnto, from_state}
+use Rattle.lbk_calls.specs.Calls.{BreaksComeAtStart, GivesBreaks, GivesBreaksOf, GivesNext, GivesPositionsOf, GoesOver}
 use Rattle.lbk_calls.proofs.ComingLemmas.{breaks-utf8, gives, same-profile}
+use Rattle.lbk_bytes.proofs.PartLemmas.{part-onward}
 use Rattle.lbk_bytes.proofs.ReachedLemmas.{given-many, onward-start, profile-same}
 
 module _ {A : Type 0} (from : Onward) (pieces_of : List A → List Decoded) where
@@ -76,53 +76,63 @@ module _ {A : Type 0} (from : Onward) (pieces_of : List A → List Decoded) wher
     };
   }
 
+  -- a state stands where a call came to, and these are left
+  pub onto-here : (profile : Profile) (cell : ℕ → Cell) (text : List A) (all given rest : List Break) (here : FillState) (state : State)
+      → (r : UnitsReachedBy from profile cell (on_from pieces_of text) all here given) → rest ≡ from profile cell r.taken here.at (on_from pieces_of text here.at)
+      → here.at ≤ length text → state.at ≡ here.at → state.row ≡ here.row → state.ended ≡ 0
+      → UnitsOnto from pieces_of profile cell text state rest
+  onto-here profile cell text all given rest here state r left within at_same row_same unended = record {
+    within = omega arith;
+    goes_on = λ _. record {
+      taken = r.taken;
+      knows = subst (λ n. KnowsTaken cell n r.taken) (sym row_same) r.knows;
+      some = λ more. r.some (omega arith);
+      joined = left ∙ ap (λ n. from profile cell r.taken n (on_from pieces_of text n)) (sym at_same);
+    };
+    none_come = λ ended. absurd (omega arith);
+  }
+
+  -- all were given, and the text is at its end
+  pub onto-end : (profile : Profile) (cell : ℕ → Cell) (text : List A) (rest : List Break) (state : State)
+      → state.at ≡ length text → state.ended ≡ 1 → rest ≡ [] → UnitsOnto from pieces_of profile cell text state rest
+  onto-end profile cell text rest state ends ended none = record {
+    within = omega arith;
+    goes_on = λ unended. absurd (omega arith);
+    none_come = λ _. none;
+  }
+
   -- the block is full
   pub units-full : (profile : Profile) (cell : ℕ → Cell) (text : List A) (to_come : List Break) (here : FillState) (state : State) (block : List RawBreak) (room : ℕ)
       → UnitsReachedBy from profile cell (on_from pieces_of text) to_come here (given_in block here.count) → here.at ≤ length text → state.at ≡ here.at → state.row ≡ here.row
       → state.ended ≡ 0 → here.count ≤ length block → here.count ≡ room
       → UnitsGo from pieces_of profile cell text to_come state (given_in block here.count) here.count room
   units-full profile cell text to_come here state block room r within at_same row_same unended few full =
-      let on = on_from pieces_of text in
-      let more = from profile cell r.taken here.at (on here.at) in
+      let more = from profile cell r.taken here.at (on_from pieces_of text here.at) in
       let g = gives to_come (given_in block here.count) more here.count room r.joined (given-many block here.count few) (omega arith) (inl full) in
       record {
         counted = g.counted;
         front = g.same;
-        onto = record {
-          within = omega arith;
-          goes_on = λ _. record {
-            taken = r.taken;
-            knows = subst (λ n. KnowsTaken cell n r.taken) (sym row_same) r.knows;
-            some = λ more. r.some (omega arith);
-            joined = g.left ∙ ap (λ n. from profile cell r.taken n (on n)) (sym at_same);
-          };
-          none_come = λ ended. absurd (omega arith);
-        };
+        onto = onto-here profile cell text to_come (given_in block here.count) _ here state r g.left within at_same row_same unended;
       }
 
-  -- all were given, and the text is at its end
+  -- what comes at the end was put behind those that were given
   pub units-ended : (profile : Profile) (cell : ℕ → Cell) (text : List A) (to_come : List Break) (here : FillState) (state : State) (before block : List RawBreak)
       (count room : ℕ)
-      → pieces_of [] ≡ [] → UnitsReachedBy from profile cell (on_from pieces_of text) to_come here (given_in before here.count) → here.at ≡ length text → state.at ≡ here.at → state.ended ≡ 1
+      → UnitsReachedBy from profile cell (on_from pieces_of text) to_come here (given_in before here.count) → here.at ≡ length text → state.at ≡ here.at → state.ended ≡ 1
       → ((taken : List ℕ) → KnowsTaken cell here.row taken → (0 < here.row → 0 < length taken)
-      → given_in block count ≡ given_in before here.count ++ from profile cell taken (length text) [])
+      → given_in block count ≡ given_in before here.count ++ from profile cell taken (length text) (pieces_of []))
       → count ≤ length block → length block ≡ room
       → UnitsGo from pieces_of profile cell text to_come state (given_in block count) count room
-  units-ended profile cell text to_come here state before block count room empty r ends at_same ended put few same_room =
-      let at = here.at in
-      let none_left : pieces_of (drop at text) ≡ [] = ap (λ n. pieces_of (drop n text)) ends ∙ ap pieces_of (drop-length text) ∙ empty in
+  units-ended profile cell text to_come here state before block count room r ends at_same ended put few same_room =
+      let none_left : pieces_of (drop here.at text) ≡ pieces_of [] = ap (λ n. pieces_of (drop n text)) ends ∙ ap pieces_of (drop-length text) in
       let all : to_come ≡ given_in block count =
-      r.joined ∙ ap (λ ps. given_in before here.count ++ from profile cell r.taken at ps) none_left
-      ∙ ap (λ n. given_in before here.count ++ from profile cell r.taken n []) ends ∙ sym (put r.taken r.knows r.some) in
+      r.joined ∙ ap (λ ps. given_in before here.count ++ from profile cell r.taken here.at ps) none_left
+      ∙ ap (λ n. given_in before here.count ++ from profile cell r.taken n (pieces_of [])) ends ∙ sym (put r.taken r.knows r.some) in
       let g = gives to_come (given_in block count) [] count room (all ∙ sym (append-nil (given_in block count))) (given-many block count few) (omega arith) (inr refl) in
       record {
         counted = g.counted;
         front = g.same;
-        onto = record {
-          within = omega arith;
-          goes_on = λ unended. absurd (omega arith);
-          none_come = λ _. g.left;
-        };
+        onto = onto-end profile cell text _ state (at_same ∙ ends) ended g.left;
       }
 
   -- from a spent state nothing comes
@@ -184,23 +194,57 @@ breaks-scalars profile cell cs all =
     ∙ encoding.breaks-utf8 profile cell cs all
 
 -- the breaks, or the positions, of a text of units come from the state at its start, and those of a part from the state there
-module _ {A : Type 0} (pieces_of : List A → List Decoded) (cell : ℕ → Cell) (table : FlatTable) (text : List A) where
-  pub breaks-start : (profile : Profile) (state : State) → IsFlatOf table cell → state ≡ start_in profile
-      → UnitsCome pieces_of cell table text state (breaks_of_pieces profile cell (pieces_of text))
-  breaks-start profile state flat starts =
-      units-start (λ goes. onward_to (end_in goes)) pieces_of cell table text profile state _ flat starts (onward-start profile cell (pieces_of text))
+module _ {A : Type 0} (pieces_of : List A → List Decoded) (table : FlatTable) (text : List A) (old : State) where
+  -- what a call says of all that comes, and of what it gives of it
+  pub gives-breaks : (new : State) (room : ℕ) (out : List RawBreak) (result : ℕ) → GoesOver AreInOrder old new (length text) room out result
+      → ((cell : ℕ → Cell) (to_come : List Break) → UnitsCome pieces_of cell table text old to_come → GivesNext (UnitsCome pieces_of cell table text) new room out result to_come)
+      → GivesBreaksOf pieces_of table text old new room out result
+  gives-breaks new room out result goes gives = record {
+    goes_over = goes;
+    begins = record {
+      start = λ cell profile flat starts.
+          units-start (λ goes. onward_to (end_in goes)) pieces_of cell table text profile old _ flat starts (onward-start profile cell (pieces_of text));
+      part = λ cell profile goes at flat within starts.
+          units-part (λ goes. onward_to (end_in goes)) pieces_of cell table text goes profile at old _ flat within starts (pieces-part goes profile cell at (pieces_of (drop at text)));
+    };
+    gives = gives;
+  }
 
-  pub breaks-part : (goes : Bool) (profile : Profile) (at : ℕ) (state : State) → IsFlatOf table cell → at ≤ length text → state ≡ part_start goes profile at
-      → UnitsCome pieces_of cell table text state (map (moved at) (breaks_of_part_of goes profile cell (pieces_of (drop at text))))
-  breaks-part goes profile at state flat within starts =
-      units-part (λ goes. onward_to (end_in goes)) pieces_of cell table text goes profile at state _ flat within starts (pieces-part goes profile cell at (pieces_of (drop at text)))
+  pub gives-positions : (new : State) (room : ℕ) (out : List RawBreak) (result : ℕ) → GoesOver ArePositionsInOrder old new (length text) room out result
+      → ((cell : ℕ → Cell) (to_come : List Break) → PositionsCome pieces_of cell table text old to_come → GivesNext (PositionsCome pieces_of cell table text) new room out result to_come)
+      → GivesPositionsOf pieces_of table text old new room out result
+  gives-positions new room out result goes gives = record {
+    goes_over = goes;
+    begins = record {
+      start = λ cell profile flat starts.
+          units-start (λ goes. onward_all (position_end_in goes)) pieces_of cell table text profile old _ flat starts (all-start profile cell (pieces_of text));
+      part = λ cell profile goes at flat within starts.
+          units-part (λ goes. onward_all (position_end_in goes)) pieces_of cell table text goes profile at old _ flat within starts (all-part goes profile cell at (pieces_of (drop at text)));
+    };
+    gives = gives;
+  }
 
-  pub positions-start : (profile : Profile) (state : State) → IsFlatOf table cell → state ≡ start_in profile
-      → PositionsCome pieces_of cell table text state (positions_of_pieces profile cell (pieces_of text))
-  positions-start profile state flat starts =
-      units-start (λ goes. onward_all (position_end_in goes)) pieces_of cell table text profile state _ flat starts (all-start profile cell (pieces_of text))
+-- Bytes
 
-  pub positions-part : (goes : Bool) (profile : Profile) (at : ℕ) (state : State) → IsFlatOf table cell → at ≤ length text → state ≡ part_start goes profile at
-      → PositionsCome pieces_of cell table text state (map (moved at) (positions_of_part_of goes profile cell (pieces_of (drop at text))))
-  positions-part goes profile at state flat within starts =
-      units-part (λ goes. onward_all (position_end_in goes)) pieces_of cell table text goes profile at state _ flat within starts (all-part goes profile cell at (pieces_of (drop at text)))
+pub bytes-begin : (table : FlatTable) (text : List ℕ) (state : State) → BreaksComeAtStart table text state
+bytes-begin table text state = record {
+  start = λ cell profile flat starts.
+      units-start (λ goes. onward_to (end_in goes)) pieces cell table text profile state _ flat starts (onward-start profile cell (pieces text));
+  part = λ cell profile goes at flat within starts.
+      units-part (λ goes. onward_to (end_in goes)) pieces cell table text goes profile at state _ flat within starts (part-onward goes profile cell at (drop at text));
+}
+
+-- what was reached of bytes, and of units of eight bits
+module _ (from : Onward) (profile : Profile) (cell : ℕ → Cell) (text : List ℕ) (all : List Break) (here : FillState) (given : List Break) where
+  pub of-bytes : ReachedBy from profile cell text all here given → UnitsReachedBy from profile cell (on_from pieces text) all here given
+  of-bytes r = record { taken = r.taken; knows = r.knows; some = r.some; joined = r.joined }
+
+  pub of-units : UnitsReachedBy from profile cell (on_from pieces text) all here given → ReachedBy from profile cell text all here given
+  of-units r = record { taken = r.taken; knows = r.knows; some = r.some; joined = r.joined }
+
+-- what comes at an end, where nothing is read of no units
+pub end-read : (Is : RawBreak → Type 0) (from : Onward) (none : List Decoded) (row : ℕ) (old new : List RawBreak) (count at result : ℕ) → none ≡ []
+    → PutsEnd Is (λ profile cell taken at. from profile cell taken at []) row old new count at result
+    → PutsEnd Is (λ profile cell taken at. from profile cell taken at none) row old new count at result
+end-read Is from none row old new count at result empty puts =
+    subst (λ ps. PutsEnd Is (λ profile cell taken at. from profile cell taken at ps) row old new count at result) (sym empty) puts

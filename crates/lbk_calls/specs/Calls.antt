@@ -1,39 +1,43 @@
 -- What the calls promise that put the next breaks or positions of a text into a block: each set of clauses once.
-use Rattle.std.specs.Prelude.{◌≡◌, ℕ, suc, ◌<◌, ◌≤◌, ◌⊎◌, List, drop, length, min, take}
+use Rattle.std.specs.Prelude.{◌≡◌, ℕ, Bool, suc, ◌<◌, ◌≤◌, ◌⊎◌, List, drop, length, map, min, take}
+use Rattle.bstr.specs.Utf8.{Decoded}
 use Rattle.lbk_rules.specs.declared.Break.{Break}
+use Rattle.lbk_rules.specs.declared.Cell.{Cell}
+use Rattle.lbk_rules.specs.declared.flat_table.FlatTable.{FlatTable}
+use Rattle.lbk_values.specs.declared.profile.Profile.{Profile}
+use Rattle.lbk_rules.specs.FlatTable.{IsFlatOf}
+use Rattle.lbk_rules.specs.Joins.{moved}
 use Rattle.lbk_bytes.specs.declared.raw_break.RawBreak.{RawBreak}
+use Rattle.lbk_bytes.specs.Bytes.{breaks_of_bytes, breaks_of_part}
+use Rattle.lbk_bytes.specs.Order.{AreInOrder, ArePositionsInOrder}
 use Rattle.lbk_bytes.specs.Shown.{given_in}
+use Rattle.lbk_units.specs.Positions.{positions_of_part_of, positions_of_pieces}
+use Rattle.lbk_units.specs.Units.{breaks_of_part_of, breaks_of_pieces}
 use Rattle.lbk_calls.specs.declared.interface.State.{State}
+use Rattle.lbk_calls.specs.Coming.{Comes, PositionsCome, UnitsCome}
+use Rattle.lbk_calls.specs.State.{part_start, start_in}
 
--- whatever the table, the state and the text, which has so many units: where what is given stands, of which `InOrder`
--- says that it is of rules and in order; how far the state goes; and where it stays
-pub record GoesOver (InOrder : List RawBreak → ℕ → ℕ → ℕ → Type 0) (old new : State) (size room : ℕ)
-    (out : List RawBreak) (result : ℕ) : Type 0 where
-  pub within : result ≤ room
+-- whatever the table and the state, in a text of so many units: how far a call goes that has so much room and gives so
+-- many, and where it stays
+pub record Advances (old new : State) (size room result : ℕ) : Type 0 where
   pub profile_same : new.profile ≡ old.profile
-  pub in_order : InOrder out result old.at (suc size)
-  pub before_state : new.ended ≡ 0 → InOrder out result old.at new.at
   pub forward : 0 < result → (old.at < new.at) ⊎ (0 < new.ended)
   pub onward : old.at ≤ new.at
   pub inside : old.at ≤ size → new.at ≤ size
   pub at_end : old.ended ≡ 0 → 0 < new.ended → new.at ≡ size
-  pub all : old.profile ≤ 3 → old.at ≤ size → result < room → 0 < new.ended
   pub ended : 0 < old.ended → (result ≡ 0) × (new ≡ old)
   pub past : size < old.at → (result ≡ 0) × (new ≡ old)
   pub unknown : 3 < old.profile → (result ≡ 0) × (new ≡ old)
   pub no_room : room ≡ 0 → (result ≡ 0) × (new ≡ old)
 
--- the same of a state from which some may come
-pub record GoesFrom (InOrder : List RawBreak → ℕ → ℕ → ℕ → Type 0) (old new : State) (size room : ℕ)
+-- and where what is given stands, of which `InOrder` says that it is of rules and in order
+pub record GoesOver (InOrder : List RawBreak → ℕ → ℕ → ℕ → Type 0) (old new : State) (size room : ℕ)
     (out : List RawBreak) (result : ℕ) : Type 0 where
+  pub advances : Advances old new size room result
   pub within : result ≤ room
-  pub profile_same : new.profile ≡ old.profile
   pub in_order : InOrder out result old.at (suc size)
   pub before_state : new.ended ≡ 0 → InOrder out result old.at new.at
-  pub forward : 0 < result → (old.at < new.at) ⊎ (0 < new.ended)
-  pub onward : (old.at ≤ new.at) × (new.at ≤ size)
-  pub at_end : 0 < new.ended → new.at ≡ size
-  pub all : result < room → 0 < new.ended
+  pub all : old.profile ≤ 3 → old.at ≤ size → result < room → 0 < new.ended
 
 -- where these come from a state on: as many of them are given as there is room for, and the others come next
 pub record GivesNext (Come : State → List Break → Type 0) (new : State) (room : ℕ) (out : List RawBreak) (result : ℕ)
@@ -41,3 +45,45 @@ pub record GivesNext (Come : State → List Break → Type 0) (new : State) (roo
   pub count : result ≡ min room (length to_come)
   pub front : given_in out result ≡ take result to_come
   pub rest : Come new (drop result to_come)
+
+-- `Come` says which come from a state on, `whole` which a text has, and `part_of` which a part of one has, after which
+-- the text goes on or ends
+module _ {A : Type 0} (Come : (ℕ → Cell) → FlatTable → List A → State → List Break → Type 0)
+    (whole : Profile → (ℕ → Cell) → List A → List Break)
+    (part_of : Bool → Profile → (ℕ → Cell) → List A → List Break) where
+  -- all of a text come from the state at its start, and those of a part, which begins at any unit, from the state there
+  pub record ComeAtStart (table : FlatTable) (text : List A) (state : State) : Type 0 where
+    pub start : (cell : ℕ → Cell) (profile : Profile) → IsFlatOf table cell → state ≡ start_in profile
+        → Come cell table text state (whole profile cell text)
+    pub part : (cell : ℕ → Cell) (profile : Profile) (goes_on : Bool) (at : ℕ) → IsFlatOf table cell
+        → at ≤ length text
+        → state ≡ part_start goes_on profile at
+        → Come cell table text state (map (moved at) (part_of goes_on profile cell (drop at text)))
+
+  -- what a call gives of a text from a state on
+  pub record Gives (InOrder : List RawBreak → ℕ → ℕ → ℕ → Type 0) (table : FlatTable) (text : List A)
+      (old new : State) (room : ℕ) (out : List RawBreak) (result : ℕ) : Type 0 where
+    pub goes_over : GoesOver InOrder old new (length text) room out result
+    pub begins : ComeAtStart table text old
+    pub gives : (cell : ℕ → Cell) (to_come : List Break) → Come cell table text old to_come
+        → GivesNext (Come cell table text) new room out result to_come
+
+-- the breaks of bytes
+abbrev pub BreaksComeAtStart : FlatTable → List ℕ → State → Type 0
+BreaksComeAtStart = ComeAtStart Comes breaks_of_bytes breaks_of_part
+
+abbrev pub GivesBreaks : FlatTable → List ℕ → State → State → ℕ → List RawBreak → ℕ → Type 0
+GivesBreaks = Gives Comes breaks_of_bytes breaks_of_part AreInOrder
+
+-- the breaks of units, and their positions, by what is read of them
+abbrev pub GivesBreaksOf : {A : Type 0} → (List A → List Decoded) → FlatTable → List A → State → State → ℕ
+    → List RawBreak → ℕ → Type 0
+GivesBreaksOf pieces_of =
+    Gives (UnitsCome pieces_of) (λ profile cell text. breaks_of_pieces profile cell (pieces_of text))
+    (λ goes_on profile cell part. breaks_of_part_of goes_on profile cell (pieces_of part)) AreInOrder
+
+abbrev pub GivesPositionsOf : {A : Type 0} → (List A → List Decoded) → FlatTable → List A → State → State → ℕ
+    → List RawBreak → ℕ → Type 0
+GivesPositionsOf pieces_of =
+    Gives (PositionsCome pieces_of) (λ profile cell text. positions_of_pieces profile cell (pieces_of text))
+    (λ goes_on profile cell part. positions_of_part_of goes_on profile cell (pieces_of part)) ArePositionsInOrder

@@ -11,4 +11,3 @@ pub mod Refusals
 pub mod Runs
 -- What only carries proofs.
 pub mod Coming
-pub mod UnitsComing

@@ -1,14 +1,11 @@
 //! The position at the end of a text, or of a part of one.
 
-ghost use Rattle.std.specs.Prelude.{◌≡◌, ℕ, ◌+◌, ◌<◌, ◌≤◌, ◌++◌, List, length};
-ghost use Rattle.lbk_rules.specs.declared.Cell.{Cell};
-ghost use Rattle.lbk_values.specs.declared.profile.Profile.{Profile};
-ghost use Rattle.lbk_rules.specs.FlatTable.{KnowsTaken};
+ghost use Rattle.std.specs.Prelude.{◌<◌, length};
 ghost use Rattle.lbk_rules.specs.Rows.{IsPlace};
 ghost use Rattle.lbk_bytes.specs.Bytes.{open_end};
-ghost use Rattle.lbk_bytes.specs.Order.{ArePositionsInOrder, IsPosition};
-ghost use Rattle.lbk_bytes.specs.Reached.{IsInOrderBy, position_end_in};
-ghost use Rattle.lbk_bytes.specs.Shown.{given_in};
+ghost use Rattle.lbk_bytes.specs.Order.{IsPosition};
+ghost use Rattle.lbk_bytes.specs.Reached.{position_end_in};
+ghost use Rattle.lbk_calls.specs.Coming.{PutsEnd};
 
 use lbk_bytes::{END, RawBreak, START, end_shown};
 use lbk_rules::shows_break;
@@ -25,13 +22,7 @@ pub(crate) fn put_last(
     at: usize,
 ) -> usize
     requires { (count < length out.old) × IsPlace row }
-    ensures within { (result ≤ length out.old) × (count ≤ result) × (result ≤ count + 1) }
-    ensures in_order { (from to : ℕ) → at < to → IsInOrderBy IsPosition out.old count from at
-        → ArePositionsInOrder out.new result from to }
-    ensures front { (profile : Profile) (cell : ℕ → Cell) (taken : List ℕ)
-        → KnowsTaken cell row taken
-        → (0 < row → 0 < length taken) → given_in out.new result ≡ given_in out.old count
-        ++ position_end_in goes_on profile cell taken at }
+    ensures { PutsEnd IsPosition (position_end_in goes_on) row out.old out.new count at result }
 {
     if goes_on {
         return put_open(row, out, count, at);
@@ -43,13 +34,7 @@ pub(crate) fn put_last(
 /// The same if the text goes on.
 fn put_open(row: usize, out: &mut [RawBreak], count: usize, at: usize) -> usize
     requires { (count < length out.old) × IsPlace row }
-    ensures within { (result ≤ length out.old) × (count ≤ result) × (result ≤ count + 1) }
-    ensures in_order { (from to : ℕ) → at < to → IsInOrderBy IsPosition out.old count from at
-        → ArePositionsInOrder out.new result from to }
-    ensures front { (profile : Profile) (cell : ℕ → Cell) (taken : List ℕ)
-        → KnowsTaken cell row taken
-        → (0 < row → 0 < length taken) → given_in out.new result ≡ given_in out.old count
-        ++ open_end profile cell taken at }
+    ensures { PutsEnd IsPosition open_end row out.old out.new count at result }
 {
     let shown = end_shown(true, row);
     if shows_break(shown) {

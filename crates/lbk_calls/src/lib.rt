@@ -30,7 +30,7 @@ pub use breaking::{give_breaks, going_profile, lbk_breaks, plain};
 pub use checking::lbk_check;
 pub use class_labels::lbk_class;
 pub use columns::lbk_columns;
-pub use giving::{Given, next_of};
+pub use giving::{BreaksOfBytes, Given, next_of};
 pub use interface::{ClassLabel, RuleLabel, State, Text};
 pub use labels::lbk_label;
 pub use packed_tables::{lbk_pack, lbk_unpack};

@@ -11,7 +11,7 @@ use Rattle.lbk_rules.specs.FlatTable.{IsFlatOf}
 use Rattle.lbk_rules.specs.Marks.{Marked, marks}
 use Rattle.lbk_bytes.specs.Bytes.{breaks_after, breaks_of_bytes}
 use Rattle.lbk_calls.specs.State.{start_in}
-use Rattle.lbk_calls.proofs.ComingLemmas.{Comes-start}
+use Rattle.lbk_calls.proofs.UnitsComingLemmas.{bytes-begin}
 use Rattle.lbk_words.specs.declared.word.Word.{Word}
 use Rattle.lbk_words.specs.Letters.{has_letter}
 use Rattle.lbk_words.specs.Words.{bytes_of, parts_of, scalars_of, words_among, words_of}
@@ -85,7 +85,7 @@ stands-at_start cell table text profile flat =
     record {
       ahead = record {
         breaks = breaks_of_bytes profile cell text;
-        comes = Comes-start cell table text profile (start_in profile) flat refl;
+        comes = (bytes-begin table text (start_in profile)).start cell profile flat refl;
         counted = record { few = omega arith; onward = words-onward 0 (pieces text) (parts_of (scalars_of (pieces text))) };
         rising = breaks-rising 0 (pieces text) (marks profile cell (lossy_chars text)) (pieces-some (length text) text (omega arith));
         among = past-all 0 0 (cuts_of profile cell text) (omega arith) rising;

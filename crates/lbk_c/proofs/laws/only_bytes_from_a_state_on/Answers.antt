@@ -1,4 +1,4 @@
-use Rattle.std.proofs.Common.{sym, ap, ◌∙◌}
+use Rattle.std.proofs.Common.{ap}
 use Rattle.bstr.specs.Utf8.{pieces}
 use Rattle.lbk_calls.specs.Coming.{onward_in}
 use Rattle.lbk_calls.specs.State.{goes_on, plain}
@@ -9,23 +9,7 @@ use Rattle.lbk_words.specs.Words.{parts_of, scalars_of, words_among}
 use Rattle.lbk_c.proofs.laws.only_bytes_from_a_state_on.Goals as goal
 
 pub returns-clause-breaks : goal.returns-clause-breaks
-returns-clause-breaks c = λ cell table text other state to_come comes within same. record {
-  profile = comes.profile;
-  named = comes.named;
-  flat = comes.flat;
-  onto = record {
-    within = within;
-    goes_on = λ goes.
-        let r = comes.onto.goes_on goes in
-        record {
-          taken = r.taken;
-          knows = r.knows;
-          some = r.some;
-          joined = r.joined ∙ ap (λ bytes. onward_in state.profile comes.profile cell r.taken state.at (pieces bytes)) (sym same);
-        };
-    none_come = comes.onto.none_come;
-  };
-}
+returns-clause-breaks c = λ cell table text other state. units-other (onward_in state.profile) pieces cell table text other (plain state)
 
 pub returns-clause-utf16 : goal.returns-clause-utf16
 returns-clause-utf16 c = λ cell table text other state. units-other (onward_in state.profile) pieces_of_utf16 cell table text other (plain state)

@@ -1,9 +1,11 @@
 use Rattle.std.proofs.Common.{◌+◌, ◌-◌, ◌*◌, ◌≡◌, ◌||◌, [], length, min, refl, sym, ap, subst, ◌∙◌, arith}
 use Rattle.lbk_bytes.specs.Bytes.{end_in}
-use Rattle.lbk_bytes.specs.Reached.{Reached}
+use Rattle.lbk_bytes.specs.Reached.{Reached, onward_to}
 use Rattle.lbk_bytes.specs.Marks.{is_marked, stands_among}
 use Rattle.lbk_calls.specs.State.{goes_on, plain}
 use Rattle.lbk_calls.specs.declared.interface.State.{State}
+use Rattle.lbk_calls.specs.Coming.{from_state}
+use Rattle.lbk_calls.proofs.UnitsComingLemmas.{of-units}
 use Rattle.lbk_c.proofs.MarkLemmas.{Marks-ended, Marks-full}
 use Rattle.lbk_c.proofs.marking.go_on.Goals as goal
 
@@ -19,7 +21,8 @@ returns-then-words-left-clause-marks c = λ cell to_come flat start.
     let stop = min (length text) (old.at + 64 * length words) in
     Marks-full (goes_on old.profile) c.args.profile cell text to_come old.at stop here (plain state) fill.new.words
     (fill.ensures.marked cell (record { breaks = to_come; end = end }) flat
-    (subst (λ n. Reached c.args.profile cell text (record { breaks = to_come; end = end }) (record { count = 0; row = n; at = old.at }) []) (sym (c.place_by.ensures.same start.knows.0)) start))
+    (subst (λ n. Reached c.args.profile cell text (record { breaks = to_come; end = end }) (record { count = 0; row = n; at = old.at }) []) (sym (c.place_by.ensures.same start.knows.0))
+    (of-units (onward_to end) c.args.profile cell text to_come (from_state (plain old)) [] start)))
     (omega arith) (omega (arith, fill.ensures.stops)) fill.ensures.within.2 refl (c.number_at-state.ensures.same start.knows.0) c.requires.unended
 
 pub returns-clause-marks : goal.returns-clause-marks
@@ -36,7 +39,8 @@ returns-clause-marks c = λ cell to_come flat start.
     let ends : here.at ≡ length text = omega (arith, fill.ensures.stops, fill.ensures.within.2) in
     Marks-ended (goes_on old.profile) c.args.profile cell text to_come old.at stop here (plain state) fill.new.words put.new.words
     (fill.ensures.marked cell (record { breaks = to_come; end = end }) flat
-    (subst (λ n. Reached c.args.profile cell text (record { breaks = to_come; end = end }) (record { count = 0; row = n; at = old.at }) []) (sym (c.place_by.ensures.same start.knows.0)) start))
+    (subst (λ n. Reached c.args.profile cell text (record { breaks = to_come; end = end }) (record { count = 0; row = n; at = old.at }) []) (sym (c.place_by.ensures.same start.knows.0))
+    (of-units (onward_to end) c.args.profile cell text to_come (from_state (plain old)) [] start)))
     (omega arith) (omega arith) ends c.requires.within (omega arith)
     (λ taken knows some i.
     put.ensures.marked c.args.profile cell taken old.at knows some i

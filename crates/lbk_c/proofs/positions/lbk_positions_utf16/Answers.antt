@@ -3,7 +3,7 @@ use Rattle.lbk_units.specs.Encodings.{encode_utf16_all, placed_in}
 use Rattle.lbk_units.specs.Positions.{positions_of_utf16, positions_of_utf32}
 use Rattle.lbk_units.specs.Units.{pieces_of_utf16}
 use Rattle.lbk_units.proofs.EncodingLemmas.{breaks-among, positions-utf16}
-use Rattle.lbk_calls.proofs.UnitsComingLemmas.{positions-part, positions-start}
+use Rattle.lbk_calls.proofs.UnitsComingLemmas.{gives-positions}
 use Rattle.lbk_c.proofs.positions.lbk_positions_utf16.Goals as goal
 
 pub returns-clause-breaks : goal.returns-clause-breaks
@@ -14,8 +14,7 @@ returns-clause-well_formed c = λ cell profile scalars all same.
     subst (λ t. positions_of_utf16 profile cell t ≡ map (placed_in encode_utf16_all scalars) (positions_of_utf32 profile cell scalars)) (sym same)
     (positions-utf16 profile cell scalars all)
 
-pub returns-clause-start : goal.returns-clause-start
-returns-clause-start c = λ cell profile. positions-start pieces_of_utf16 cell c.args.table.now c.args.text.now profile c.args.state.now
-
-pub returns-clause-part : goal.returns-clause-part
-returns-clause-part c = λ cell profile goes at. positions-part pieces_of_utf16 cell c.args.table.now c.args.text.now goes profile at c.args.state.now
+pub returns-clause-gives : goal.returns-clause-gives
+returns-clause-gives c =
+    let next = c.next_of in
+    gives-positions pieces_of_utf16 c.args.table.now c.args.text.now c.args.state.now next.new.state _ next.new.out next.result next.ensures.goes_over next.ensures.gives

@@ -1,12 +1,26 @@
-use Rattle.std.proofs.Common.{sym, subst, ◌∙◌}
+use Rattle.std.proofs.Common.{rules, sym, subst, ◌∙◌}
 use Rattle.bstr.specs.Utf8.{pieces}
 use Rattle.lbk_bytes.proofs.PartLemmas.{part-onward}
 use Rattle.lbk_units.proofs.PositionLemmas.{pieces-part}
 use Rattle.lbk_streams.specs.Stands.{Streams}
 use Rattle.lbk_c.proofs.streaming.lbk_feed.Goals as goal
 
-pub returns-clause-part : goal.returns-clause-part
-returns-clause-part c = λ cell profile goes_on at text flat short starts.
-    subst (λ l. Streams cell c.args.table.now c.args.stream.now text l)
-    (pieces-part goes_on profile cell at (pieces text) ∙ sym (part-onward goes_on profile cell at text))
-    (c.feed.ensures.part cell profile goes_on at text flat short starts)
+pub returns : goal.returns
+returns c =
+    let said = c.feed.ensures in
+    record {
+      over = search rules;
+      start = said.start;
+      part = λ cell profile goes_on at text flat short starts.
+          subst (λ l. Streams cell c.args.table.now c.args.stream.now text l)
+          (pieces-part goes_on profile cell at (pieces text) ∙ sym (part-onward goes_on profile cell at text))
+          (said.part cell profile goes_on at text flat short starts);
+      next = λ cell more to_come comes. record {
+        front = said.front cell more to_come comes;
+        rest = said.rest cell more to_come comes;
+        settled = said.settled cell more to_come comes;
+        seen = said.seen cell more to_come comes;
+      };
+      cut = said.cut;
+      end = said.end;
+    }

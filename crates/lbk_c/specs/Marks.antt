@@ -1,0 +1,30 @@
+-- What the call promises that sets a bit for each break of a text: each set of clauses once.
+use Rattle.std.specs.Prelude.{◌≡◌, ℕ, false, suc, ◌+◌, ◌-◌, ◌*◌, ◌<◌, ◌≤◌, List, min}
+use Rattle.lbk_rules.specs.declared.Break.{Break}
+use Rattle.lbk_rules.specs.declared.Cell.{Cell}
+use Rattle.lbk_rules.specs.declared.flat_table.FlatTable.{FlatTable}
+use Rattle.lbk_bytes.specs.Marks.{boundary_from, from_on, is_marked, stands_among}
+use Rattle.lbk_calls.specs.declared.interface.State.{State}
+use Rattle.lbk_calls.specs.Calls.{Advances}
+use Rattle.lbk_calls.specs.Coming.{Comes}
+
+-- whatever the table and the state, of a text of so many bytes, with room for the bits of so many words: of how many
+-- places the bits tell, and where the state stands then
+pub record MarksOver (old new : State) (size room : ℕ) (words : List ℕ) (result : ℕ) : Type 0 where
+  pub advances : Advances old new size room result
+  pub told : old.profile ≤ 3 → old.ended ≡ 0 → old.at ≤ size → result ≡ min (64 * room) (suc size - old.at)
+  pub after : (i : ℕ) → result ≤ i → is_marked words i ≡ false
+  pub near : new.at ≤ old.at + 64 * room + 3
+  -- where the end was told of, nothing is left; else the state stands after the places that were told of
+  pub all : old.profile ≤ 3 → old.ended ≡ 0 → old.at ≤ size → size < old.at + 64 * room → 0 < new.ended
+  pub more : old.profile ≤ 3 → old.ended ≡ 0 → old.at + 64 * room ≤ size
+      → (new.ended ≡ 0) × (old.at + 64 * room ≤ new.at)
+
+-- where these breaks come from a state on, which are those that lbk_breaks gives from it: the bits that are set are
+-- their places, and the breaks after the places told of come next. The state stands at the first scalar after those
+-- places, of those that are read from its place on, or at the end
+pub record MarksNext (cell : ℕ → Cell) (table : FlatTable) (text : List ℕ) (old new : State) (room : ℕ)
+    (words : List ℕ) (to_come : List Break) : Type 0 where
+  pub bits : (i : ℕ) → i < 64 * room → is_marked words i ≡ stands_among (old.at + i) to_come
+  pub rest : Comes cell table text new (from_on (old.at + 64 * room) to_come)
+  pub boundary : old.ended ≡ 0 → new.at ≡ boundary_from text old.at (old.at + 64 * room)
