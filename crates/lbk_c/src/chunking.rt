@@ -1,13 +1,7 @@
 //! The chunks of a text, a block at a time.
 
-ghost use Rattle.std.specs.Prelude.{◌≡◌, ℕ, false, true, List, drop, length, min, take};
-ghost use Rattle.lbk_rules.specs.declared.Cell.{Cell};
-ghost use Rattle.lbk_values.specs.declared.profile.Profile.{Profile};
-ghost use Rattle.lbk_rules.specs.FlatTable.{IsFlatOf};
-ghost use Rattle.lbk_chunks.specs.declared.chunk.Chunk.{Chunk};
-ghost use Rattle.lbk_chunks.specs.Chunks.{AreChunks, AreTold, are_limits, text_start};
-ghost use Rattle.lbk_chunks.specs.Coming.{ChunksCome, state_start};
-ghost use Rattle.lbk_chunks.specs.Cuts.{cuts_of};
+ghost use Rattle.std.specs.Prelude.{length};
+ghost use Rattle.lbk_chunks.specs.Calls.{GivesChunks};
 
 use lbk_chunks::{Chunk, ChunkState, Limits, chunks};
 use lbk_rules::FlatTable;
@@ -26,22 +20,7 @@ pub extern "C" fn lbk_chunks(
     text: &[u8],
     out: &mut [Chunk],
 ) -> usize
-    ensures start { (cell : ℕ → Cell) (profile : Profile) (to_come : List Chunk) → IsFlatOf table.now cell
-        → are_limits limits.now ≡ true
-        → state.old ≡ state_start profile → AreChunks limits.now (cuts_of profile cell text.now) text_start to_come
-        → ChunksCome cell table.now text.now limits.now state.old to_come }
-    ensures count { (cell : ℕ → Cell) (to_come : List Chunk)
-        → ChunksCome cell table.now text.now limits.now state.old to_come
-        → result ≡ min (length out.old) (length to_come) }
-    ensures front { (cell : ℕ → Cell) (to_come : List Chunk)
-        → ChunksCome cell table.now text.now limits.now state.old to_come
-        → take result out.new ≡ take result to_come }
-    ensures rest { (cell : ℕ → Cell) (to_come : List Chunk)
-        → ChunksCome cell table.now text.now limits.now state.old to_come
-        → ChunksCome cell table.now text.now limits.now state.new (drop result to_come) }
-    ensures told { AreTold state.old.told state.new.told (length text.now) (take result out.new) }
-    ensures none { result ≡ 0 → state.new ≡ state.old }
-    ensures out_of_range { are_limits limits.now ≡ false → result ≡ 0 }
+    ensures { GivesChunks table.now limits.now text.now state.old state.new (length out.old) out.new result }
 {
     chunks(table, limits, state, text, out)
 }

@@ -12,11 +12,12 @@ use Rattle.lbk_rules.specs.declared.flat_table.FlatTable.{FlatTable}
 use Rattle.lbk_values.specs.declared.profile.Profile.{Profile}
 use Rattle.lbk_values.specs.declared.profile.Profile.TheVariants.{First, Second}
 use Rattle.lbk_rules.specs.Breaks.{breaks}
+use Rattle.lbk_rules.specs.Joins.{moved}
 use Rattle.lbk_rules.specs.FlatTable.{IsFlatOf, KnowsTaken}
 use Rattle.lbk_rules.proofs.FlatLemmas.{left-start}
 use Rattle.lbk_bytes.specs.declared.fill_state.FillState.{FillState}
 use Rattle.lbk_bytes.specs.declared.raw_break.RawBreak.{RawBreak}
-use Rattle.lbk_bytes.specs.Bytes.{end_in}
+use Rattle.lbk_bytes.specs.Bytes.{AtEnd, breaks_of_bytes, breaks_of_part, end_in}
 use Rattle.lbk_bytes.specs.Order.{AreInOrder, ArePositionsInOrder}
 use Rattle.lbk_bytes.specs.Reached.{Onward, ReachedBy, onward_all, onward_to, position_end_in}
 use Rattle.lbk_bytes.specs.Shown.{given_in}
@@ -27,8 +28,8 @@ use Rattle.lbk_units.proofs.PositionLemmas.{all-part, all-start, pieces-part}
 use Rattle.lbk_units.proofs.EncodingLemmas as encoding
 use Rattle.lbk_calls.specs.declared.interface.State.{State}
 use Rattle.lbk_calls.specs.State.{goes_on, part_start, plain, profile_number, profile_numbered, start_in}
-use Rattle.lbk_calls.specs.Coming.{Comes, IsGoing, IsSpent, PositionsCome, PutsEnd, UnitsCome, UnitsComeBy, UnitsGo, UnitsOnto, from_state}
-use Rattle.lbk_calls.specs.Calls.{BreaksComeAtStart, GivesBreaks, GivesBreaksOf, GivesNext, GivesPositionsOf, GoesOver}
+use Rattle.lbk_calls.specs.Coming.{ComeOf, IsGoing, IsSpent, PositionsCome, PutsEnd, UnitsCome, UnitsComeBy, UnitsGo, UnitsOnto, from_state}
+use Rattle.lbk_calls.specs.Calls.{BreaksComeAtStart, ComeAtStart, GivesBreaks, GivesBreaksOf, GivesNext, GivesPositionsOf, GoesOver}
 use Rattle.lbk_calls.proofs.ComingLemmas.{breaks-utf8, gives, same-profile}
 use Rattle.lbk_bytes.proofs.PartLemmas.{part-onward}
 use Rattle.lbk_bytes.proofs.ReachedLemmas.{given-many, onward-start, profile-same}
@@ -193,46 +194,46 @@ breaks-scalars profile cell cs all =
     sym (breaks-utf8 profile cell (encode_utf8_all cs) (cs, (all, refl)) ∙ ap (λ l. breaks profile cell l) (chars-encodes cs all))
     ∙ encoding.breaks-utf8 profile cell cs all
 
--- the breaks, or the positions, of a text of units come from the state at its start, and those of a part from the state there
-module _ {A : Type 0} (pieces_of : List A → List Decoded) (table : FlatTable) (text : List A) (old : State) where
-  -- what a call says of all that comes, and of what it gives of it
-  pub gives-breaks : (new : State) (room : ℕ) (out : List RawBreak) (result : ℕ) → GoesOver AreInOrder old new (length text) room out result
+-- all of a text come from the state at its start, and those of a part from the state there
+module _ {A : Type 0} (onward : AtEnd → Onward) (end_in : Bool → AtEnd) (pieces_of : List A → List Decoded) (whole : Profile → (ℕ → Cell) → List A → List Break)
+    (part_of : Bool → Profile → (ℕ → Cell) → List A → List Break) where
+  pub come-at-start : ((profile : Profile) (cell : ℕ → Cell) (text : List A) → whole profile cell text ≡ onward (end_in false) profile cell [] 0 (pieces_of text))
+      → ((goes : Bool) (profile : Profile) (cell : ℕ → Cell) (at : ℕ) (part : List A) → map (moved at) (part_of goes profile cell part) ≡ onward (end_in goes) profile cell [] at (pieces_of part))
+      → (table : FlatTable) (text : List A) (state : State) → ComeAtStart (ComeOf onward end_in pieces_of) whole part_of table text state
+  come-at-start is_whole is_part table text state = record {
+    start = λ cell profile flat starts. units-start (λ goes. onward (end_in goes)) pieces_of cell table text profile state _ flat starts (is_whole profile cell text);
+    part = λ cell profile goes at flat within starts.
+        units-part (λ goes. onward (end_in goes)) pieces_of cell table text goes profile at state _ flat within starts (is_part goes profile cell at (drop at text));
+  }
+
+-- what a call says of all that comes, and of what it gives of it
+module _ {A : Type 0} (pieces_of : List A → List Decoded) (table : FlatTable) (text : List A) (old new : State) (room : ℕ) (out : List RawBreak) (result : ℕ) where
+  pub gives-breaks : GoesOver AreInOrder old new (length text) room out result
       → ((cell : ℕ → Cell) (to_come : List Break) → UnitsCome pieces_of cell table text old to_come → GivesNext (UnitsCome pieces_of cell table text) new room out result to_come)
       → GivesBreaksOf pieces_of table text old new room out result
-  gives-breaks new room out result goes gives = record {
+  gives-breaks goes gives = record {
     goes_over = goes;
-    begins = record {
-      start = λ cell profile flat starts.
-          units-start (λ goes. onward_to (end_in goes)) pieces_of cell table text profile old _ flat starts (onward-start profile cell (pieces_of text));
-      part = λ cell profile goes at flat within starts.
-          units-part (λ goes. onward_to (end_in goes)) pieces_of cell table text goes profile at old _ flat within starts (pieces-part goes profile cell at (pieces_of (drop at text)));
-    };
+    begins =
+        come-at-start onward_to end_in pieces_of _ _ (λ profile cell text. onward-start profile cell (pieces_of text))
+        (λ goes profile cell at part. pieces-part goes profile cell at (pieces_of part)) table text old;
     gives = gives;
   }
 
-  pub gives-positions : (new : State) (room : ℕ) (out : List RawBreak) (result : ℕ) → GoesOver ArePositionsInOrder old new (length text) room out result
+  pub gives-positions : GoesOver ArePositionsInOrder old new (length text) room out result
       → ((cell : ℕ → Cell) (to_come : List Break) → PositionsCome pieces_of cell table text old to_come → GivesNext (PositionsCome pieces_of cell table text) new room out result to_come)
       → GivesPositionsOf pieces_of table text old new room out result
-  gives-positions new room out result goes gives = record {
+  gives-positions goes gives = record {
     goes_over = goes;
-    begins = record {
-      start = λ cell profile flat starts.
-          units-start (λ goes. onward_all (position_end_in goes)) pieces_of cell table text profile old _ flat starts (all-start profile cell (pieces_of text));
-      part = λ cell profile goes at flat within starts.
-          units-part (λ goes. onward_all (position_end_in goes)) pieces_of cell table text goes profile at old _ flat within starts (all-part goes profile cell at (pieces_of (drop at text)));
-    };
+    begins =
+        come-at-start onward_all position_end_in pieces_of _ _ (λ profile cell text. all-start profile cell (pieces_of text))
+        (λ goes profile cell at part. all-part goes profile cell at (pieces_of part)) table text old;
     gives = gives;
   }
 
 -- Bytes
 
 pub bytes-begin : (table : FlatTable) (text : List ℕ) (state : State) → BreaksComeAtStart table text state
-bytes-begin table text state = record {
-  start = λ cell profile flat starts.
-      units-start (λ goes. onward_to (end_in goes)) pieces cell table text profile state _ flat starts (onward-start profile cell (pieces text));
-  part = λ cell profile goes at flat within starts.
-      units-part (λ goes. onward_to (end_in goes)) pieces cell table text goes profile at state _ flat within starts (part-onward goes profile cell at (drop at text));
-}
+bytes-begin = come-at-start onward_to end_in pieces breaks_of_bytes breaks_of_part (λ profile cell text. onward-start profile cell (pieces text)) part-onward
 
 -- what was reached of bytes, and of units of eight bits
 module _ (from : Onward) (profile : Profile) (cell : ℕ → Cell) (text : List ℕ) (all : List Break) (here : FillState) (given : List Break) where

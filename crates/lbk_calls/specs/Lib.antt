@@ -6,6 +6,7 @@ pub mod Padding
 pub mod Refused
 pub mod RuleTexts
 pub mod State
+pub mod Packed
 pub mod Packing
 pub mod Refusals
 pub mod Runs

@@ -1,12 +1,6 @@
 //! The line breaking class of a scalar.
 
-ghost use Rattle.std.specs.Prelude.{◌≡◌, [], ℕ};
-ghost use Rattle.std.specs.Char.{IsScalar};
-ghost use Rattle.lbk_rules.specs.declared.Cell.{Cell};
-ghost use Rattle.lbk_rules.specs.declared.Class.{Class};
-ghost use Rattle.lbk_rules.specs.FlatTable.{IsFlatOf};
-ghost use Rattle.lbk_rules.specs.ClassLabels.{class_label};
-ghost use Rattle.lbk_calls.specs.Padding.{padded};
+ghost use Rattle.lbk_calls.specs.Labels.{NamesClass};
 
 use crate::interface::ClassLabel;
 use crate::padding::padded;
@@ -17,10 +11,7 @@ use lbk_rules::{FlatTable, class_label};
 /// some class.
 #[unsafe(no_mangle)]
 pub extern "C" fn lbk_class(table: &FlatTable, scalar: u32) -> ClassLabel
-    ensures class { (cell : ℕ → Cell) → IsFlatOf table.now cell → IsScalar scalar
-        → result.text ≡ padded 4 (class_label (cell scalar).class) }
-    ensures named { IsScalar scalar → (class : Class) × (result.text ≡ padded 4 (class_label class)) }
-    ensures none { ¬ IsScalar scalar → result.text ≡ padded 4 [] }
+    ensures { NamesClass table.now scalar result.text }
 {
     match char::from_u32(scalar) {
         Some(c) => ClassLabel {

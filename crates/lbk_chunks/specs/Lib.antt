@@ -1,4 +1,5 @@
 -- What a reader has to check.
+pub mod Calls
 pub mod Cuts
 pub mod Chunks
 pub mod Laws

@@ -1,18 +1,16 @@
 //! Chunks, a block at a time.
 
-ghost use Rattle.std.specs.Prelude.{◌≡◌, ℕ, ◌<◌, ◌≤◌, [], false, true, List, IfSome, MatchOption, Some, drop, length};
-ghost use Rattle.std.specs.Prelude.{min, take, if◌then◌else◌};
+ghost use Rattle.std.specs.Prelude.{◌≡◌, ℕ, ◌<◌, ◌≤◌, [], false, List, IfSome, MatchOption, Some, length, min, take};
+ghost use Rattle.std.specs.Prelude.{if◌then◌else◌};
 ghost use Rattle.lbk_rules.specs.declared.Cell.{Cell};
-ghost use Rattle.lbk_values.specs.declared.profile.Profile.{Profile};
-ghost use Rattle.lbk_rules.specs.FlatTable.{IsFlatOf};
 ghost use Rattle.lbk_chunks.specs.declared.chunk.Chunk.{Chunk};
 ghost use Rattle.lbk_chunks.specs.declared.cut.Cut.{Cut};
 ghost use Rattle.lbk_rules.specs.declared.flat_table.FlatTable.{FlatTable};
-ghost use Rattle.lbk_chunks.specs.Chunks.{AreChunks, AreTold, after, are_limits, cuts_past, is_early};
-ghost use Rattle.lbk_chunks.specs.Chunks.{may_start, start_at, text_start};
-ghost use Rattle.lbk_chunks.specs.Coming.{AreGiven, ArePlaced, ChunksCome, IsCutOf, IsEnd, IsEnding};
-ghost use Rattle.lbk_chunks.specs.Coming.{IsGiven, IsKept, IsStanding, KeepsCuts, Knows, state_start};
-ghost use Rattle.lbk_chunks.specs.Cuts.{cuts_of};
+ghost use Rattle.lbk_chunks.specs.Calls.{GivesChunks};
+ghost use Rattle.lbk_chunks.specs.Chunks.{AreChunks, AreTold, after, cuts_past, is_early};
+ghost use Rattle.lbk_chunks.specs.Chunks.{may_start, start_at};
+ghost use Rattle.lbk_chunks.specs.Coming.{AreGiven, ArePlaced, IsCutOf, IsEnd, IsEnding};
+ghost use Rattle.lbk_chunks.specs.Coming.{IsGiven, IsKept, IsStanding, KeepsCuts, Knows};
 
 use crate::choosing::{are_limits, fits, is_early, may_start};
 use crate::chunk::{Chunk, ChunkState, Here, Limits};
@@ -33,23 +31,7 @@ pub fn chunks(
     text: &[u8],
     out: &mut [Chunk],
 ) -> usize
-    ensures within { result ≤ length out.old }
-    ensures start { (cell : ℕ → Cell) (profile : Profile) (to_come : List Chunk) → IsFlatOf table.now cell
-        → are_limits limits.now ≡ true
-        → state.old ≡ state_start profile → AreChunks limits.now (cuts_of profile cell text.now) text_start to_come
-        → ChunksCome cell table.now text.now limits.now state.old to_come }
-    ensures count { (cell : ℕ → Cell) (to_come : List Chunk)
-        → ChunksCome cell table.now text.now limits.now state.old to_come
-        → result ≡ min (length out.old) (length to_come) }
-    ensures front { (cell : ℕ → Cell) (to_come : List Chunk)
-        → ChunksCome cell table.now text.now limits.now state.old to_come
-        → take result out.new ≡ take result to_come }
-    ensures rest { (cell : ℕ → Cell) (to_come : List Chunk)
-        → ChunksCome cell table.now text.now limits.now state.old to_come
-        → ChunksCome cell table.now text.now limits.now state.new (drop result to_come) }
-    ensures told { AreTold state.old.told state.new.told (length text.now) (take result out.new) }
-    ensures none { result ≡ 0 → state.new ≡ state.old }
-    ensures out_of_range { are_limits limits.now ≡ false → result ≡ 0 }
+    ensures { GivesChunks table.now limits.now text.now state.old state.new (length out.old) out.new result }
 {
     if !are_limits(limits) {
         return 0;

@@ -114,8 +114,7 @@ fn add_cuts(
     out: &mut [Cut; 64],
 ) -> Filled
     requires count { count ≤ length breaks.now }
-    requires room { start.count + count ≤ room }
-    requires most { room ≤ 64 }
+    requires room { (start.count + count ≤ room) × (room ≤ 64) }
     requires read { AreRead text.now words.old }
     ensures read { AreRead text.now words.new }
     ensures among { (cuts : List Cut) (found rest : List Break) → map raw_of found ≡ take count breaks.now

@@ -39,10 +39,10 @@ returns-clause-among c = λ cuts found rest is were.
 pub returns-clause-few : goal.returns-clause-few
 returns-clause-few c =
     let i = c.loop-k.invariant in
-    (i.counts.0, omega (arith, i.counts.1, i.few, c.requires.room))
+    (i.counts.0, omega (arith, i.counts.1, i.few, c.requires.room.0))
 
 pub returns-clause-counted : goal.returns-clause-counted
 returns-clause-counted c = λ some full.
     let i = c.loop-k.invariant in
     let all : c.loop-k.k ≡ c.args.count = omega (arith, i.few, c.loop-k-test.false) in
-    i.counted (omega (arith, all, some)) all (omega (arith, full, all, i.counts.1, c.requires.room))
+    i.counted (omega (arith, all, some)) all (omega (arith, full, all, i.counts.1, c.requires.room.0))
