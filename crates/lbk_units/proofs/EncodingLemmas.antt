@@ -3,6 +3,7 @@ use Rattle.std.proofs.Common.{◌≡◌, ℕ, ◌+◌, ◌-◌, ◌/◌, ◌%◌
 use Rattle.std.specs.Char.{IsScalar, encode_utf8}
 use Rattle.std.specs.Char.Escape.{encode_utf16}
 use Rattle.std.specs.Char.Utf16.{surrogate_pair_char, utf16_chars}
+use Rattle.std.specs.List.{flat_map}
 use Rattle.std.specs.Str.{encode_utf8_all}
 use Rattle.std.proofs.lemmas.Bool.{and_parts, cases_lt}
 use Rattle.std.proofs.lemmas.Bool.Decides.{nat_tests}
@@ -88,20 +89,14 @@ pieces-utf16 (c ∷ cs) all =
 
 -- One scalar more, encoded
 
-joins16 : (xs : List ℕ) (c : ℕ) → length (encode_utf16_all (xs ++ c ∷ [])) ≡ length (encode_utf16_all xs) + units16 c
-joins16 [] c = length-append (encode_utf16 c) [] ∙ (let e : units16 c + 0 ≡ 0 + units16 c = omega arith in e)
-joins16 (x ∷ xs) c =
-    let on = length-append (encode_utf16 x) (encode_utf16_all (xs ++ c ∷ [])) in
-    let here = length-append (encode_utf16 x) (encode_utf16_all xs) in
-    let rest = joins16 xs c in
-    omega (arith, on, here, rest)
-
-joins8 : (xs : List ℕ) (c : ℕ) → length (encode_utf8_all (xs ++ c ∷ [])) ≡ length (encode_utf8_all xs) + units8 c
-joins8 [] c = length-append (encode_utf8 c) [] ∙ (let e : units8 c + 0 ≡ 0 + units8 c = omega arith in e)
-joins8 (x ∷ xs) c =
-    let on = length-append (encode_utf8 x) (encode_utf8_all (xs ++ c ∷ [])) in
-    let here = length-append (encode_utf8 x) (encode_utf8_all xs) in
-    let rest = joins8 xs c in
+-- in an encoding that spells one scalar after the other
+joins : (spell : ℕ → List ℕ) (xs : List ℕ) (c : ℕ)
+    → length (flat_map spell (xs ++ c ∷ [])) ≡ length (flat_map spell xs) + length (spell c)
+joins spell [] c = length-append (spell c) [] ∙ (let e : length (spell c) + 0 ≡ 0 + length (spell c) = omega arith in e)
+joins spell (x ∷ xs) c =
+    let on = length-append (spell x) (flat_map spell (xs ++ c ∷ [])) in
+    let here = length-append (spell x) (flat_map spell xs) in
+    let rest = joins spell xs c in
     omega (arith, on, here, rest)
 
 -- The positions
@@ -140,11 +135,11 @@ encoded encode size joins empty profile cell cs ps are all =
 
 pub positions-utf16 : (profile : Profile) (cell : ℕ → Cell) (cs : List ℕ) → scalars cs ≡ true
     → positions_of_utf16 profile cell (encode_utf16_all cs) ≡ map (placed_in encode_utf16_all cs) (positions_of_utf32 profile cell cs)
-positions-utf16 profile cell cs all = encoded encode_utf16_all units16 joins16 refl profile cell cs (pieces_of_utf16 (encode_utf16_all cs)) (pieces-utf16 cs all) all
+positions-utf16 profile cell cs all = encoded encode_utf16_all units16 (joins encode_utf16) refl profile cell cs (pieces_of_utf16 (encode_utf16_all cs)) (pieces-utf16 cs all) all
 
 pub positions-utf8 : (profile : Profile) (cell : ℕ → Cell) (cs : List ℕ) → scalars cs ≡ true
     → positions_of_bytes profile cell (encode_utf8_all cs) ≡ map (placed_in encode_utf8_all cs) (positions_of_utf32 profile cell cs)
-positions-utf8 profile cell cs all = encoded encode_utf8_all units8 joins8 refl profile cell cs (pieces (encode_utf8_all cs)) (pieces-encode cs all) all
+positions-utf8 profile cell cs all = encoded encode_utf8_all units8 (joins encode_utf8) refl profile cell cs (pieces (encode_utf8_all cs)) (pieces-encode cs all) all
 
 -- The breaks, which are among them
 

@@ -65,6 +65,11 @@ missing-zero [] few = refl
 missing-zero (u ∷ []) few = refl
 missing-zero (u ∷ v ∷ us) few = absurd (omega arith)
 
+-- units that begin with a surrogate are some
+pub some-unit : (units : List ℕ) → 0xD800 ≤ get_or units 0 0 → 0 < length units
+some-unit [] above = absurd (omega arith)
+some-unit (u ∷ us) above = omega arith
+
 pub utf16-alone : (units : List ℕ) (c : ℕ) → 0 < length units → get_or units 0 0 < 65536 → IsScalar (get_or units 0 0) → c ≡ get_or units 0 0
     → IsFront pieces_of_utf16 units (record { scalar = c; size = 1 })
 utf16-alone units c some few is_scalar same =
@@ -82,16 +87,17 @@ utf16-alone units c some few is_scalar same =
       within = omega arith;
     }
 
-pub utf16-lone : (units : List ℕ) → 0 < length units → 0xD800 ≤ get_or units 0 0 → get_or units 0 0 < 0xE000
+pub utf16-lone : (units : List ℕ) → 0xD800 ≤ get_or units 0 0 → get_or units 0 0 < 0xE000
     → ¬ (IsPair (get_or units 0 0) (get_or units 1 0))
     → IsFront pieces_of_utf16 units (record { scalar = 0xFFFD; size = 1 })
-utf16-lone units some above below apart = record {
+utf16-lone units above below apart = record {
   piece = bad 1;
-  begins = alone-begins units some apart ∙ ap (λ o. utf16_piece o ∷ pieces_of_utf16 (drop 1 units)) (lone-surrogate (get_or units 0 0) above below);
+  begins = alone-begins units (some-unit units above) apart
+      ∙ ap (λ o. utf16_piece o ∷ pieces_of_utf16 (drop 1 units)) (lone-surrogate (get_or units 0 0) above below);
   reads = refl;
   sized = refl;
   some = omega arith;
-  within = omega arith;
+  within = some-unit units above;
 }
 
 pub utf16-pair : (units : List ℕ) (c : ℕ) → 1 < length units → IsPair (get_or units 0 0) (get_or units 1 0)

@@ -1,6 +1,6 @@
 //! Units of 16 bits.
 
-ghost use Rattle.std.specs.Prelude.{◌<◌, ◌≤◌, length, map, slice_index_or};
+ghost use Rattle.std.specs.Prelude.{◌<◌, ◌≤◌, map, slice_index_or};
 ghost use Rattle.std.proofs.Common.{ap};
 ghost use Rattle.std.proofs.lemmas.Str.{utf16_chars-nil};
 ghost use Rattle.lbk_units.specs.Front.{IsFront};
@@ -31,8 +31,7 @@ impl Unit for u16 {
 
 /// The scalar at the front of units that begin with a surrogate: that of a pair (Unicode Standard, table 3-5), or none.
 fn front_surrogate(units: &[u16]) -> UnitScalar
-    requires some { 0 < length units.now }
-    requires begins { (0xD800 ≤ slice_index_or units.now 0 0) × (slice_index_or units.now 0 0 < 0xE000) }
+    requires { (0xD800 ≤ slice_index_or units.now 0 0) × (slice_index_or units.now 0 0 < 0xE000) }
     ensures { IsFront pieces_of_utf16 units.now result }
 {
     let high = u32::from(units[0]);

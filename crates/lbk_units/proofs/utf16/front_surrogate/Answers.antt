@@ -11,7 +11,7 @@ returns-then-high-gt56319 c =
       | then-high-gt56319-via-then-high-gt56319 w ↦ omega (arith, pair.1, is_high, w.if-high-gt56319.true)
       | then-high-gt56319-via-else-high-gt56319+then-units-lt2 w ↦ omega (arith, pair.2, missing-zero units w.if-units-lt2.true)
     ] in
-    utf16-lone units c.requires.some c.requires.begins.0 c.requires.begins.1 apart
+    utf16-lone units c.requires.0 c.requires.1 apart
 
 pub returns-then-low-lt56320 : goal.returns-then-low-lt56320
 returns-then-low-lt56320 c =
@@ -21,7 +21,7 @@ returns-then-low-lt56320 c =
       | then-low-lt56320-via-then-low-lt56320 w ↦ omega (arith, pair.2, is_low, w.if-low-lt56320.true)
       | then-low-lt56320-via-else-low-lt56320+then-low-gt57343 w ↦ omega (arith, pair.3, is_low, w.if-low-gt57343.true)
     ] in
-    utf16-lone units c.requires.some c.requires.begins.0 c.requires.begins.1 apart
+    utf16-lone units c.requires.0 c.requires.1 apart
 
 pub returns-in-Some : goal.returns-in-Some
 returns-in-Some c =
@@ -29,5 +29,5 @@ returns-in-Some c =
     let is_high = c.from-high.ensures in
     let is_low = c.from-low.ensures in
     utf16-pair units c.in-Some.scalar (omega (arith, c.if-units-lt2.false))
-    (c.requires.begins.0, omega (arith, is_high, c.if-high-gt56319.false), omega (arith, is_low, c.if-low-lt56320.false), omega (arith, is_low, c.if-low-gt57343.false))
+    (c.requires.0, omega (arith, is_high, c.if-high-gt56319.false), omega (arith, is_low, c.if-low-lt56320.false), omega (arith, is_low, c.if-low-gt57343.false))
     (omega (arith, is_high, is_low, c.in-Some.ensures.value.1))
