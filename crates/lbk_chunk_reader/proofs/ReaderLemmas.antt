@@ -7,6 +7,7 @@ use Rattle.std.proofs.lemmas.List.{append_cancel_left}
 use Rattle.std.proofs.lemmas.Str.{IsUtf8-append, IsUtf8-nil, encodes-append, encode_same, length-encode}
 use Rattle.std.proofs.lemmas.Str.{len_utf8_bounds}
 use Rattle.lbk_feed.specs.Devices.{Reads}
+use Rattle.lbk_feed.specs.Runs.{Took}
 use Rattle.lbk_feed.specs.Text.{longest_text}
 use Rattle.lbk_feed.proofs.Taking.{Consumes-nil, Took-then, begun_took, kept_took, told_took}
 use Rattle.lbk_rules.specs.declared.Cell.{Cell}
@@ -294,13 +295,11 @@ module _ (s t : State) (u v : Option (List ℕ)) (e1 e2 : Bool) (r1 r2 : Reads) 
           (sym a.alike.profile)) refl come;
     }
 
+    pub goes-still : (failed : Bool) → Took failed u v a.got → Goes (view_with w s) (view_with w t) failed u v []
+    goes-still failed took = record { got = a.got; scalars = []; took = took; given = given-still }
+
   pub goes-ended : (a : AfterNext s t u v e1 e2 r1 r2 (Ok None)) → Goes (view_with w s) (view_with w t) false u v []
-  goes-ended a = record {
-    got = a.got;
-    scalars = [];
-    took = kept_took _ _ _ a.grown u v a.ahead_kept;
-    given = given-still (Ok None) a refl;
-  }
+  goes-ended a = goes-still (Ok None) a refl false (kept_took _ _ _ a.grown u v a.ahead_kept)
 
   pub ended-start : (a : AfterNext s t u v e1 e2 r1 r2 (Ok None)) → t.start ≡ s.start
   ended-start a = same-start (Ok None) a refl
@@ -317,52 +316,20 @@ module _ (s t : State) (u v : Option (List ℕ)) (e1 e2 : Bool) (r1 r2 : Reads) 
   -- a fault
   pub goes-stopped : (why : PassageFault) (a : AfterNext s t u v e1 e2 r1 r2 (Err why)) → s.is_spent ≡ false
       → IsStopped (view_with w s) (view_with w t) u v false why
-  goes-stopped fault.Limit a unspent = (
-    record {
-      got = a.got;
-      scalars = [];
-      took = kept_took _ _ _ a.grown u v a.ahead_kept;
-      given = given-still (Err fault.Limit) a refl;
-    },
-    a.answer,
-  )
+  goes-stopped fault.Limit a unspent =
+      (goes-still (Err fault.Limit) a refl false (kept_took _ _ _ a.grown u v a.ahead_kept), a.answer)
   goes-stopped fault.Memory a unspent = tt
   goes-stopped fault.Read a unspent = (
-    record {
-      got = a.got;
-      scalars = [];
-      took = (begun_took _ _ _ a.grown u a.begins, told_took _ _ _ a.grown u v a.ahead_kept);
-      given = given-still (Err fault.Read) a refl;
-    },
+    goes-still (Err fault.Read) a refl true
+        (begun_took _ _ _ a.grown u a.begins, told_took _ _ _ a.grown u v a.ahead_kept),
     a.answer,
   )
-  goes-stopped (fault.NotUtf8 at) a unspent = (
-    record {
-      got = a.got;
-      scalars = [];
-      took = kept_took _ _ _ a.grown u v a.ahead_kept;
-      given = given-still (Err (fault.NotUtf8 at)) a refl;
-    },
-    a.answer,
-  )
-  goes-stopped fault.TextTooLong a unspent = (
-    record {
-      got = a.got;
-      scalars = [];
-      took = kept_took _ _ _ a.grown u v a.ahead_kept;
-      given = given-still (Err fault.TextTooLong) a refl;
-    },
-    a.answer,
-  )
-  goes-stopped (fault.ParagraphTooLong start) a unspent = (
-    record {
-      got = a.got;
-      scalars = [];
-      took = kept_took _ _ _ a.grown u v a.ahead_kept;
-      given = given-still (Err (fault.ParagraphTooLong start)) a refl;
-    },
-    a.answer,
-  )
+  goes-stopped (fault.NotUtf8 at) a unspent =
+      (goes-still (Err (fault.NotUtf8 at)) a refl false (kept_took _ _ _ a.grown u v a.ahead_kept), a.answer)
+  goes-stopped fault.TextTooLong a unspent =
+      (goes-still (Err fault.TextTooLong) a refl false (kept_took _ _ _ a.grown u v a.ahead_kept), a.answer)
+  goes-stopped (fault.ParagraphTooLong start) a unspent =
+      (goes-still (Err (fault.ParagraphTooLong start)) a refl false (kept_took _ _ _ a.grown u v a.ahead_kept), a.answer)
   goes-stopped fault.Spent a unspent = sym unspent ∙ a.answer
 
 -- A chunk
@@ -450,6 +417,11 @@ module _ (s : State) (w w' : Window) (is_whole : Bool) (st : Stands w s is_whole
 pub none-come : (s : State) (w : Window) → cuts_past w.here.told (cuts_in w) ≡ [] → ChunksCome (view_with w s) [] []
 unfolding passages
 none-come s w none = ap (cuts_past w.here.told) (append-nil (cuts_in w)) ∙ none
+
+-- so far it went to a window that is still the same
+pub goes-same : (a : View) (w w' : Window) (s : State) (u v : Option (List ℕ)) → w' ≡ w
+    → Goes a (view_with w s) false u v [] → Goes a (view_with w' s) false u v []
+goes-same a w w' s u v same = subst (λ x. Goes a (view_with x s) false u v []) (sym same)
 
 -- Where a run from the start of a text ends
 

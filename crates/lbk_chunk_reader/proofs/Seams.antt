@@ -5,9 +5,9 @@ use Rattle.std.specs.List.{flat_map}
 use Rattle.std.proofs.lemmas.List.{map-append}
 use Rattle.ucd_breaks.specs.WordBreak.{word_break}
 use Rattle.ucd_breaks.specs.declared.WordBreak.{WordBreak}
-use Rattle.ucd_breaks.specs.declared.WordBreak.TheVariants.{Cr, Lf, Newline, Zwj}
+use Rattle.ucd_breaks.specs.declared.WordBreak.TheVariants.{Cr, Lf, Newline}
 use Rattle.ucd_emoji.specs.Binary.{is_extended_pictographic}
-use Rattle.unicode_segmentation.specs.Segments.{cut, prepend}
+use Rattle.unicode_segmentation.specs.Segments.{cut}
 use Rattle.unicode_segmentation.specs.Word.{break_by_pair, is_ignored, is_word_break, joins, joins_flag, significant}
 use Rattle.unicode_segmentation.specs.Word.{value_at}
 use Rattle.unicode_segmentation.proofs.SegmentsLemmas.{attach}
@@ -16,7 +16,6 @@ use Rattle.lbk_rules.specs.declared.Cell.{Cell}
 use Rattle.lbk_rules.specs.declared.Kind.{Kind}
 use Rattle.lbk_rules.specs.declared.Kind.TheVariants.{No, May, Must}
 use Rattle.lbk_values.specs.declared.profile.Profile.{Profile}
-use Rattle.lbk_rules.specs.Ends.{ends_between}
 use Rattle.lbk_rules.specs.Marks.{Marked, marks_behind, scalars_of}
 use Rattle.lbk_rules.specs.Verdict.{verdict_between_in}
 use Rattle.lbk_rules.proofs.EndLemmas.{only_must_between}
@@ -133,24 +132,18 @@ module _ (profile : Profile) (cell : ℕ → Cell) (agree : AgreeOnLines cell) w
   first : (before : List ℕ) (d : ℕ) (ds : List ℕ)
       → First d ds (cut_after ends_passage (marks_behind profile cell before (d ∷ ds)))
   first before d [] =
-      (elim (ends_passage (mark before d [])) as (λ b. First d []
-      (cond b ((mark before d [] ∷ []) ∷ []) ((mark before d [] ∷ []) ∷ []))) [
-        | true ↦ record {
-          part = mark before d [] ∷ [];
-          others = [];
-          behind = [];
-          is = refl;
-          scalars = refl;
-          tells = inr refl;
-        }
-        | false ↦ record {
-          part = mark before d [] ∷ [];
-          others = [];
-          behind = [];
-          is = refl;
-          scalars = refl;
-          tells = inr refl;
-        }
+      let passages = (mark before d [] ∷ []) ∷ [] in
+      let one : First d [] passages = record {
+        part = mark before d [] ∷ [];
+        others = [];
+        behind = [];
+        is = refl;
+        scalars = refl;
+        tells = inr refl;
+      } in
+      (elim (ends_passage (mark before d [])) as (λ b. First d [] (cond b passages passages)) [
+        | true ↦ one
+        | false ↦ one
       ])
   first before d (e ∷ es) =
       let m = mark before d (e ∷ es) in

@@ -3,6 +3,7 @@ use Rattle.std.proofs.Common.{◌≡◌, ℕ, ◌+◌, ◌<◌, ◌≤◌, ◌&&
 use Rattle.std.proofs.Common.{map, refl, sym, ap, ap₂, subst, ◌∙◌, arith, length-append, append_assoc, append-nil}
 use Rattle.std.specs.List.{concat, list_any}
 use Rattle.std.specs.Str.{IsUtf8, chars}
+use Rattle.std.proofs.lemmas.Bool.Decides.{nat_tests}
 use Rattle.std.proofs.lemmas.List.{map-append}
 use Rattle.std.proofs.lemmas.Str.{chars-nil, encodes-chars}
 use Rattle.unicode_segmentation.specs.Segments.{segments}
@@ -113,14 +114,20 @@ passed-on start at count pieces counted left rest p w is word ends passed = reco
       ∙ ap (λ l. cuts_among counted (words_in_pieces start l) (b ∷ bs)) (sym is) ∙ passed.cuts b bs from past;
 }
 
-pub within-pieces : (start from at : ℕ) (pieces : List Piece) (p : Piece) (ps : List Piece) → pieces ≡ p ∷ ps
-    → AreJoined from pieces → EndsPast start at pieces
-    → (is_within (words_in_pieces start pieces) at ≡ (p.word && nat_lt (start + p.start) at))
-    × (words_before (words_in_pieces start pieces) at ≡ 0)
-within-pieces start from at pieces p ps is joined past =
-    subst (λ l. (is_within (words_in_pieces start l) at ≡ (p.word && nat_lt (start + p.start) at))
-    × (words_before (words_in_pieces start l) at ≡ 0)) (sym is)
-    (within-first start from at p ps (subst (AreJoined from) is joined) (subst (EndsPast start at) is past))
+-- the same at a byte of the passage
+pub within-pieces : (start from end : ℕ) (pieces : List Piece) (p : Piece) (ps : List Piece) → pieces ≡ p ∷ ps
+    → AreJoined from pieces → EndsPast start (start + end) pieces
+    → (is_within (words_in_pieces start pieces) (start + end) ≡ (p.word && nat_lt p.start end))
+    × (words_before (words_in_pieces start pieces) (start + end) ≡ 0)
+within-pieces start from end pieces p ps is joined past =
+    let first = within-first start from (start + end) p ps (subst (AreJoined from) is joined)
+    (subst (EndsPast start (start + end)) is past) in
+    subst (λ l. (is_within (words_in_pieces start l) (start + end) ≡ (p.word && nat_lt p.start end))
+    × (words_before (words_in_pieces start l) (start + end) ≡ 0)) (sym is)
+    (first.0 ∙ ap (λ b. p.word && b) (further start p.start end), first.1)
+  where
+    further : (n a b : ℕ) → nat_lt (n + a) (n + b) ≡ nat_lt a b
+    further n a b = grind (arith, nat_tests)
 
 pub within-none : (start at : ℕ) (pieces : List Piece) → pieces ≡ []
     → (false ≡ is_within (words_in_pieces start pieces) at) × (words_before (words_in_pieces start pieces) at ≡ 0)

@@ -16,7 +16,6 @@ use Rattle.lbk_passage.specs.Passages.{passages}
 use Rattle.lbk_passage.proofs.Joining.{joined-passages}
 use Rattle.lbk_streams.specs.Cuts.{EndsBefore}
 use Rattle.lbk_streams.proofs.PieceStartLemmas.{sizes-front}
-use Rattle.lbk_words.specs.declared.word.Word.{Word}
 use Rattle.lbk_words.specs.Letters.{has_letter}
 use Rattle.lbk_words.specs.Words.{bytes_of, parts_of, words_among, words_of}
 use Rattle.lbk_words.specs.Words.{scalars_of as scalars_read}

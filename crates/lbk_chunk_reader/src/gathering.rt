@@ -41,11 +41,10 @@ pub(crate) fn push_cuts(
     };
     let mut left = segments;
     while let Some((segment, rest)) = left.split_first() {
-        let at = start + segment.end as usize;
-        here = pass_words(start, at, here.count, here.left);
-        if !is_within(start, at, here.left) {
+        here = pass_words(segment.end, here.count, here.left);
+        if !is_within(segment.end, here.left) {
             cuts.push(Cut {
-                at,
+                at: start + segment.end as usize,
                 words: here.count,
                 kind: segment.kind,
                 rule: segment.rule,
@@ -56,17 +55,17 @@ pub(crate) fn push_cuts(
     Ok(words_behind(here.count, here.left))
 }
 
-/// Passes the pieces that end at a byte of the text or before it.
-fn pass_words(start: usize, at: usize, count: usize, pieces: &[Piece]) -> Words<'_>
-    requires { start ≤ 2 ^ 62 }
-    ensures past { EndsPast start at result.left.now }
-    ensures passed { (from : ℕ) → AreJoined from pieces.now → count + length (words_in_pieces start pieces.now) < 2 ^ 64
-        → ArePassed start at count pieces.now result.count result.left.now }
+/// Passes the pieces that end at a byte of the passage or before it.
+fn pass_words(end: u32, count: usize, pieces: &[Piece]) -> Words<'_>
+    ensures past { (start : ℕ) → EndsPast start (start + end) result.left.now }
+    ensures passed { (start from : ℕ) → AreJoined from pieces.now
+        → count + length (words_in_pieces start pieces.now) < 2 ^ 64
+        → ArePassed start (start + end) count pieces.now result.count result.left.now }
 {
     let mut count = count;
     let mut left = pieces;
     while let Some((piece, rest)) = left.split_first() {
-        if at < start + piece.end as usize {
+        if end < piece.end {
             break;
         }
         if piece.word {
@@ -93,15 +92,14 @@ fn words_behind(count: usize, pieces: &[Piece]) -> usize
     count
 }
 
-/// Whether a byte of the text is inside the first of some pieces, and that is a word.
-fn is_within(start: usize, at: usize, pieces: &[Piece]) -> bool
-    requires { start ≤ 2 ^ 62 }
-    ensures { (from : ℕ) → AreJoined from pieces.now → EndsPast start at pieces.now
-        → (result ≡ is_within (words_in_pieces start pieces.now) at)
-        × (words_before (words_in_pieces start pieces.now) at ≡ 0) }
+/// Whether a byte of the passage is inside the first of some pieces, and that is a word.
+fn is_within(end: u32, pieces: &[Piece]) -> bool
+    ensures { (start from : ℕ) → AreJoined from pieces.now → EndsPast start (start + end) pieces.now
+        → (result ≡ is_within (words_in_pieces start pieces.now) (start + end))
+        × (words_before (words_in_pieces start pieces.now) (start + end) ≡ 0) }
 {
     match pieces.split_first() {
         None => false,
-        Some((piece, _)) => piece.word && start + (piece.start as usize) < at,
+        Some((piece, _)) => piece.word && piece.start < end,
     }
 }

@@ -18,13 +18,10 @@ loop-segment-preserved-in_ok-push c =
           let p = l.invariant.pushed is in
           let few : l.here.count + length (words_in_pieces c.args.start l.here.left.now) < 2 ^ 64 =
           omega (arith, p.same, is.few) in
-          let passed = here.ensures.passed p.from p.joined few in
-          let within = c.is_within.ensures passed.from passed.joined here.ensures.past in
-          pushed-on c.args.start c.args.words c.args.segments.now c.args.pieces.now c.args.cuts.now.items l.cuts.items
-          l.here.count here.result.count l.here.left.now here.result.left.now
-          l.left.now c.in-Some.rest.now c.in-Some.segment.now c.in-Some.ensures.cases.0 p passed c.push.new.self.items
-          c.in_ok-push.ensures.items
-          (sym within.0 ∙ c.if-not-is_within.true) within.1);
+          let passed = here.ensures.passed c.args.start p.from p.joined few in
+          let within = c.is_within.ensures c.args.start passed.from passed.joined (here.ensures.past c.args.start) in
+          pushed-on c.args.start c.args.words _ _ _ _ _ _ _ _ _ _ c.in-Some.segment.now c.in-Some.ensures.cases.0
+          p passed c.push.new.self.items c.in_ok-push.ensures.items (sym within.0 ∙ c.if-not-is_within.true) within.1);
       grows = omega (arith, l.invariant.grows, c.in_ok-push.ensures.len);
     }
 
@@ -37,12 +34,10 @@ loop-segment-preserved c =
           let p = l.invariant.pushed is in
           let few : l.here.count + length (words_in_pieces c.args.start l.here.left.now) < 2 ^ 64 =
           omega (arith, p.same, is.few) in
-          let passed = here.ensures.passed p.from p.joined few in
-          let within = c.is_within.ensures passed.from passed.joined here.ensures.past in
-          pushed-over c.args.start c.args.words c.args.segments.now c.args.pieces.now c.args.cuts.now.items l.cuts.items
-          l.here.count here.result.count l.here.left.now here.result.left.now
-          l.left.now c.in-Some.rest.now c.in-Some.segment.now c.in-Some.ensures.cases.0 p passed (sym within.0
-          ∙ c.if-not-is_within.false));
+          let passed = here.ensures.passed c.args.start p.from p.joined few in
+          let within = c.is_within.ensures c.args.start passed.from passed.joined (here.ensures.past c.args.start) in
+          pushed-over c.args.start c.args.words _ _ _ _ _ _ _ _ _ _ c.in-Some.segment.now c.in-Some.ensures.cases.0
+          p passed (sym within.0 ∙ c.if-not-is_within.false));
       grows = l.invariant.grows;
     }
 

@@ -1,11 +1,12 @@
 use Rattle.std.proofs.Common.{[], ◌∷◌, false, subst, sym}
 use Rattle.lbk_passage.specs.Shown.{state_of}
 use Rattle.lbk_chunk_reader.specs.Numbered.{numbered_chunk}
-use Rattle.lbk_chunk_reader.specs.Reader.{ChunksCome, Goes, IsStopped}
+use Rattle.lbk_chunk_reader.specs.Reader.{ChunksCome, IsStopped}
 use Rattle.lbk_chunk_reader.specs.Shown.{view_of}
 use Rattle.lbk_chunk_reader.specs.Standing.{view_with}
 use Rattle.lbk_chunk_reader.proofs.CallLemmas.{progress}
-use Rattle.lbk_chunk_reader.proofs.ReaderLemmas.{goes-chunk, goes-none, goes-then, none-come, stands-next, stopped-then}
+use Rattle.lbk_chunk_reader.proofs.ReaderLemmas.{goes-chunk, goes-none, goes-same, goes-then, none-come, stands-next}
+use Rattle.lbk_chunk_reader.proofs.ReaderLemmas.{stopped-then}
 use Rattle.lbk_chunk_reader.proofs.chunker.Chunker.next.Goals as goal
 
 pub loop-chunk-init : goal.loop-chunk-init
@@ -34,8 +35,7 @@ returns-then-self-2-clause-answer g c =
     let self = c.loop-chunk.self in
     let s = state_of cell self.segmenter in
     let same = c.next.ensures.none c.in_default.is in (
-      subst (λ w. Goes (view_of cell c.args.self.now) (view_with w s) false (g.R.Source.unread c.args.reader.now)
-          (g.R.Source.unread c.loop-chunk.reader) []) (sym same) c.loop-chunk.invariant.goes,
+      goes-same _ _ _ s _ _ same c.loop-chunk.invariant.goes,
       (self.stands c.loop-chunk.invariant.unspent).whole c.if-self-2.true,
       subst (λ w. ChunksCome (view_with w s) [] []) (sym same)
           (none-come s self.window (c.next.ensures.last c.in_default.is c.if-self-2.true)),
@@ -44,33 +44,16 @@ returns-then-self-2-clause-answer g c =
 pub returns-in-Err-clause-answer : goal.returns-in-Err-clause-answer
 returns-in-Err-clause-answer g c =
     let cell = g.C.CellSource.cell_of in
-    let self = c.loop-chunk.self in
-    let s = state_of cell self.segmenter in
-    let u0 = g.R.Source.unread c.args.reader.now in
-    let u = g.R.Source.unread c.loop-chunk.reader in
-    let v = g.R.Source.unread c.read_on.new.reader in
-    let same = c.next.ensures.none c.in_default.is in
-    let goes = subst (λ w. Goes (view_of cell c.args.self.now) (view_with w s) false u0 u []) (sym same)
-    c.loop-chunk.invariant.goes in
-    subst (λ b. IsStopped (view_of cell c.args.self.now) (view_of cell c.read_on.new.self) u0 v b c.in-Err.fault)
-    (sym c.if-self.false)
-    (stopped-then (view_of cell c.args.self.now) (view_with c.next.new.self s) (view_of cell c.read_on.new.self) u0 u v
-    c.in-Err.fault goes c.in-Err.ensures.reads)
+    let goes = goes-same _ _ _ _ _ _ (c.next.ensures.none c.in_default.is) c.loop-chunk.invariant.goes in
+    subst (λ b. IsStopped (view_of cell c.args.self.now) (view_of cell c.read_on.new.self)
+    (g.R.Source.unread c.args.reader.now) (g.R.Source.unread c.read_on.new.reader) b c.in-Err.fault)
+    (sym c.if-self.false) (stopped-then _ _ _ _ _ _ c.in-Err.fault goes c.in-Err.ensures.reads)
 
 pub loop-chunk-preserved : goal.loop-chunk-preserved
 loop-chunk-preserved g c =
-    let cell = g.C.CellSource.cell_of in
-    let self = c.loop-chunk.self in
-    let s = state_of cell self.segmenter in
-    let u0 = g.R.Source.unread c.args.reader.now in
-    let u = g.R.Source.unread c.loop-chunk.reader in
-    let v = g.R.Source.unread c.read_on.new.reader in
-    let same = c.next.ensures.none c.in_default.is in
-    let goes = subst (λ w. Goes (view_of cell c.args.self.now) (view_with w s) false u0 u []) (sym same)
-    c.loop-chunk.invariant.goes in
+    let goes = goes-same _ _ _ _ _ _ (c.next.ensures.none c.in_default.is) c.loop-chunk.invariant.goes in
     record {
-      goes = goes-then (view_of cell c.args.self.now) (view_with c.next.new.self s) (view_of cell c.read_on.new.self)
-          false u0 u v [] [] goes c.in-Ok.ensures.reads.0;
+      goes = goes-then _ _ _ false _ _ _ [] [] goes c.in-Ok.ensures.reads.0;
       unspent = c.in-Ok.ensures.unspent;
     }
 

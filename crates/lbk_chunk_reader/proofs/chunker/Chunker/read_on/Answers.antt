@@ -7,42 +7,23 @@ use Rattle.lbk_chunk_reader.proofs.chunker.Chunker.read_on.Goals as goal
 pub returns-in-Ok-clause-reads : goal.returns-in-Ok-clause-reads
 returns-in-Ok-clause-reads g c =
     let self = c.args.self.now in
-    let came = read-came (state_of g.C.CellSource.cell_of self.segmenter)
-    (state_of g.C.CellSource.cell_of c.take_next.new.segmenter) (g.R.Source.unread c.args.reader.now)
-    (g.R.Source.unread c.take_next.new.reader) (g.R.Source.has_ended c.args.reader.now)
-    (g.R.Source.has_ended c.take_next.new.reader)
-    (g.R.Source.reads_made c.args.reader.now) (g.R.Source.reads_made c.take_next.new.reader)
-    (g.R.Source.failure_count c.args.reader.now)
-    (g.R.Source.failure_count c.take_next.new.reader) self.window c.take_next.new.self
-    (subst (Stands self.window (state_of g.C.CellSource.cell_of self.segmenter)) c.requires.going
-    (self.stands c.requires.unspent)) c.in-Ok.came (c.in-Ok.ensures (self.stands c.requires.unspent).words) in
+    let stands = self.stands c.requires.unspent in
+    let going = subst (Stands self.window (state_of g.C.CellSource.cell_of self.segmenter)) c.requires.going stands in
+    let came = read-came _ _ _ _ _ _ _ _ _ _ _ _ going c.in-Ok.came (c.in-Ok.ensures stands.words) in
     (came.0, came.1)
 
 pub returns-in-Err-clause-reads : goal.returns-in-Err-clause-reads
 returns-in-Err-clause-reads g c =
     let self = c.args.self.now in
-    read-stopped (state_of g.C.CellSource.cell_of self.segmenter)
-    (state_of g.C.CellSource.cell_of c.take_next.new.segmenter) (g.R.Source.unread c.args.reader.now)
-    (g.R.Source.unread c.take_next.new.reader) (g.R.Source.has_ended c.args.reader.now)
-    (g.R.Source.has_ended c.take_next.new.reader)
-    (g.R.Source.reads_made c.args.reader.now) (g.R.Source.reads_made c.take_next.new.reader)
-    (g.R.Source.failure_count c.args.reader.now)
-    (g.R.Source.failure_count c.take_next.new.reader) self.window c.take_next.new.self
-    (subst (Stands self.window (state_of g.C.CellSource.cell_of self.segmenter)) c.requires.going
-    (self.stands c.requires.unspent)) c.in-Err.fault (c.in-Err.ensures (self.stands c.requires.unspent).words)
+    let stands = self.stands c.requires.unspent in
+    let going = subst (Stands self.window (state_of g.C.CellSource.cell_of self.segmenter)) c.requires.going stands in
+    read-stopped _ _ _ _ _ _ _ _ _ _ _ _ going c.in-Err.fault (c.in-Err.ensures stands.words)
 
 pub invariant_of-self : goal.invariant_of-self
 invariant_of-self g c =
     let self = c.args.self.now in
+    let stands = self.stands c.requires.unspent in
+    let going = subst (Stands self.window (state_of g.C.CellSource.cell_of self.segmenter)) c.requires.going stands in
     record {
-      stands = λ _. (read-came (state_of g.C.CellSource.cell_of self.segmenter)
-          (state_of g.C.CellSource.cell_of c.take_next.new.segmenter) (g.R.Source.unread c.args.reader.now)
-          (g.R.Source.unread c.take_next.new.reader) (g.R.Source.has_ended c.args.reader.now)
-          (g.R.Source.has_ended c.take_next.new.reader)
-          (g.R.Source.reads_made c.args.reader.now) (g.R.Source.reads_made c.take_next.new.reader)
-          (g.R.Source.failure_count c.args.reader.now)
-          (g.R.Source.failure_count c.take_next.new.reader) self.window c.take_next.new.self
-          (subst (Stands self.window (state_of g.C.CellSource.cell_of self.segmenter)) c.requires.going
-          (self.stands c.requires.unspent)) c.in-Ok.came
-          (c.in-Ok.ensures (self.stands c.requires.unspent).words)).2;
+      stands = λ _. (read-came _ _ _ _ _ _ _ _ _ _ _ _ going c.in-Ok.came (c.in-Ok.ensures stands.words)).2;
     }
