@@ -189,3 +189,6 @@ breaks-utf16 profile cell cs all = breaks-placed encode_utf16_all profile cell c
 pub breaks-utf8 : (profile : Profile) (cell : ℕ → Cell) (cs : List ℕ) → scalars cs ≡ true
     → breaks_of_bytes profile cell (encode_utf8_all cs) ≡ map (placed_in encode_utf8_all cs) (breaks_of_utf32 profile cell cs)
 breaks-utf8 profile cell cs all = breaks-placed encode_utf8_all profile cell cs (pieces (encode_utf8_all cs)) (positions-utf8 profile cell cs all)
+
+-- what the law says
+pub ruleset encodings = (breaks-utf8, breaks-utf16, positions-utf8, positions-utf16)

@@ -46,10 +46,9 @@ all-moved : (goes : Bool) (profile : Profile) (cell : ℕ → Cell) (taken : Lis
     → map (moved by) (onward_all (position_end_in goes) profile cell taken at ps) ≡ onward_all (position_end_in goes) profile cell taken (by + at) ps
 all-moved goes profile cell taken by at [] = position_end-moved goes profile cell taken by at
 all-moved goes profile cell taken by at (p ∷ ps) =
-    let on = taken ++ or_replacement p.char ∷ [] in
-    let verdict = verdict_between_in profile (map cell taken) (map cell (scalars_of (p ∷ ps))) in
     let place : by + (at + p.size) ≡ by + at + p.size = omega arith in
-    ap (λ l. break_by (by + at) verdict ∷ l)
+    let on = taken ++ or_replacement p.char ∷ [] in
+    ap (λ l. break_by (by + at) (verdict_between_in profile (map cell taken) (map cell (scalars_of (p ∷ ps)))) ∷ l)
     (all-moved goes profile cell on by (at + p.size) ps ∙ ap (λ n. onward_all (position_end_in goes) profile cell on n ps) place)
 
 -- the positions before some pieces

@@ -31,6 +31,12 @@ pieces_of_utf32 units = map utf32_piece units
 abbrev pub breaks_of_pieces : Profile → (ℕ → Cell) → List Decoded → List Break
 breaks_of_pieces profile cell ps = breaks_after 0 ps (marks profile cell (scalars_of ps))
 
+abbrev pub breaks_of_utf16 : Profile → (ℕ → Cell) → List ℕ → List Break
+breaks_of_utf16 profile cell units = breaks_of_pieces profile cell (pieces_of_utf16 units)
+
+abbrev pub breaks_of_utf32 : Profile → (ℕ → Cell) → List ℕ → List Break
+breaks_of_utf32 profile cell units = breaks_of_pieces profile cell (pieces_of_utf32 units)
+
 -- how many units some pieces have
 abbrev pub units_of : List Decoded → ℕ
 units_of [] = 0
@@ -41,9 +47,3 @@ units_of (p ∷ ps) = p.size + units_of ps
 abbrev pub breaks_of_part_of : Bool → Profile → (ℕ → Cell) → List Decoded → List Break
 breaks_of_part_of goes_on profile cell ps =
     of_part goes_on (breaks_of_pieces profile cell ps) (open_end profile cell (scalars_of ps) (units_of ps))
-
-abbrev pub breaks_of_utf16 : Profile → (ℕ → Cell) → List ℕ → List Break
-breaks_of_utf16 profile cell units = breaks_of_pieces profile cell (pieces_of_utf16 units)
-
-abbrev pub breaks_of_utf32 : Profile → (ℕ → Cell) → List ℕ → List Break
-breaks_of_utf32 profile cell units = breaks_of_pieces profile cell (pieces_of_utf32 units)
