@@ -1,15 +1,9 @@
 //! Positions that what follows decides.
 
 ghost use Rattle.std.specs.Prelude.{◌≡◌, ℕ, ◌<◌, ◌∷◌, List, map};
-ghost use Rattle.lbk_rules.specs.declared.Cell.{Cell};
-ghost use Rattle.lbk_rules.specs.Classes.{hard};
-ghost use Rattle.lbk_rules.specs.FlatTable.{AreFlatKinds, IsFlatOf, KnowsTaken};
-ghost use Rattle.lbk_rules.specs.Normal.{normal};
-ghost use Rattle.lbk_rules.specs.Sides.{leaves_closed};
-ghost use Rattle.lbk_rules.specs.Units.{units_after};
-ghost use Rattle.lbk_rules.specs.Verdict.{verdict_between_in};
-ghost use Rattle.lbk_rules.specs.Rows.{IsPlace, IsShown, verdict_shown};
-ghost use Rattle.lbk_bytes.specs.Reached.{scalars_of};
+ghost use Rattle.lbk_units.specs.Terms.{AreFlatKinds, Cell, IsFlatOf, IsPlace, IsShown, KnowsTaken, hard};
+ghost use Rattle.lbk_units.specs.Terms.{leaves_closed, normal, scalars_of, units_after, verdict_between_in};
+ghost use Rattle.lbk_units.specs.Terms.{verdict_shown};
 
 use crate::unit::Unit;
 use lbk_rules::{FlatTable, HELD, Profile, step_in};

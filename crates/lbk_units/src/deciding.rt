@@ -1,9 +1,7 @@
 //! The position before one scalar, whatever it is.
 
 ghost use Rattle.std.specs.Prelude.{ℕ, ◌<◌, ◌≤◌, List, length};
-ghost use Rattle.lbk_rules.specs.declared.Cell.{Cell};
-ghost use Rattle.lbk_rules.specs.FlatTable.{IsFlatOf, KnowsTaken};
-ghost use Rattle.lbk_rules.specs.Rows.{IsPlace, IsShown};
+ghost use Rattle.lbk_units.specs.Terms.{Cell, IsFlatOf, IsPlace, IsShown, KnowsTaken};
 ghost use Rattle.lbk_units.specs.Reached.{IsUnitDecided, on_from};
 
 use crate::ahead::shown_ahead;

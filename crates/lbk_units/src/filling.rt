@@ -1,11 +1,7 @@
 //! A block that is filled with breaks or positions.
 
 ghost use Rattle.std.specs.Prelude.{◌≡◌, ℕ, ◌<◌, ◌≤◌, List, length};
-ghost use Rattle.bstr.specs.Utf8.{Decoded};
-ghost use Rattle.lbk_rules.specs.declared.Cell.{Cell};
-ghost use Rattle.lbk_values.specs.declared.profile.Profile.{Profile};
-ghost use Rattle.lbk_rules.specs.FlatTable.{AreFlatKinds, IsFlatOf};
-ghost use Rattle.lbk_rules.specs.Rows.{AreSteps, IsPlace, steps_in};
+ghost use Rattle.lbk_units.specs.Terms.{AreFlatKinds, AreSteps, Cell, Decoded, IsFlatOf, IsPlace, Profile, steps_in};
 ghost use Rattle.lbk_units.specs.Filling.{Fills, GivesOf, GoesOn, IsInText};
 ghost use Rattle.lbk_units.specs.Reached.{Follows, on_from};
 

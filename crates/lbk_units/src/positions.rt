@@ -1,11 +1,8 @@
 //! A position in a block.
 
 ghost use Rattle.std.specs.Prelude.{◌≡◌, ℕ, ◌+◌, ◌<◌, ◌++◌, [], ◌∷◌, length};
-ghost use Rattle.lbk_rules.specs.Breaks.{break_by};
-ghost use Rattle.lbk_rules.specs.Rows.{IsShown, verdict_shown};
-ghost use Rattle.lbk_bytes.specs.Order.{ArePositionsInOrder, IsPosition};
-ghost use Rattle.lbk_bytes.specs.Reached.{IsInOrderBy};
-ghost use Rattle.lbk_bytes.specs.Shown.{given_in};
+ghost use Rattle.lbk_units.specs.Terms.{ArePositionsInOrder, IsInOrderBy, IsPosition, IsShown, break_by, given_in};
+ghost use Rattle.lbk_units.specs.Terms.{verdict_shown};
 
 use lbk_bytes::RawBreak;
 

@@ -2,19 +2,10 @@
 
 ghost use Rattle.std.specs.Prelude.{◌≡◌, ℕ, ◌+◌, ◌<◌, ◌≤◌, ◌++◌, [], ◌∷◌, List, length, map, refl};
 ghost use Rattle.std.proofs.Common.{rules};
-ghost use Rattle.bstr.specs.Utf8.{Decoded, or_replacement};
-ghost use Rattle.lbk_rules.specs.declared.Break.{Break};
-ghost use Rattle.lbk_rules.specs.declared.Cell.{Cell};
-ghost use Rattle.lbk_rules.specs.declared.Verdict.{Verdict};
-ghost use Rattle.lbk_values.specs.declared.profile.Profile.{Profile};
-ghost use Rattle.lbk_rules.specs.Breaks.{break_by};
-ghost use Rattle.lbk_rules.specs.Rows.{IsShown, verdict_shown};
-ghost use Rattle.lbk_rules.specs.Verdict.{verdict_between_in};
-ghost use Rattle.lbk_bytes.specs.declared.raw_break.RawBreak.{RawBreak};
-ghost use Rattle.lbk_bytes.specs.Bytes.{AtEnd, with_break};
-ghost use Rattle.lbk_bytes.specs.Order.{AreInOrderBy, IsBreak, IsPosition};
-ghost use Rattle.lbk_bytes.specs.Reached.{IsInOrderBy, Onward, onward_all, onward_to, scalars_of};
-ghost use Rattle.lbk_bytes.specs.Shown.{given_in};
+ghost use Rattle.lbk_units.specs.Terms.{AreInOrderBy, AtEnd, Break, Cell, Decoded, IsBreak, IsInOrderBy, IsPosition};
+ghost use Rattle.lbk_units.specs.Terms.{IsShown, Onward, Profile, RawBreak, Verdict, break_by, given_in, onward_all};
+ghost use Rattle.lbk_units.specs.Terms.{onward_to, or_replacement, scalars_of, verdict_between_in, verdict_shown};
+ghost use Rattle.lbk_units.specs.Terms.{with_break};
 
 use crate::positions::put_position;
 use lbk_bytes::{RawBreak, put};
