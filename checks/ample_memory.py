@@ -1,32 +1,40 @@
-"""The program and its layers at thousands of random sizes, with ample memory: none may report out of memory.
+"""The program and its layers at thousands of sizes, with ample memory: none may report out of memory.
 
-The sizes are those of files, rows, limits, paragraphs, segments, ranges, arguments, texts, names and lines of tests: a
-power of two or a neighbour of one, or a number between two powers, up to the largest accepted; for files, as often, any
-size. The profile is random, too. Files of each size up to 4,096 bytes, and rows of each code point, value and length,
-are read once. The check prints its seed; with the seed as its argument it draws the same sizes again.
+The sizes are those of files, rows, limits, paragraphs, segments, ranges, chunks, arguments, texts, names and lines of
+tests: a power of two or a neighbour of one, or a number between two powers, up to the largest accepted; for files, as
+often, any size. The profile is random, too. The check prints its seed; with the seed as its argument it draws the same
+sizes again.
+
+Not drawn, but tried in each run: files of each size up to 4,096 bytes, rows of each code point, value and length, and
+for each kind of size, but for ranges, each number in the machine code (`sizes_in_code`). So code that reports out of
+memory at one size, as for a file of 1,234,567 bytes, is found.
 """
 
+import copy
 import os
 import random
 import re
 import tempfile
+import threading
 import time
 from concurrent.futures import ThreadPoolExecutor
 from pathlib import Path
 
-from checks import c_programs
+from checks import c_programs, sizes_in_code
 from checks.files_and_pipes.files import DECIDES
 from checks.files_and_pipes.place import LIMIT, Place, long_file, with_name, words_of
 from checks.harness import TOP, built_program, shown
 from checks.program import run as run_program
 
-SECONDS, SECONDS_OF_C = 45, 10
+SECONDS, SECONDS_OF_C = 30, 10
 FILE_BYTES = 8_388_608
 SMALL_FILE = 4_096
 LONGEST_LINE, MOST_ROWS = 1_024, 65_536
 LONGEST_NAME = 4_095
 MOST_ARGUMENTS = 30_000
 MOST_TEXTS = 10_000
+# Code of x86-64 has more sizes than so many.
+FEW = 500
 # How many bytes one run is given at most, where it is given many sizes.
 TOGETHER = 20_000_000
 GREATEST = ["--limit", str(LIMIT)]
@@ -49,6 +57,7 @@ class Drawn:
         self.powers = {}
         self.sizes = {}
         self.faults = {}
+        self.in_code = sizes_in_code.sizes(place.program, LIMIT)
 
     def size(self, most, least=1):
         """A size from `least` up to `most`, at or above each power of two as often as another."""
@@ -67,6 +76,10 @@ class Drawn:
             return self.size(FILE_BYTES, least)
         return self.chance.randrange(least, FILE_BYTES + 1)
 
+    def of_code(self, most):
+        """The sizes up to `most` that the code has a number of."""
+        return [it for it in self.in_code if it <= most]
+
     def sizes_together(self, most):
         """Sizes of one run, which have not too many bytes together."""
         found = [self.size(most)]
@@ -75,6 +88,12 @@ class Drawn:
             if sum(found) + size <= TOGETHER:
                 found.append(size)
         return found
+
+    def beside(self, size):
+        """Draws that hang on this size alone, so that they can be made beside others."""
+        other = copy.copy(self)
+        other.chance, other.powers = random.Random(size), {}
+        return other
 
     def words(self, task, *more):
         """The words of a run in either profile, which say the same of the texts here."""
@@ -91,8 +110,9 @@ class Drawn:
     def shows(self, kind, sizes, k, contents):
         """Shows a text that the last row of this file decides."""
         _, _, text, decided, _ = DECIDES[k]
-        self.place.write("file", contents)
-        words = words_of("show", with_name(k, "file"))
+        name = f"file-{threading.get_ident()}"
+        self.place.write(name, contents)
+        words = words_of("show", with_name(k, name))
         self.run(kind, sizes, words, text.encode(), 0, lambda ran: ran.out == decided.encode())
 
 
@@ -104,8 +124,14 @@ def files(drawn):
     drawn.shows("sizes of files", [size], k, long_file(front, last, size))
 
 
-def small_files(drawn, most):
-    """All four files of each size, up to this one."""
+def in_parallel(one, sizes):
+    """Calls a function for each size."""
+    with ThreadPoolExecutor(os.cpu_count()) as pool:
+        list(pool.map(one, sizes))
+
+
+def four_files(drawn, sizes):
+    """All four files of each size."""
 
     def one(size):
         decides = size % 4
@@ -115,12 +141,11 @@ def small_files(drawn, most):
             last = last if k == decides else b""
             drawn.place.write(names[k], long_file(front, last, max(size, len(front) + len(last) + 2)))
         words = words_of("show", names)
-        drawn.run("sizes of four small files", [size], words, text.encode(), 0, lambda ran: ran.out == decided.encode())
+        drawn.run("sizes of four files", [size], words, text.encode(), 0, lambda ran: ran.out == decided.encode())
         for name in names:
             os.remove(drawn.place.folder / name)
 
-    with ThreadPoolExecutor(os.cpu_count()) as pool:
-        list(pool.map(one, range(most + 1)))
+    in_parallel(one, sizes)
 
 
 def row(code, value):
@@ -134,6 +159,19 @@ def default(first, last, value):
 def shows_lines(drawn, kind, sizes, k, lines):
     front, last, *_ = DECIDES[k]
     drawn.shows(kind, sizes, k, front + "".join(line + "\n" for line in lines).encode() + last)
+
+
+def numbers_of_rows(drawn, sizes):
+    """Files of some numbers of rows."""
+    made = [[row(code, values[code % len(values)]).encode() + b"\n" for code in FREE[:MOST_ROWS]] for values in VALUES]
+
+    def one(size):
+        k = size % 4
+        front, last, *_ = DECIDES[k]
+        rest = max(size - front.count(b"\n") - 1, 0)
+        drawn.shows("numbers of rows", [size], k, front + b"".join(made[k][:rest]) + last)
+
+    in_parallel(one, sizes)
 
 
 def rows(drawn):
@@ -166,9 +204,9 @@ def each_row(drawn, k):
     shows_lines(drawn, f"rows of each value and length, file {k + 1}", [LONGEST_LINE], k, lines)
 
 
-def limits(drawn):
+def limits(drawn, size=None):
     """A paragraph of the limit's bytes, of fewer, or of one more."""
-    limit = drawn.size(LIMIT)
+    limit = size or drawn.size(LIMIT)
     words = drawn.words("mark", "--limit", str(limit))
     if drawn.chance.randrange(3) == 0:
         line = f"byte 0: the paragraph that starts here has more than {limit} bytes".encode()
@@ -178,10 +216,10 @@ def limits(drawn):
         drawn.run("limits", [limit, len(text)], words, text, 0, lambda ran: ran.out == text + b"\n")
 
 
-def paragraphs(drawn, sizes=None):
+def paragraphs(drawn, sizes=None, task=None):
     sizes = sizes or drawn.sizes_together(LIMIT - 1)
     text = b"".join(b"a" * size + b"\n" for size in sizes)
-    task = drawn.chance.choice(("mark", "segment"))
+    task = task or drawn.chance.choice(("mark", "segment"))
     right = {"mark": lambda ran: ran.out == text, "segment": lambda ran: ran.out.count(b"\n") == 3 * len(sizes)}
     drawn.run(f"sizes of paragraphs, {task}", sizes, drawn.words(task, *GREATEST), text, 0, right[task])
 
@@ -206,9 +244,9 @@ def pieces(drawn, sizes=None):
         lambda ran: ran.out.count(b"\n") == 2 * len(sizes))
 
 
-def segments(drawn, sizes=None):
+def segments(drawn, sizes=None, task=None):
     """Paragraphs of some numbers of segments, each with a word. `mark`, which writes least of them, takes the most."""
-    task = drawn.chance.choice(("mark", "show", "segment"))
+    task = task or drawn.chance.choice(("mark", "show", "segment"))
     of_each = 1 if task == "mark" else 8
     sizes = sizes or [size // of_each + 1 for size in drawn.sizes_together(LIMIT // 2 - 2)]
     text = b"".join(b"a " * size + b"\n" for size in sizes)
@@ -220,18 +258,28 @@ def segments(drawn, sizes=None):
     drawn.run(f"numbers of segments, {task}", sizes, drawn.words(task, *GREATEST), text, 0, right[task])
 
 
-def arguments(drawn):
+def chunks(drawn, sizes=None):
+    """Texts of one chunk, which has some number of bytes or of cuts."""
+    for size in sizes or [drawn.size(LIMIT - 2)]:
+        text = drawn.chance.choice((b"a" * size, b"a " * (size // 2 + 1)))
+        chunk = b"C 0 %d %d Must 3\n" % (len(text), text.count(b" ") or 1)
+        words = drawn.words("chunk", *GREATEST, "--most", str(len(text)))
+        drawn.run("sizes of chunks", [size], words, text, 0, lambda ran, chunk=chunk: ran.out == chunk)
+
+
+def arguments(drawn, size=None):
     """More arguments than are taken, which is said by status 2 and the usage."""
-    number = drawn.size(MOST_ARGUMENTS)
+    number = size or drawn.size(MOST_ARGUMENTS)
     word = drawn.chance.choice(("x", "--kinds", "-", "--limit=9"))
     drawn.run("numbers of arguments", [number], ["replay", *[word] * number, "x"], b"", 2,
         lambda ran: b"Usage: " in ran.err)
 
 
-def texts(drawn):
+def texts(drawn, size=None):
     """A text that is named some number of times."""
-    number = drawn.size(MOST_TEXTS)
-    drawn.place.write("t", b"t\n")
+    number = size or drawn.size(MOST_TEXTS)
+    if not (drawn.place.folder / "t").exists():
+        drawn.place.write("t", b"t\n")
     words = drawn.words("mark", *["t"] * number)
     drawn.run("numbers of texts", [number], words, b"", 0, lambda ran: ran.out == b"t\n" * number)
 
@@ -244,13 +292,13 @@ def named(drawn, size):
     return "./" * dots + letter * letters + "n" * rest
 
 
-def names(drawn):
+def names(drawn, size=None, is_there=None):
     """A file of a name of some size, and where it is not there, the line that names it."""
     k = drawn.chance.randrange(4)
     front, last, text, decided, _ = DECIDES[k]
-    name = named(drawn, drawn.size(LONGEST_NAME))
+    name = named(drawn, size or drawn.size(LONGEST_NAME))
     words = words_of("show", with_name(k, name))
-    if drawn.chance.randrange(2):
+    if drawn.chance.randrange(2) if is_there is None else is_there:
         drawn.place.write(name, front + last)
         drawn.run("names of files", [len(name.encode())], words, text.encode(), 0,
             lambda ran: ran.out == decided.encode())
@@ -268,24 +316,62 @@ def folders(drawn, size=None):
         lambda ran: ran.err.startswith(err))
 
 
-def lines(drawn):
+def lines(drawn, sizes=None, is_test=None):
     """Lines of a test file: comments of some bytes, and lines of some numbers of scalars that agree."""
-    sizes = drawn.sizes_together(LIMIT)
+    chosen = [(size, drawn.chance.randrange(2) if is_test is None else is_test)
+        for size in sizes or drawn.sizes_together(LIMIT)]
+    sizes = [size for size, _ in chosen]
     end, more = drawn.chance.choice([("÷", []), ("!", ["--kinds"])])
     one, end = "× 0061 ".encode(), end.encode()
-    chosen = [(size, drawn.chance.randrange(2)) for size in sizes]
     text = b"".join((one * max(size // 8, 1) + end if is_test else b"#" * size) + b"\n" for size, is_test in chosen)
     tests = sum(is_test for _, is_test in chosen)
     right = b"T %d %d 0 0\n" % (tests, tests)
     drawn.run("lines of tests", sizes, drawn.words("replay", *more), text, 0, lambda ran: ran.out == right)
 
 
-KINDS = [files, rows, limits, paragraphs, ranges, pieces, segments, arguments, texts, names, folders, lines]
+def in_groups(sizes, most):
+    """Sizes in groups, none of more bytes together than one run is given."""
+    groups, room = [[]], most
+    for size in sizes:
+        if groups[-1] and size > room:
+            groups.append([])
+            room = most
+        groups[-1].append(size)
+        room -= size
+    return groups
+
+
+def sizes_of_code(drawn):
+    """Each size that the program's code has a number of, once for each kind of size."""
+    four_files(drawn, [it for it in drawn.of_code(FILE_BYTES) if it > SMALL_FILE])
+    numbers_of_rows(drawn, drawn.of_code(MOST_ROWS))
+    texts(drawn, 1)
+    for kind, most in ((limits, LIMIT), (arguments, MOST_ARGUMENTS), (texts, MOST_TEXTS)):
+        in_parallel(lambda size, kind=kind: kind(drawn.beside(size), size), drawn.of_code(most))
+    for size in drawn.of_code(LONGEST_NAME):
+        names(drawn.beside(size), size, is_there=True)
+    in_parallel(lambda size: names(drawn.beside(size), size, is_there=False), drawn.of_code(LONGEST_NAME))
+    in_parallel(lambda size: folders(drawn.beside(size), size), drawn.of_code(LONGEST_NAME - 20))
+    for kind, most, more in (
+        (paragraphs, LIMIT - 1, {"task": "mark"}),
+        (paragraphs, LIMIT - 1, {"task": "segment"}),
+        (pieces, LIMIT - 1, {}),
+        (segments, LIMIT // 2 - 2, {"task": "mark"}),
+        (segments, LIMIT // 64, {"task": "segment"}),
+        (chunks, LIMIT - 2, {}),
+        (lines, LIMIT, {"is_test": False}),
+        (lines, LIMIT // 8, {"is_test": True}),
+    ):
+        in_parallel(lambda sizes, kind=kind, more=more: kind(drawn.beside(sizes[0]), sizes, **more),
+            in_groups(drawn.of_code(most), TOGETHER))
+
+
+KINDS = [files, rows, limits, paragraphs, ranges, pieces, segments, chunks, arguments, texts, names, folders, lines]
 # How often each is run in a round: those of one size a run, which are quick, more often.
 TIMES = {files: 4, rows: 4, limits: 4, ranges: 2, arguments: 8, texts: 4, names: 24, folders: 16}
 # What each run tries first: all rows, and sizes that are seldom drawn, of paragraphs without their line end.
 SELDOM = [(paragraphs, [5_000_002]), (pieces, [5_000_001]), (segments, [60_000]), (folders, 1_023)]
-ALWAYS = [(small_files, SMALL_FILE), *((each_row, k) for k in range(4)), *SELDOM]
+ALWAYS = [(four_files, range(SMALL_FILE + 1)), *((each_row, k) for k in range(4)), *SELDOM]
 
 
 def run(tally, given):
@@ -295,6 +381,9 @@ def run(tally, given):
         drawn = Drawn(Place(tally, built_program(), folder), seed)
         for kind, size in ALWAYS:
             kind(drawn, size)
+        if len(drawn.in_code) < FEW:
+            tally.leave_out("the sizes in the code: its machine code is not that of x86-64")
+        sizes_of_code(drawn)
         end = time.monotonic() + SECONDS
         while time.monotonic() < end:
             for kind in KINDS:
@@ -305,4 +394,5 @@ def run(tally, given):
             tally.tell(said, drawn.faults.get(kind))
         words = c_programs.library(Path(folder) / "library")
         program = c_programs.build("c/sizes.c", Path(folder) / "sizes", *words)
-        c_programs.count(tally, f"lbk_read: sizes of files, seed {seed}", [program, str(SECONDS_OF_C), str(seed)])
+        c_programs.count(tally, f"lbk_read: sizes of files, seed {seed}", [program, str(SECONDS_OF_C), str(seed),
+            *map(str, sizes_in_code.sizes(words[-1], FILE_BYTES))])

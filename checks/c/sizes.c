@@ -1,7 +1,7 @@
-/* Calls lbk_read with files of each size up to 16,384 bytes, and of sizes that are drawn at random, with ample
- * memory: it must take them all, and say of those that have a row twice at which line.
+/* Calls lbk_read with files of each size up to 16,384 bytes, of the sizes that are given, and of sizes that are drawn
+ * at random, with ample memory: it must take them all, and say of those that have a row twice at which line.
  *
- *     sizes SECONDS SEED
+ *     sizes SECONDS SEED SIZE..
  *
  * Each of the four files is an empty one, or has one row and comments up to a size of at most 8,388,608 bytes: a
  * power of two or a neighbour of one, one between two powers, or any. The last line is `N passed, M failed`.
@@ -83,28 +83,29 @@ static void free_files(bytes *files)
         free(files[k].at);
 }
 
-/* All four files of each size up to 16,384 bytes. */
-static void read_small_files(void)
+/* All four files of a size. */
+static void read_files_of(size_t size)
 {
-    for (size_t size = 0; size <= SMALL_FILE; size++) {
-        bytes files[4];
-        for (int k = 0; k < 4; k++)
-            files[k] = file_of(rows[k], 1, size);
-        int is_read = read_files(files).cause == LBK_CAUSE_NONE;
-        if (!is_read)
-            printf("files of %zu bytes\n", size);
-        report("files of each size up to 16,384 bytes are taken", is_read);
-        free_files(files);
-    }
+    bytes files[4];
+    for (int k = 0; k < 4; k++)
+        files[k] = file_of(rows[k], 1, size);
+    int is_read = read_files(files).cause == LBK_CAUSE_NONE;
+    if (!is_read)
+        printf("files of %zu bytes\n", size);
+    report("files of each size up to 16,384 bytes, and of the given sizes, are taken", is_read);
+    free_files(files);
 }
 
 int main(int count, char **word)
 {
-    if (count != 3) {
-        fprintf(stderr, "usage: sizes SECONDS SEED\n");
+    if (count < 3) {
+        fprintf(stderr, "usage: sizes SECONDS SEED SIZE..\n");
         return 2;
     }
-    read_small_files();
+    for (size_t size = 0; size <= SMALL_FILE; size++)
+        read_files_of(size);
+    for (int k = 3; k < count; k++)
+        read_files_of(strtoul(word[k], NULL, 10));
     double end = now() + strtod(word[1], NULL);
     seed = strtoul(word[2], NULL, 10) * 2 + 1;
     while (now() < end) {
