@@ -9,7 +9,7 @@ import tempfile
 from pathlib import Path
 
 from checks import c_programs
-from checks.harness import TOP
+from checks.harness import TOP, CannotRun
 
 # The functions of specs/ that number something, and what the header calls the numbers.
 NUMBERS = {
@@ -29,7 +29,21 @@ NUMBERS = {
         "lbk_calls/specs/Refused.antt",
         {"Foreign": "LBK_CAUSE_NOT_PACKED", "Version": "LBK_CAUSE_OTHER_LAYOUT", "Damaged": "LBK_CAUSE_DAMAGED"},
     ),
+    "profile_number": ("lbk_bytes/specs/Profiles.antt", {"First": "LBK_FIRST", "Second": "LBK_SECOND"}),
 }
+# Definitions with numbers in them, and what the header calls these.
+WITH_NUMBERS = [
+    ("lbk_bytes/specs/Profiles.antt", r"^goes_on number = number == (\d+) \|\| number == (\d+)$",
+        ["LBK_FIRST + LBK_GOES_ON", "LBK_SECOND + LBK_GOES_ON"]),
+    ("lbk_c/specs/Faults.antt", r"^no_fault = record \{ file = (\d+); line = 0; cause = (\d+) \}$",
+        ["LBK_NO_FILE", "LBK_CAUSE_NONE"]),
+    ("lbk_c/specs/Faults.antt", r"^unmade_fault = record \{ file = (\d+); line = 0; cause = (\d+) \}$",
+        ["LBK_NO_FILE", "LBK_CAUSE_OUT_OF_MEMORY"]),
+    ("lbk_c/specs/Faults.antt", r"^unpublished_fault which = record \{ .*; cause = (\d+) \}$",
+        ["LBK_CAUSE_NOT_PUBLISHED"]),
+    ("lbk_c/specs/Texts.antt", r"number == (\d+) then cut_text$", ["LBK_CAUSE_CUT"]),
+]
+VERSION = re.compile(r'^version = codes "(.*)"$', re.M)
 # The names that differ between the code and the header.
 TYPES = {"FlatTable": "table", "FlatStep": "step", "RawBreak": "break"}
 CODE_TYPES = {"usize": "size_t", "bool": "bool"} | {f"u{size}": f"uint{size}_t" for size in (8, 16, 32, 64)}
@@ -59,6 +73,11 @@ def numbers():
         found = re.findall(rf"^{function} (\w+) = ([\d *+]+)$", (TOP / "crates" / file).read_text(), re.M)
         for name, number in found:
             yield (named[name] if isinstance(named, dict) else named(name)), number
+    for file, form, names in WITH_NUMBERS:
+        found = re.search(form, (TOP / "crates" / file).read_text(), re.M)
+        if not found:
+            raise CannotRun(f"{file} has no line of the form {form}")
+        yield from zip(names, found.groups())
 
 
 def field(name, kind, structs):
@@ -130,7 +149,7 @@ def run(tally, _arguments):
     lines += [f"enum {{ {name} = {constants[name].replace('_', '')} }};" for name in ("STEPS", "CODES")
         if name in constants]
     lines += [f"HOLDS({name} == {number});" for name, number in ours]
-    lines += [f"HOLDS(LBK_LAYOUT == {constants['LAYOUT']});"]
+    lines += [f"HOLDS(LBK_LAYOUT == {constants['LAYOUT']});", "HOLDS(LBK_CODES == CODES);"]
     shared = {name: fields for name, fields in structs.items() if is_in_header(name)}
     for name, fields in shared.items():
         lines += layout(name, fields, structs)
@@ -142,6 +161,10 @@ def run(tally, _arguments):
             source.write_text("\n".join([*lines, ""]))
             c_programs.build(source, Path(room) / "holds.o", "-c", "-I", TOP / "include", compiler=compiler)
             tally.tell(f"{sum('HOLDS(' in it for it in lines) - 2} numbers, sizes and offsets, compiled by {compiler}")
+    in_code = VERSION.search((TOP / "crates/lbk_c/specs/Texts.antt").read_text())[1]
+    in_header = dict(re.findall(r"^#define LBK_VERSION_?(\w*) (.*)$", (TOP / "include/lbk.h").read_text(), re.M))
+    parts = ".".join(in_header[it] for it in ("MAJOR", "MINOR", "PATCH"))
+    tally.equal("the version, and its parts", [in_header[""], parts], [f'"{in_code}"', in_code])
     exported = calls(sources("lbk_c"))
     for name, types in sorted(declared().items()):
         tally.equal(f"the types of {name}", types, exported.get(name))
