@@ -26,7 +26,7 @@ from checks.files_and_pipes.place import LIMIT, Place, long_file, with_name, wor
 from checks.harness import TOP, built_program, shown
 from checks.program import run as run_program
 
-SECONDS, SECONDS_OF_C = 30, 10
+SECONDS, SECONDS_OF_C = 45, 10
 FILE_BYTES = 8_388_608
 SMALL_FILE = 4_096
 LONGEST_LINE, MOST_ROWS = 1_024, 65_536
