@@ -54,8 +54,8 @@ pub record FeedsNext {A : Type 0} (pieces_of : List A → List Decoded) (carried
   pub seen : (last ≡ true → more ≡ []) → old.ended ≡ 0
       → new.at + length (cut_units carried new) ≡ old.at + length (cut_units carried old) + fed.taken
 
--- all that such a call promises. `whole` says which breaks a text has, and `part_of` which a part of one has, after
--- which the text goes on or ends; a stream holds at most so many units that were cut
+-- all that such a call promises. `whole` has the breaks of a text, and `part_of` those of a part of a text, after which
+-- the text goes on (true) or ends. A stream holds at most `widest` units of a scalar that was cut
 pub record TakesPiece {A : Type 0} (pieces_of : List A → List Decoded) (carried : List ℕ → List A)
     (could_go_on : List A → Bool) (widest : ℕ) (whole : Profile → (ℕ → Cell) → List A → List Break)
     (part_of : Bool → Profile → (ℕ → Cell) → List A → List Break) (table : FlatTable) (old new : Stream)
@@ -64,7 +64,7 @@ pub record TakesPiece {A : Type 0} (pieces_of : List A → List Decoded) (carrie
   pub start : (cell : ℕ → Cell) (profile : Profile) (text : List A) → IsFlatOf table cell → length text < 2 ^ 64
       → old ≡ stream_start profile
       → StreamsIn pieces_of carried cell table old text (whole profile cell text)
-  -- places count from the text's start, if the part's place is given
+  -- offsets count from the start of the text
   pub part : (cell : ℕ → Cell) (profile : Profile) (goes_on : Bool) (at : ℕ) (text : List A) → IsFlatOf table cell
       → at + length text < 2 ^ 64
       → old ≡ part_stream goes_on profile at

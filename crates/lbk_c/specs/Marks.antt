@@ -8,21 +8,21 @@ use Rattle.lbk_calls.specs.declared.interface.State.{State}
 use Rattle.lbk_calls.specs.Calls.{Advances}
 use Rattle.lbk_calls.specs.Coming.{Comes}
 
--- whatever the table and the state, of a text of so many bytes, with room for the bits of so many words: of how many
--- places the bits tell, and where the state stands then
+-- with any table and state, over a text of `size` bytes and into `room` words: how many offsets the bits cover, and
+-- where the state is then
 pub record MarksOver (old new : State) (size room : ℕ) (words : List ℕ) (result : ℕ) : Type 0 where
   pub advances : Advances old new size room result
   pub told : old.profile ≤ 3 → old.ended ≡ 0 → old.at ≤ size → result ≡ min (64 * room) (suc size - old.at)
   pub after : (i : ℕ) → result ≤ i → is_marked words i ≡ false
   pub near : new.at ≤ old.at + 64 * room + 3
-  -- where the end was told of, nothing is left; else the state stands after the places that were told of
+  -- nothing is left once the end is covered; before that the state is after the offsets that are covered
   pub all : old.profile ≤ 3 → old.ended ≡ 0 → old.at ≤ size → size < old.at + 64 * room → 0 < new.ended
   pub more : old.profile ≤ 3 → old.ended ≡ 0 → old.at + 64 * room ≤ size
       → (new.ended ≡ 0) × (old.at + 64 * room ≤ new.at)
 
--- where these breaks come from a state on, which are those that lbk_breaks gives from it: the bits that are set are
--- their places, and the breaks after the places told of come next. The state stands at the first scalar after those
--- places, of those that are read from its place on, or at the end
+-- if these breaks are to come from a state on (lbk_breaks gives the same), the bits of their offsets are set and no
+-- others, and the breaks after the covered offsets are to come from the new state on. That state is at the first scalar
+-- after the covered offsets, read from the old state on, or at the end
 pub record MarksNext (cell : ℕ → Cell) (table : FlatTable) (text : List ℕ) (old new : State) (room : ℕ)
     (words : List ℕ) (to_come : List Break) : Type 0 where
   pub bits : (i : ℕ) → i < 64 * room → is_marked words i ≡ stands_among (old.at + i) to_come

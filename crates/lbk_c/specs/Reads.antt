@@ -9,7 +9,7 @@ use Rattle.lbk_rules.specs.Neighbours.{AreNeighboursOf}
 use Rattle.lbk_c.specs.declared.interface.Fault.{Fault}
 use Rattle.lbk_c.specs.Faults.{no_fault}
 
--- files that are not `Accepted` are refused with a fault that is `Refused`; without one the table is that of the files
+-- without a fault the files are `Accepted`, and the table is that of the files; a fault is `Refused` of the files
 pub record ReadsTable (Accepted : Files → Type 0) (Refused : Files → Fault → Type 0) (files : Files)
     (old new : FlatTable) (fault : Fault) : Type 0 where
   pub accepted : fault.cause ≡ 0 → Accepted files

@@ -31,8 +31,8 @@ abbrev pub AreWithin : ℕ → List Segment → Type 0
 AreWithin size [] = ⊤
 AreWithin size (s ∷ segments) = (s.start ≤ s.end) × (s.end ≤ size) × IsBreak (end_of s) × AreWithin size segments
 
--- where these breaks come from a state on: the segments that end at as many of them as there is room for are given, and
--- the other breaks come next
+-- if these breaks are to come from a state on, the call gives the segments that end at them, as many as it has room
+-- for, and the other breaks are to come from the new state on
 pub record SegmentsNext (Come : State → List Break → Type 0) (old new : SegmentState) (room : ℕ) (out : List Segment)
     (result : ℕ) (to_come : List Break) : Type 0 where
   pub count : result ≡ min room (length to_come)

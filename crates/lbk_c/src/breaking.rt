@@ -1,16 +1,21 @@
-//! The breaks of a text, a block at a time.
+//! The breaks and the positions of a text in each encoding, a block at a time.
 
-ghost use Rattle.std.specs.Prelude.{◌≡◌, ℕ, length};
-ghost use Rattle.std.specs.Str.{IsUtf8, chars};
+ghost use Rattle.std.specs.Prelude.{◌≡◌, ℕ, true, List, length, map};
+ghost use Rattle.std.specs.Str.{IsUtf8, all_scalars, chars, encode_utf8_all};
 ghost use Rattle.lbk_rules.specs.declared.Cell.{Cell};
 ghost use Rattle.lbk_values.specs.declared.profile.Profile.{Profile};
 ghost use Rattle.lbk_rules.specs.Breaks.{breaks};
 ghost use Rattle.lbk_bytes.specs.Bytes.{breaks_of_bytes};
-ghost use Rattle.lbk_calls.specs.Calls.{GivesBreaks};
+ghost use Rattle.lbk_calls.specs.Calls.{GivesBreaks, GivesBreaksOf, GivesPositionsOf};
+ghost use Rattle.lbk_units.specs.Encodings.{encode_utf16_all, placed_in};
+ghost use Rattle.lbk_units.specs.Units.{breaks_of_utf16, breaks_of_utf32, pieces_of_utf16, pieces_of_utf32};
+ghost use Rattle.bstr.specs.Utf8.{pieces};
+ghost use Rattle.lbk_units.specs.Positions.{breaks_among, positions_of_bytes, positions_of_utf16, positions_of_utf32};
 
 use lbk_bytes::RawBreak;
-use lbk_calls::{State, give_breaks};
+use lbk_calls::{State, give_breaks, next_of};
 use lbk_rules::FlatTable;
+use lbk_units::{Breaks, Positions};
 
 /// Writes the next breaks of a text (UAX #14, section 3) to the front of the block, from the state on, and returns how
 /// many: as many as the block holds, or all that are left. The text may be any bytes; each maximal subpart of
@@ -31,4 +36,130 @@ pub extern "C" fn lbk_breaks(
         → breaks_of_bytes profile cell text.now ≡ breaks profile cell (chars text.now) }
 {
     give_breaks::<true>(table, state, text, out)
+}
+
+/// Writes the next breaks of a text in UTF-16 to the front of the block, as `lbk_breaks` does for UTF-8, and returns
+/// how many. Offsets count units of 16 bits. The text may be any units; a lone surrogate is read as U+FFFD (Unicode
+/// Standard, section 3.9, D91).
+///
+/// Returns 0 and leaves the state unchanged if the block has no room, if the state is at or past the end of the text,
+/// or if its profile is unknown. With any table and state, the breaks are breaks of rules, in order, from the state's
+/// offset on, and the state advances with them.
+#[unsafe(no_mangle)]
+pub extern "C" fn lbk_breaks_utf16(
+    table: &FlatTable,
+    state: &mut State,
+    text: &[u16],
+    out: &mut [RawBreak],
+) -> usize
+    ensures gives { GivesBreaksOf pieces_of_utf16 table.now text.now state.old state.new
+        (length out.old) out.new result }
+    // Of well-formed text the breaks are those of its scalars.
+    ensures well_formed { (cell : ℕ → Cell) (profile : Profile) (scalars : List ℕ) → all_scalars scalars ≡ true
+        → text.now ≡ encode_utf16_all scalars
+        → breaks_of_utf16 profile cell text.now
+        ≡ map (placed_in encode_utf16_all scalars) (breaks_of_utf32 profile cell scalars) }
+{
+    lbk_calls::lbk_breaks_utf16(table, state, text, out)
+}
+
+/// Writes the next breaks of a text in UTF-32 to the front of the block, as `lbk_breaks` does for UTF-8, and returns
+/// how many. Offsets count units of 32 bits. The text may be any units; a surrogate, and a number above 10FFFF, is read
+/// as U+FFFD (Unicode Standard, section 3.9, D90).
+///
+/// Returns 0 and leaves the state unchanged if the block has no room, if the state is at or past the end of the text,
+/// or if its profile is unknown. With any table and state, the breaks are breaks of rules, in order, from the state's
+/// offset on, and the state advances with them.
+#[unsafe(no_mangle)]
+pub extern "C" fn lbk_breaks_utf32(
+    table: &FlatTable,
+    state: &mut State,
+    text: &[u32],
+    out: &mut [RawBreak],
+) -> usize
+    ensures gives { GivesBreaksOf pieces_of_utf32 table.now text.now state.old state.new
+        (length out.old) out.new result }
+    // Of well-formed text the breaks are those of its scalars, which the rules know by their places in UTF-8.
+    ensures well_formed { (cell : ℕ → Cell) (profile : Profile) → all_scalars text.now ≡ true
+        → breaks profile cell text.now
+        ≡ map (placed_in encode_utf8_all text.now) (breaks_of_utf32 profile cell text.now) }
+{
+    next_of::<Breaks, u32>(table, state, text, out)
+}
+
+/// Writes the next positions of a text to the front of the block, from the state on, and returns how many: as many as
+/// the block holds, or all that are left. A text of n scalars has n + 1 positions (UAX #14, section 6): one before each
+/// scalar, and one at the end. Each is returned once, with the verdict of the first rule that matches there, also No.
+/// The text may be any bytes, read as `lbk_breaks` reads them.
+///
+/// Returns 0 and leaves the state unchanged if the block has no room, if the state is at or past the end of the text,
+/// or if its profile is unknown. With any table and state, the positions are by rules and in order, from the state's
+/// offset on, and the state advances with them.
+#[unsafe(no_mangle)]
+pub extern "C" fn lbk_positions(
+    table: &FlatTable,
+    state: &mut State,
+    text: &[u8],
+    out: &mut [RawBreak],
+) -> usize
+    ensures gives { GivesPositionsOf pieces table.now text.now state.old state.new (length out.old) out.new result }
+    // The breaks of a text are those of its positions where a line may or must end.
+    ensures breaks { (cell : ℕ → Cell) (profile : Profile)
+        → breaks_among (positions_of_bytes profile cell text.now) ≡ breaks_of_bytes profile cell text.now }
+    // Of well-formed text the positions are those of its scalars.
+    ensures well_formed { (cell : ℕ → Cell) (profile : Profile) (scalars : List ℕ) → all_scalars scalars ≡ true
+        → text.now ≡ encode_utf8_all scalars
+        → positions_of_bytes profile cell text.now
+        ≡ map (placed_in encode_utf8_all scalars) (positions_of_utf32 profile cell scalars) }
+{
+    lbk_calls::lbk_positions(table, state, text, out)
+}
+
+/// Writes the next positions of a text in UTF-16 to the front of the block, as `lbk_positions` does for UTF-8, and
+/// returns how many. Offsets count units of 16 bits. The text may be any units, read as `lbk_breaks_utf16` reads them.
+///
+/// Returns 0 and leaves the state unchanged if the block has no room, if the state is at or past the end of the text,
+/// or if its profile is unknown. With any table and state, the positions are by rules and in order, from the state's
+/// offset on, and the state advances with them.
+#[unsafe(no_mangle)]
+pub extern "C" fn lbk_positions_utf16(
+    table: &FlatTable,
+    state: &mut State,
+    text: &[u16],
+    out: &mut [RawBreak],
+) -> usize
+    ensures gives { GivesPositionsOf pieces_of_utf16 table.now text.now state.old state.new
+        (length out.old) out.new result }
+    // The breaks of a text are those of its positions where a line may or must end.
+    ensures breaks { (cell : ℕ → Cell) (profile : Profile)
+        → breaks_among (positions_of_utf16 profile cell text.now) ≡ breaks_of_utf16 profile cell text.now }
+    // Of well-formed text the positions are those of its scalars.
+    ensures well_formed { (cell : ℕ → Cell) (profile : Profile) (scalars : List ℕ) → all_scalars scalars ≡ true
+        → text.now ≡ encode_utf16_all scalars
+        → positions_of_utf16 profile cell text.now
+        ≡ map (placed_in encode_utf16_all scalars) (positions_of_utf32 profile cell scalars) }
+{
+    next_of::<Positions, u16>(table, state, text, out)
+}
+
+/// Writes the next positions of a text in UTF-32 to the front of the block, as `lbk_positions` does for UTF-8, and
+/// returns how many. Offsets count units of 32 bits. The text may be any units, read as `lbk_breaks_utf32` reads them.
+///
+/// Returns 0 and leaves the state unchanged if the block has no room, if the state is at or past the end of the text,
+/// or if its profile is unknown. With any table and state, the positions are by rules and in order, from the state's
+/// offset on, and the state advances with them.
+#[unsafe(no_mangle)]
+pub extern "C" fn lbk_positions_utf32(
+    table: &FlatTable,
+    state: &mut State,
+    text: &[u32],
+    out: &mut [RawBreak],
+) -> usize
+    ensures gives { GivesPositionsOf pieces_of_utf32 table.now text.now state.old state.new
+        (length out.old) out.new result }
+    // The breaks of a text are those of its positions where a line may or must end.
+    ensures breaks { (cell : ℕ → Cell) (profile : Profile)
+        → breaks_among (positions_of_utf32 profile cell text.now) ≡ breaks_of_utf32 profile cell text.now }
+{
+    next_of::<Positions, u32>(table, state, text, out)
 }

@@ -18,24 +18,23 @@ mod labels;
 mod laws;
 mod marking;
 mod packing;
-mod positions;
 mod safe_breaks;
 mod segments;
 mod streaming;
 mod table_reading;
 mod texts;
-mod unit_breaking;
-mod utf16_cuts;
-mod utf16_streaming;
 mod words;
 
-pub use breaking::lbk_breaks;
+pub use breaking::{
+    lbk_breaks, lbk_breaks_utf16, lbk_breaks_utf32, lbk_positions, lbk_positions_utf16,
+    lbk_positions_utf32,
+};
 pub use checking::lbk_check;
 pub use chunking::lbk_chunks;
 pub use claim_texts::{lbk_claim_text, lbk_remedy_text};
 pub use claims::lbk_is_cut;
 pub use class_labels::lbk_class;
-pub use cuts::{lbk_cut, lbk_cut_before};
+pub use cuts::{lbk_cut, lbk_cut_before, lbk_cut_before_utf16, lbk_cut_utf16};
 pub use interface::Fault;
 pub use labels::lbk_label;
 pub use laws::{
@@ -50,13 +49,9 @@ pub use lbk_units::same_in_each_encoding;
 pub use lbk_words::WordState;
 pub use marking::lbk_marks;
 pub use packing::{lbk_pack, lbk_unpack};
-pub use positions::{lbk_positions, lbk_positions_utf16, lbk_positions_utf32};
 pub use safe_breaks::lbk_safe_break;
 pub use segments::{Segment, SegmentState, lbk_segments};
-pub use streaming::lbk_feed;
+pub use streaming::{lbk_feed, lbk_feed_utf16};
 pub use table_reading::{lbk_read, lbk_read_published};
 pub use texts::{lbk_cause_text, lbk_file_name, lbk_rule_text, lbk_version};
-pub use unit_breaking::{lbk_breaks_utf16, lbk_breaks_utf32};
-pub use utf16_cuts::{lbk_cut_before_utf16, lbk_cut_utf16};
-pub use utf16_streaming::lbk_feed_utf16;
 pub use words::lbk_words;

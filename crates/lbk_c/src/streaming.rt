@@ -5,6 +5,8 @@ ghost use Rattle.bstr.specs.Utf8.{pieces};
 ghost use Rattle.lbk_bytes.specs.Bytes.{breaks_of_bytes, breaks_of_part};
 ghost use Rattle.lbk_bytes.specs.Open.{could_go_on};
 ghost use Rattle.lbk_c.specs.Feeds.{TakesPiece};
+ghost use Rattle.lbk_units.specs.Units.{breaks_of_part_of, breaks_of_utf16, pieces_of_utf16};
+ghost use Rattle.lbk_streams.specs.Streams.{could_go_on_utf16, units_in};
 
 use lbk_bytes::RawBreak;
 use lbk_rules::FlatTable;
@@ -29,6 +31,28 @@ pub extern "C" fn lbk_feed(
 ) -> Fed
     ensures { TakesPiece pieces (λ bytes. bytes) could_go_on 4 breaks_of_bytes breaks_of_part table.now stream.old
         stream.new piece.now last (length out.old) out.new result }
+{
+    feed(table, stream, piece, last, out)
+}
+
+/// Takes the next piece of a stream in UTF-16, as `lbk_feed` does for UTF-8: offsets count units of 16 bits, and a
+/// piece may end inside a surrogate pair. The units may be any. The breaks of all calls are those of `lbk_breaks_utf16`
+/// for the joined pieces. A lone surrogate is read as U+FFFD (Unicode Standard, section 3.9, D91).
+///
+/// If the block has no room, nothing is taken and the stream is unchanged. If the stream has ended or its profile is
+/// unknown, all is taken and no break is returned. With any table and stream, the breaks are breaks of rules, and a
+/// loop of calls while the block is full terminates. With any table, the offsets of a stream rise from its start.
+#[unsafe(no_mangle)]
+pub extern "C" fn lbk_feed_utf16(
+    table: &FlatTable,
+    stream: &mut Stream,
+    piece: &[u16],
+    last: bool,
+    out: &mut [RawBreak],
+) -> Fed
+    ensures { TakesPiece pieces_of_utf16 units_in could_go_on_utf16 2 breaks_of_utf16
+        (λ goes_on profile cell text. breaks_of_part_of goes_on profile cell (pieces_of_utf16 text)) table.now
+        stream.old stream.new piece.now last (length out.old) out.new result }
 {
     feed(table, stream, piece, last, out)
 }

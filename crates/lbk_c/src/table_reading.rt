@@ -57,8 +57,8 @@ pub extern "C" fn lbk_read_published(
     category: &[u8],
     emoji: &[u8],
 ) -> Fault
-    ensures { ReadsTable ArePublished IsFaultOfPublished (files_of line_break.entry east_asian.entry category.entry emoji.entry)
-        table.old table.new result }
+    ensures { ReadsTable ArePublished IsFaultOfPublished
+        (files_of line_break.entry east_asian.entry category.entry emoji.entry) table.old table.new result }
 {
     let files = Files {
         line_break,

@@ -194,6 +194,14 @@ breaks-scalars profile cell cs all =
     sym (breaks-utf8 profile cell (encode_utf8_all cs) (cs, (all, refl)) ∙ ap (λ l. breaks profile cell l) (chars-encodes cs all))
     ∙ encoding.breaks-utf8 profile cell cs all
 
+-- what a text that spells some scalars has: by what their spelling has
+pub encoded : (encode : List ℕ → List ℕ) (of of_scalars : Profile → (ℕ → Cell) → List ℕ → List Break)
+    → ((profile : Profile) (cell : ℕ → Cell) (cs : List ℕ) → scalars cs ≡ true → of profile cell (encode cs) ≡ map (placed_in encode cs) (of_scalars profile cell cs))
+    → (text : List ℕ) (cell : ℕ → Cell) (profile : Profile) (cs : List ℕ) → scalars cs ≡ true → text ≡ encode cs
+    → of profile cell text ≡ map (placed_in encode cs) (of_scalars profile cell cs)
+encoded encode of of_scalars is text cell profile cs all same =
+    subst (λ t. of profile cell t ≡ map (placed_in encode cs) (of_scalars profile cell cs)) (sym same) (is profile cell cs all)
+
 -- all of a text come from the state at its start, and those of a part from the state there
 module _ {A : Type 0} (onward : AtEnd → Onward) (end_in : Bool → AtEnd) (pieces_of : List A → List Decoded) (whole : Profile → (ℕ → Cell) → List A → List Break)
     (part_of : Bool → Profile → (ℕ → Cell) → List A → List Break) where

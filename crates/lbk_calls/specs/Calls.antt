@@ -17,8 +17,8 @@ use Rattle.lbk_calls.specs.declared.interface.State.{State}
 use Rattle.lbk_calls.specs.Coming.{Comes, PositionsCome, UnitsCome}
 use Rattle.lbk_calls.specs.State.{part_start, start_in}
 
--- whatever the table and the state, in a text of so many units: how far a call goes that has so much room and gives so
--- many, and where it stays
+-- how a call moves the state, with any table and state: the text has `size` units, the block has room for `room`
+-- entries, and the call gives `result` of them
 pub record Advances (old new : State) (size room result : ℕ) : Type 0 where
   pub profile_same : new.profile ≡ old.profile
   pub forward : 0 < result → (old.at < new.at) ⊎ (0 < new.ended)
@@ -30,7 +30,8 @@ pub record Advances (old new : State) (size room result : ℕ) : Type 0 where
   pub unknown : 3 < old.profile → (result ≡ 0) × (new ≡ old)
   pub no_room : room ≡ 0 → (result ≡ 0) × (new ≡ old)
 
--- and where what is given stands, of which `InOrder` says that it is of rules and in order
+-- the same, and what is true of the entries: `InOrder` says that they are by rules, and that their offsets rise from
+-- one offset on and stay below another
 pub record GoesOver (InOrder : List RawBreak → ℕ → ℕ → ℕ → Type 0) (old new : State) (size room : ℕ)
     (out : List RawBreak) (result : ℕ) : Type 0 where
   pub advances : Advances old new size room result
@@ -39,19 +40,21 @@ pub record GoesOver (InOrder : List RawBreak → ℕ → ℕ → ℕ → Type 0)
   pub before_state : new.ended ≡ 0 → InOrder out result old.at new.at
   pub all : old.profile ≤ 3 → old.at ≤ size → result < room → 0 < new.ended
 
--- where these come from a state on: as many of them are given as there is room for, and the others come next
+-- if these are to come from a state on, the call gives as many of them as it has room for, and the others are to come
+-- from the new state on
 pub record GivesNext (Come : State → List Break → Type 0) (new : State) (room : ℕ) (out : List RawBreak) (result : ℕ)
     (to_come : List Break) : Type 0 where
   pub count : result ≡ min room (length to_come)
   pub front : given_in out result ≡ take result to_come
   pub rest : Come new (drop result to_come)
 
--- `Come` says which come from a state on, `whole` which a text has, and `part_of` which a part of one has, after which
--- the text goes on or ends
+-- `Come` says that these are to come from a state on. `whole` has the breaks or positions of a text, and `part_of`
+-- those of a part of a text, after which the text goes on (true) or ends
 module _ {A : Type 0} (Come : (ℕ → Cell) → FlatTable → List A → State → List Break → Type 0)
     (whole : Profile → (ℕ → Cell) → List A → List Break)
     (part_of : Bool → Profile → (ℕ → Cell) → List A → List Break) where
-  -- all of a text come from the state at its start, and those of a part, which begins at any unit, from the state there
+  -- all of a text are to come from the state at its start, and those of a part, which may begin at any unit, from the
+  -- state there
   pub record ComeAtStart (table : FlatTable) (text : List A) (state : State) : Type 0 where
     pub start : (cell : ℕ → Cell) (profile : Profile) → IsFlatOf table cell → state ≡ start_in profile
         → Come cell table text state (whole profile cell text)
@@ -60,7 +63,7 @@ module _ {A : Type 0} (Come : (ℕ → Cell) → FlatTable → List A → State 
         → state ≡ part_start goes_on profile at
         → Come cell table text state (map (moved at) (part_of goes_on profile cell (drop at text)))
 
-  -- what a call gives of a text from a state on
+  -- a call gives the next ones from a state on
   pub record Gives (InOrder : List RawBreak → ℕ → ℕ → ℕ → Type 0) (table : FlatTable) (text : List A)
       (old new : State) (room : ℕ) (out : List RawBreak) (result : ℕ) : Type 0 where
     pub goes_over : GoesOver InOrder old new (length text) room out result

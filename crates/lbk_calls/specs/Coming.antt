@@ -1,5 +1,6 @@
 -- What is to come of a text from a state on.
-use Rattle.std.specs.Prelude.{◌≡◌, ℕ, Bool, ◌+◌, ◌*◌, ◌<◌, ◌≤◌, ◌⊎◌, ◌++◌, List, [], length, drop, take, min, Some, None}
+use Rattle.std.specs.Prelude.{◌≡◌, ℕ, Bool, ◌+◌, ◌*◌, ◌<◌, ◌≤◌, ◌⊎◌, ◌++◌, List, [], length, drop, take, min, Some}
+use Rattle.std.specs.Prelude.{None}
 use Rattle.bstr.specs.Utf8.{Decoded, pieces}
 use Rattle.lbk_rules.specs.declared.Break.{Break}
 use Rattle.lbk_rules.specs.declared.Cell.{Cell}

@@ -7,14 +7,14 @@ use Rattle.lbk_rules.specs.FlatTable.{AreFlatKinds, AreKinds, IsFlatOf, IsWhole}
 use Rattle.lbk_calls.specs.Packing.{packed}
 use Rattle.lbk_calls.specs.Refused.{IsCause}
 
--- the packed form of a table is written in front of some bytes, where it has room there, and its size is told
+-- the packed form of a table is written to the front of some bytes if it fits there, and its size is the result
 pub record Packs (table : FlatTable) (old new : List ℕ) (result : ℕ) : Type 0 where
   pub corrupt : ¬ (IsWhole table) → result ≡ 0
   pub size : IsWhole table → result ≡ length (packed LAYOUT table.kinds)
   pub form : IsWhole table → result ≤ length old → new ≡ packed LAYOUT table.kinds ++ drop result old
   pub untouched : (result ≡ 0) ⊎ (length old < result) → new ≡ old
 
--- a table is filled from its packed form, and all other bytes are refused by the number of a cause
+-- a table is filled from its packed form; the cause is 0, or the number of why the bytes are refused
 pub record Unpacks (bytes : List ℕ) (old new : FlatTable) (cause : ℕ) : Type 0 where
   pub form : cause ≡ 0 → bytes ≡ packed LAYOUT new.kinds
   pub whole : cause ≡ 0 → IsWhole new

@@ -58,7 +58,7 @@ pub trait Given<U> {
 }
 
 /// The breaks of bytes, found by masks or without them.
-pub struct BreaksOfBytes<const MASKS: bool>;
+pub(crate) struct BreaksOfBytes<const MASKS: bool>;
 
 impl<const MASKS: bool> Given<u8> for BreaksOfBytes<MASKS> {
     ghost entry = { IsBreak };

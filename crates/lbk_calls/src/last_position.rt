@@ -2,7 +2,6 @@
 
 ghost use Rattle.std.specs.Prelude.{◌<◌, length};
 ghost use Rattle.lbk_rules.specs.Rows.{IsPlace};
-ghost use Rattle.lbk_bytes.specs.Bytes.{open_end};
 ghost use Rattle.lbk_bytes.specs.Order.{IsPosition};
 ghost use Rattle.lbk_bytes.specs.Reached.{position_end_in};
 ghost use Rattle.lbk_calls.specs.Coming.{PutsEnd};
@@ -25,20 +24,12 @@ pub(crate) fn put_last(
     ensures { PutsEnd IsPosition (position_end_in goes_on) row out.old out.new count at result }
 {
     if goes_on {
-        return put_open(row, out, count, at);
+        let shown = end_shown(true, row);
+        if shows_break(shown) {
+            return put_position(out, count, at, shown);
+        }
+        return count;
     }
-    let shown = if row == 0 { START } else { END };
-    put_position(out, count, at, shown)
-}
-
-/// The same if the text goes on.
-fn put_open(row: usize, out: &mut [RawBreak], count: usize, at: usize) -> usize
-    requires { (count < length out.old) × IsPlace row }
-    ensures { PutsEnd IsPosition open_end row out.old out.new count at result }
-{
-    let shown = end_shown(true, row);
-    if shows_break(shown) {
-        return put_position(out, count, at, shown);
-    }
-    count
+    let last = if row == 0 { START } else { END };
+    put_position(out, count, at, last)
 }

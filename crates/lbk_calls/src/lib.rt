@@ -19,25 +19,23 @@ mod last_position;
 mod packed_tables;
 mod packing;
 mod padding;
-mod positions;
 mod records;
 mod rule_texts;
 mod runs;
-mod unit_breaking;
 mod unpacking;
 
-pub use breaking::{give_breaks, going_profile, lbk_breaks, plain};
+pub use breaking::{
+    give_breaks, going_profile, lbk_breaks, lbk_breaks_utf16, lbk_positions, plain,
+};
 pub use checking::lbk_check;
 pub use class_labels::lbk_class;
 pub use columns::lbk_columns;
-pub use giving::{BreaksOfBytes, Given, next_of};
+pub use giving::{Given, next_of};
 pub use interface::{ClassLabel, RuleLabel, State, Text};
 pub use labels::lbk_label;
 pub use packed_tables::{lbk_pack, lbk_unpack};
 pub use packing::pack;
 pub use padding::padded;
-pub use positions::lbk_positions;
 pub use rule_texts::lbk_rule_text;
 pub use runs::{KINDS_SIZE, Run};
-pub use unit_breaking::lbk_breaks_utf16;
 pub use unpacking::{Refusal, unpack};

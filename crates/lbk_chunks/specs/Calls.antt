@@ -11,13 +11,15 @@ use Rattle.lbk_chunks.specs.Chunks.{AreChunks, AreTold, are_limits, text_start}
 use Rattle.lbk_chunks.specs.Coming.{ChunksCome, state_start}
 use Rattle.lbk_chunks.specs.Cuts.{cuts_of}
 
--- where these come from a state on: as many of them are given as there is room for, and the others come next
+-- if these are to come from a state on, the call gives as many of them as it has room for, and the others are to come
+-- from the new state on
 pub record ChunksNext (Come : ChunkState → List Chunk → Type 0) (new : ChunkState) (room : ℕ) (out : List Chunk)
     (result : ℕ) (to_come : List Chunk) : Type 0 where
   pub count : result ≡ min room (length to_come)
   pub front : take result out ≡ take result to_come
   pub rest : Come new (drop result to_come)
 
+-- the call with these limits, over a text, with room for `room` chunks
 pub record GivesChunks (table : FlatTable) (limits : Limits) (text : List ℕ) (old new : ChunkState) (room : ℕ)
     (out : List Chunk) (result : ℕ) : Type 0 where
   pub within : result ≤ room

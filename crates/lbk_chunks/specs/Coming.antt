@@ -1,6 +1,6 @@
 -- What is left of a text from a place on.
 use Rattle.std.specs.Prelude.{◌≡◌, ℕ, true, ◌+◌, ◌-◌, ◌<◌, ◌≤◌, ◌==◌, List, [], ◌∷◌, ◌++◌, drop, length, map, min}
-use Rattle.std.specs.Prelude.{take, slice_index_or, Option, Some, None, if◌then◌else◌}
+use Rattle.std.specs.Prelude.{◌⊎◌, take, slice_index_or, Option, Some, None, if◌then◌else◌}
 use Rattle.std.specs.List.{list_all}
 use Rattle.lbk_rules.specs.declared.Break.{Break}
 use Rattle.lbk_rules.specs.declared.Cell.{Cell}
@@ -167,6 +167,12 @@ pub record IsSafe (text : List ℕ) (block : CutBlock) : Type 0 where
   pub within : StandWithin (length text) block.count block.cuts
   pub end : block.behind.at ≡ (if block.count == 0 then block.before.at
       else (slice_index_or block.cuts (block.count - 1) no_cut).at)
+
+-- the cut at this index of a block is its first one past a byte
+pub record IsFirstPast (block : CutBlock) (at k : ℕ) : Type 0 where
+  pub few : k < block.count
+  pub past : at < (slice_index_or block.cuts k no_cut).at
+  pub first : (k ≡ 0) ⊎ ((slice_index_or block.cuts (k - 1) no_cut).at ≤ at)
 
 -- the first cuts past a byte are in the block
 pub record IsBlock (cell : ℕ → Cell) (table : FlatTable) (text : List ℕ) (cuts : List Cut) (block : CutBlock) : Type

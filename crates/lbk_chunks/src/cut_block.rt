@@ -4,8 +4,8 @@ ghost use Rattle.std.specs.Prelude.{◌≡◌, ◌⊎◌, ℕ, ◌-◌, ◌<◌,
 ghost use Rattle.std.specs.Prelude.{slice_index_or, if◌then◌else◌};
 ghost use Rattle.lbk_rules.specs.declared.Cell.{Cell};
 ghost use Rattle.lbk_chunks.specs.declared.cut.Cut.{Cut};
-ghost use Rattle.lbk_chunks.specs.Coming.{AreCutsPast, AreRead, IsBlock, IsMark, IsSafe, breaks_left, early_in};
-ghost use Rattle.lbk_chunks.specs.Coming.{last_in, no_cut};
+ghost use Rattle.lbk_chunks.specs.Coming.{AreCutsPast, AreRead, IsBlock, IsFirstPast, IsMark, IsSafe, breaks_left};
+ghost use Rattle.lbk_chunks.specs.Coming.{early_in, last_in, no_cut};
 
 use crate::cursor::fill_cuts;
 use crate::cut::{Cut, NO_CUTS, Place};
@@ -143,9 +143,7 @@ impl CutBlock {
     pub(crate) fn first_past(&self, at: usize, from: usize) -> usize
         requires safe { (text : List ℕ) × IsSafe text self.now }
         requires reaches { (self.now.before.at ≤ at) × (at < self.now.behind.at) }
-        ensures few { result < self.now.count }
-        ensures past { at < (slice_index_or self.now.cuts result no_cut).at }
-        ensures first { (result ≡ 0) ⊎ ((slice_index_or self.now.cuts (result - 1) no_cut).at ≤ at) }
+        ensures { IsFirstPast self.now at result }
     {
         let mut k = self.begin(at, from);
         while self.cuts[k].at <= at {

@@ -1,5 +1,5 @@
 use Rattle.std.proofs.Common.{rules}
-use Rattle.lbk_c.proofs.utf16_streaming.lbk_feed_utf16.Goals as goal
+use Rattle.lbk_c.proofs.streaming.lbk_feed_utf16.Goals as goal
 
 pub returns : goal.returns
 returns c =
