@@ -1,6 +1,6 @@
 //! Steps: what happens at a cell of some kind after some cells, in either profile.
 
-ghost use Rattle.std.specs.Prelude.{◌≡◌, ◌%◌, ◌/◌, ◌==◌, ℕ, Some, false, find, map, not, true};
+ghost use Rattle.std.specs.Prelude.{◌≡◌, ◌%◌, ◌/◌, ◌==◌, ℕ, Some, false, map, not, true};
 ghost use Rattle.lbk_uax14.specs.declared.verdicts.Verdict.{Verdict};
 ghost use Rattle.lbk_uax14.specs.Codes.{kind_number, rule_number, rules};
 ghost use Rattle.lbk_uax14.specs.declared.verdicts.Kind.{Kind};
@@ -194,23 +194,13 @@ pub fn shown_by(number: u16) -> u16
     ensures shown { IsShown result }
     ensures same { IsShown number → result ≡ number }
 {
+    if KINDS_OF_VERDICTS <= number % 256 {
+        return BY_THE_LAST_RULE;
+    }
     match Rule::numbered((number / 256) as u8) {
-        Some(rule) => with_rule(number, rule),
+        Some(_) => number,
         None => BY_THE_LAST_RULE,
     }
-}
-
-/// The same of a number whose high half is that of this rule.
-fn with_rule(number: u16, rule: Rule) -> u16
-    requires { Some rule ≡ find (λ r. rule_number r == number / 256) rules }
-    ensures shown { IsShown result }
-    ensures same { IsShown number → result ≡ number }
-{
-    let _rule = rule;
-    if number % 256 < KINDS_OF_VERDICTS {
-        return number;
-    }
-    BY_THE_LAST_RULE
 }
 
 /// The kinds by their numbers, and Must again, so that any number is that of one, once it is masked, and 0 alone that
