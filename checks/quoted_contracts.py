@@ -3,9 +3,10 @@
 A line
 
     <!-- contract FILE FUNCTION [CLAUSE..] -->
+    <!-- records FILE RECORD.FIELD.. -->
 
-precedes a block with the clauses of this function, or with the named ones. The argument --write first writes the
-clauses into the page.
+precedes a block with the clauses of this function, or with the named ones, or with these fields of records. The
+argument --write first writes them into the page.
 """
 
 import re
@@ -13,7 +14,7 @@ import re
 from checks.harness import TOP
 
 PAGE = TOP / "docs/proof/contracts.md"
-BLOCK = re.compile(r"(<!-- contract (\S+) (\w+)((?: \w+)*) -->\n```text\n)(.*?)(```\n)", re.S)
+BLOCK = re.compile(r"(<!-- (contract|records) (\S+)((?:\s+[\w.]+)+) -->\n```text\n)(.*?)(```\n)", re.S)
 WIDTH = 100
 
 
@@ -31,6 +32,19 @@ def clauses_of(path, function):
     return clauses
 
 
+def fields_of(path, names):
+    """These fields of records, each as one line, by their names (RECORD.FIELD)."""
+    source = (TOP / path).read_text(encoding="utf-8")
+    fields = {}
+    for record in {name.partition(".")[0] for name in names}:
+        found = re.findall(rf"^( *)pub record {record}\b(?:.|\n)*?where\n((?:\1  .*\n)+)", source, re.M)
+        if len(found) != 1:
+            raise LookupError(f"{path} has {len(found)} records with the name {record}")
+        for field in re.split(r"^ *pub (?=\w+ :)", found[0][1], flags=re.M)[1:]:
+            fields[f"{record}.{field.split()[0]}"] = f"{record}." + " ".join(field.split())
+    return fields
+
+
 def wrapped(clause):
     """A clause in lines of at most WIDTH, cut before arrows where it can be."""
     while len(clause) > WIDTH:
@@ -42,24 +56,29 @@ def wrapped(clause):
     yield clause
 
 
-def quoted(path, function, names):
-    """The block of a function."""
-    clauses = clauses_of(path, function)
+def quoted(what, path, names):
+    """The block of a function, with the names of clauses after its own, or of fields."""
+    if what == "contract":
+        function, *names = names
+        clauses = clauses_of(path, function)
+    else:
+        clauses = fields_of(path, names)
     lost = [name for name in names if name not in clauses]
     if lost or not clauses:
-        raise LookupError(f"{path}: {function} has no clause {' '.join(lost)}")
+        raise LookupError(f"{path} has no clause {' '.join(lost)}")
     return "".join(line + "\n" for name in names or clauses for line in wrapped(clauses[name]))
 
 
 def run(tally, arguments):
     page = PAGE.read_text(encoding="utf-8")
     if "--write" in arguments:
-        page = BLOCK.sub(lambda block: block[1] + quoted(block[2], block[3], block[4].split()) + block[6], page)
+        page = BLOCK.sub(lambda it: it[1] + quoted(it[2], it[3], it[4].split()) + it[6], page)
         PAGE.write_text(page, encoding="utf-8")
     blocks = BLOCK.findall(page)
-    for _, path, function, names, shown, _ in blocks:
+    for _, what, path, names, shown, _ in blocks:
+        name = f"{names.split()[0]} of {path}"
         try:
-            tally.equal(f"{function} of {path}", shown, quoted(path, function, names.split()))
+            tally.equal(name, shown, quoted(what, path, names.split()))
         except (LookupError, OSError) as why:
-            tally.tell(f"{function} of {path}", str(why))
-    tally.equal("blocks that are marked", len(blocks), page.count("<!-- contract "))
+            tally.tell(name, str(why))
+    tally.equal("blocks that are marked", len(blocks), len(re.findall("<!-- (?:contract|records) ", page)))
