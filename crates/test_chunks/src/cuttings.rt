@@ -1,7 +1,7 @@
 //! The chunks of texts, for reads cut in any way: in two and three reads, cut at every offset, and in reads of one to
 //! seven bytes.
 
-use crate::rows::ROWS;
+use crate::rows::{Numbers, ROWS};
 use lbk_chunk_reader::{Chunk, ChunkFault, Chunker};
 use lbk_chunks::Limits;
 use lbk_feed::devices::MemorySource;
@@ -12,25 +12,12 @@ use std::alloc::{AllocError, Global};
 use std::fmt::Write;
 use std::test::Fail;
 use test_support::checks::same;
+use test_support::reads::cuttings;
 
 /// The most bytes of a paragraph.
 pub const LIMIT: u32 = 64;
 
-/// The sizes of the first, the second and all later reads.
-pub fn cuttings(alloc: Global, length: usize) -> Result<Vec<[usize; 3]>, AllocError> {
-    let mut cuttings = Vec::new(alloc);
-    for size in [1, 2, 3, 7, usize::MAX] {
-        cuttings.push([size, size, size])?;
-    }
-    for first in 1..=length {
-        for second in 1..=length {
-            cuttings.push([first, second, usize::MAX])?;
-        }
-    }
-    Ok(cuttings)
-}
-
-pub fn limits_of(numbers: &[usize; 4]) -> Limits {
+pub fn limits_of(numbers: &Numbers) -> Limits {
     Limits {
         most: numbers[0],
         words: numbers[1],
@@ -73,20 +60,29 @@ fn told(
     Ok((line, None))
 }
 
+/// A text has these chunks and then this fault, however its reads are cut.
+fn check(
+    alloc: Global,
+    cells: &CellPages,
+    limits: Limits,
+    text: &[u8],
+    (want, fault): (&str, Option<PassageFault>),
+) -> Result<(), Fail> {
+    for sizes in &cuttings(alloc, text.len())? {
+        let (line, found) = told(alloc, cells, limits, text, sizes)?;
+        same(&line.as_str(), &want, &(text, sizes))?;
+        same(&found, &fault, &(text, sizes))?;
+    }
+    Ok(())
+}
+
 #[test]
 fn chunks_in_all_reads(rt: HostRuntime) -> Result<(), Fail> {
     let cells = read_cells(rt.alloc(), SAMPLE_FILES)?;
-    for (text, numbers, want) in &ROWS {
-        for sizes in &cuttings(rt.alloc(), text.len())? {
-            let (line, fault) = told(
-                rt.alloc(),
-                &cells,
-                limits_of(numbers),
-                text.as_bytes(),
-                sizes,
-            )?;
-            same(&line.as_str(), want, text)?;
-            same(&fault, &None, text)?;
+    for (text, chunks) in &ROWS {
+        for (numbers, want) in *chunks {
+            let limits = limits_of(numbers);
+            check(rt.alloc(), &cells, limits, text.as_bytes(), (want, None))?;
         }
     }
     Ok(())
@@ -106,18 +102,15 @@ static REFUSED: [(&[u8], &str, PassageFault); 3] = [
 #[test]
 fn refused_texts(rt: HostRuntime) -> Result<(), Fail> {
     let cells = read_cells(rt.alloc(), SAMPLE_FILES)?;
+    let limits = limits_of(&[4, 0, 0, 0]);
     for (text, want, fault) in &REFUSED {
-        for sizes in &cuttings(rt.alloc(), text.len())? {
-            let (line, found) = told(rt.alloc(), &cells, limits_of(&[4, 0, 0, 0]), text, sizes)?;
-            same(&line.as_str(), want, text)?;
-            same(&found, &Some(*fault), text)?;
-        }
+        check(rt.alloc(), &cells, limits, text, (want, Some(*fault)))?;
     }
     Ok(())
 }
 
 /// Limits out of range.
-const BAD: [[usize; 4]; 3] = [[0, 0, 0, 0], [4, 0, 5, 0], [4, 0, 0, 3]];
+const BAD: [Numbers; 3] = [[0, 0, 0, 0], [4, 0, 5, 0], [4, 0, 0, 3]];
 
 #[test]
 fn refused_limits(rt: HostRuntime) -> Result<(), Fail> {

@@ -1,6 +1,6 @@
 //! The lines that `chunk` writes for a whole text and for a range, for reads cut in any way, and a window alone.
 
-use crate::cuttings::{LIMIT, cuttings, limits_of, push_told};
+use crate::cuttings::{LIMIT, limits_of, push_told};
 use crate::rows::ROWS;
 use lbk_args::Part;
 use lbk_chunk_reader::Window;
@@ -13,6 +13,7 @@ use lbk_rules::{CellPages, Profile};
 use std::alloc::Global;
 use std::test::Fail;
 use test_support::checks::same;
+use test_support::reads::cuttings;
 
 /// A text, read in these sizes, has these lines, and the run ends so.
 fn check(
@@ -51,13 +52,28 @@ const OBJECTS: Asked = Asked {
     texts: true,
 };
 
+/// What is asked for, a text, and the output.
+static WHOLE: [(Asked, &[u8], &str); 2] = [
+    (
+        LINES,
+        b"aa bb\ncc",
+        "C 0 3 1 May 18\nC 3 6 1 Must 5\nC 6 8 1 Must 3\n",
+    ),
+    (
+        OBJECTS,
+        b"\"\\\x1F a\nb\x7F",
+        "{\"start\":0,\"end\":4,\"words\":0,\"text\":\"\\\"\\\\\\u001f \"}\n\
+         {\"start\":4,\"end\":8,\"words\":2,\"text\":\"a\\nb\x7F\"}\n",
+    ),
+];
+
 #[test]
-fn lines_in_all_reads(rt: HostRuntime) -> Result<(), Fail> {
+fn written_in_all_reads(rt: HostRuntime) -> Result<(), Fail> {
     let cells = read_cells(rt.alloc(), SAMPLE_FILES)?;
-    let text = b"aa bb\ncc";
-    let lines = "C 0 3 1 May 18\nC 3 6 1 Must 5\nC 6 8 1 Must 3\n";
-    for sizes in &cuttings(rt.alloc(), text.len())? {
-        check(rt.alloc(), &cells, LINES, text, sizes, (lines, Ok(())))?;
+    for (asked, text, lines) in &WHOLE {
+        for sizes in &cuttings(rt.alloc(), text.len())? {
+            check(rt.alloc(), &cells, *asked, text, sizes, (lines, Ok(())))?;
+        }
     }
     Ok(())
 }
@@ -88,18 +104,6 @@ fn lines_of_a_range(rt: HostRuntime) -> Result<(), Fail> {
         &[8],
         want,
     )
-}
-
-#[test]
-fn objects_in_all_reads(rt: HostRuntime) -> Result<(), Fail> {
-    let cells = read_cells(rt.alloc(), SAMPLE_FILES)?;
-    let text = b"\"\\\x1F a\nb\x7F";
-    let lines = "{\"start\":0,\"end\":4,\"words\":0,\"text\":\"\\\"\\\\\\u001f \"}\n\
-        {\"start\":4,\"end\":8,\"words\":2,\"text\":\"a\\nb\x7F\"}\n";
-    for sizes in &cuttings(rt.alloc(), text.len())? {
-        check(rt.alloc(), &cells, OBJECTS, text, sizes, (lines, Ok(())))?;
-    }
-    Ok(())
 }
 
 #[test]
@@ -159,9 +163,11 @@ fn of_one_passage(alloc: Global, cells: &CellPages, text: &[u8]) -> Result<Strin
 #[test]
 fn windows(rt: HostRuntime) -> Result<(), Fail> {
     let cells = read_cells(rt.alloc(), SAMPLE_FILES)?;
-    for (text, numbers, want) in &ROWS {
-        let line = by_window(rt.alloc(), &cells, limits_of(numbers), text.as_bytes())?;
-        same(&line.as_str(), want, text)?;
+    for (text, chunks) in &ROWS {
+        for (numbers, want) in *chunks {
+            let line = by_window(rt.alloc(), &cells, limits_of(numbers), text.as_bytes())?;
+            same(&line.as_str(), want, text)?;
+        }
     }
     let line = of_one_passage(rt.alloc(), &cells, b"aa bb\ncc")?;
     same(&line.as_str(), &"0-3:1aa ", &line)
