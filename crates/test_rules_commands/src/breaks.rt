@@ -1,11 +1,11 @@
 //! The breaks of texts in memory with the sample files, in both profiles, with pages and with tables, in blocks of all
 //! sizes.
 
+use crate::calls::Setting;
 use lbk_passage::{Break, Breaks};
 use lbk_rules::{CellSource, Kind, Profile, Rule, Verdict, decide_in};
 use std::alloc::{AllocError, Global};
 use std::fmt::Write;
-use std::process::Abort;
 use std::test::Fail;
 use test_support::calls::{pages_by, tables_of};
 use test_support::cells::cells_of;
@@ -63,15 +63,13 @@ fn next_block<'b, C: CellSource>(
 
 /// All breaks, in blocks of this size. A call after the last one returns none.
 fn by_blocks<C: CellSource>(
-    alloc: Global,
-    source: &C,
-    profile: Profile,
+    setting: &Setting<'_, C>,
     text: &str,
     size: usize,
 ) -> Result<Vec<Break>, AllocError> {
-    let mut breaks = Breaks::new(source, text, profile);
-    let mut block = vec![in alloc; NO_BREAK; size]?;
-    let mut found = Vec::new(alloc);
+    let mut breaks = Breaks::new(setting.source, text, setting.profile);
+    let mut block = vec![in setting.alloc; NO_BREAK; size]?;
+    let mut found = Vec::new(setting.alloc);
     for _ in 0..text.len() + 1 {
         found.extend_from_slice(next_block(&mut breaks, &mut block))?;
     }
@@ -79,12 +77,10 @@ fn by_blocks<C: CellSource>(
 }
 
 fn one_by_one<C: CellSource>(
-    alloc: Global,
-    source: &C,
-    profile: Profile,
+    setting: &Setting<'_, C>,
     text: &str,
 ) -> Result<Vec<Break>, AllocError> {
-    Breaks::new(source, text, profile).collect(alloc)
+    Breaks::new(setting.source, text, setting.profile).collect(setting.alloc)
 }
 
 /// The bytes after each scalar of a text.
@@ -108,21 +104,17 @@ fn push_break(found: &mut Vec<Break>, at: usize, verdict: Verdict) -> Result<(),
 }
 
 /// The positions after the first that are not No, by the plain rules.
-fn by_rules<C: CellSource>(
-    rt: &impl Abort,
-    alloc: Global,
-    source: &C,
-    profile: Profile,
-    text: &str,
-) -> Result<Vec<Break>, AllocError> {
-    let cells = cells_of(alloc, source, text)?;
-    let mut found = Vec::new(alloc);
+fn by_rules<C: CellSource>(setting: &Setting<'_, C>, text: &str) -> Result<Vec<Break>, Fail> {
+    let cells = cells_of(setting.alloc, setting.source, text)?;
+    let mut found = Vec::new(setting.alloc);
     let mut k = 0usize;
-    for left in &lengths_left(alloc, text)? {
+    for left in &lengths_left(setting.alloc, text)? {
         k = k.saturating_add(1);
         let at = text.len().saturating_sub(*left);
-        assert!(rt; k <= cells.len());
-        push_break(&mut found, at, decide_in(profile, &cells, k))?;
+        if k > cells.len() {
+            return Err(Fail::new("more scalars than cells"));
+        }
+        push_break(&mut found, at, decide_in(setting.profile, &cells, k))?;
     }
     Ok(found)
 }
@@ -136,88 +128,65 @@ fn shown(alloc: Global, breaks: &[Break]) -> Result<String, AllocError> {
     Ok(shown)
 }
 
-fn same_breaks(rt: &impl Abort, found: &[Break], want: &[Break], size: usize, text: &str) {
-    assert!(rt; found == want, "by {size}: {text:?}");
+fn same_breaks(found: &[Break], want: &[Break], size: usize, text: &str) -> Result<(), Fail> {
+    same(&found, &want, &(size, text))
 }
 
 /// Compares the breaks of a text by the rules with those in blocks of all sizes, and with those one by one.
-fn agreed<C: CellSource>(
-    rt: &impl Abort,
-    alloc: Global,
-    source: &C,
-    profile: Profile,
-    text: &str,
-) -> Result<Vec<Break>, AllocError> {
-    let want = by_rules(rt, alloc, source, profile, text)?;
+fn agreed<C: CellSource>(setting: &Setting<'_, C>, text: &str) -> Result<Vec<Break>, Fail> {
+    let want = by_rules(setting, text)?;
     for size in SIZES {
-        let found = by_blocks(alloc, source, profile, text, size)?;
-        same_breaks(rt, &found, &want, size, text);
+        let found = by_blocks(setting, text, size)?;
+        same_breaks(&found, &want, size, text)?;
     }
-    let found = one_by_one(alloc, source, profile, text)?;
-    same_breaks(rt, &found, &want, 0, text);
+    let found = one_by_one(setting, text)?;
+    same_breaks(&found, &want, 0, text)?;
     Ok(want)
 }
 
-fn check<C: CellSource>(
-    rt: &impl Abort,
-    alloc: Global,
-    source: &C,
-    profile: Profile,
-    rows: &[Row],
-) -> Result<(), Fail> {
+/// Also compares them with those of each row.
+fn check<C: CellSource>(setting: &Setting<'_, C>, rows: &[Row]) -> Result<(), Fail> {
     for (text, want) in rows {
-        let found = agreed(rt, alloc, source, profile, text)?;
-        let found = shown(alloc, &found)?;
+        let found = agreed(setting, text)?;
+        let found = shown(setting.alloc, &found)?;
         same(&found.as_str(), want, text)?;
     }
     Ok(())
 }
 
 /// All texts of some rows, and these joined.
-fn check_agreement<C: CellSource>(
-    rt: &impl Abort,
-    alloc: Global,
-    source: &C,
-    profile: Profile,
-    rows: &[Row],
-) -> Result<(), Fail> {
-    let mut joined = String::new(alloc);
+fn check_agreement<C: CellSource>(setting: &Setting<'_, C>, rows: &[Row]) -> Result<(), Fail> {
+    let mut joined = String::new(setting.alloc);
     for (text, _) in rows {
         joined.push_str(text)?;
-        let _ = agreed(rt, alloc, source, profile, text)?;
+        let _ = agreed(setting, text)?;
     }
-    let _ = agreed(rt, alloc, source, profile, joined.as_str())?;
+    let _ = agreed(setting, joined.as_str())?;
     Ok(())
 }
 
-/// The rows of both profiles, and those of one.
-fn check_profile<C: CellSource>(
-    rt: &impl Abort,
-    alloc: Global,
-    source: &C,
-    profile: Profile,
-    rows: &[Row],
-) -> Result<(), Fail> {
-    check(rt, alloc, source, profile, &BOTH)?;
-    check(rt, alloc, source, profile, rows)?;
-    check_agreement(rt, alloc, source, profile, &FIRST)?;
-    check_agreement(rt, alloc, source, profile, &SECOND)
-}
-
-fn check_source<C: CellSource>(rt: &impl Abort, alloc: Global, source: &C) -> Result<(), Fail> {
-    check_profile(rt, alloc, source, Profile::First, &IN_FIRST)?;
-    check_profile(rt, alloc, source, Profile::Second, &IN_SECOND)
+/// In each profile its own rows, and those of both.
+fn check_source<C: CellSource>(alloc: Global, source: &C) -> Result<(), Fail> {
+    for (profile, rows) in [(Profile::First, IN_FIRST), (Profile::Second, IN_SECOND)] {
+        let setting = Setting {
+            alloc,
+            source,
+            profile,
+        };
+        check(&setting, &BOTH)?;
+        check(&setting, &rows)?;
+        check_agreement(&setting, &FIRST)?;
+        check_agreement(&setting, &SECOND)?;
+    }
+    Ok(())
 }
 
 #[test]
 fn breaks_of_texts(rt: HostRuntime) -> Result<(), Fail> {
-    let pages = pages_by(rt.alloc(), SAMPLES)?;
-    check_source(&rt, rt.alloc(), &pages)?;
-    Ok(())
+    check_source(rt.alloc(), &pages_by(rt.alloc(), SAMPLES)?)
 }
 
 #[test]
 fn breaks_of_texts_by_tables(rt: HostRuntime) -> Result<(), Fail> {
-    check_source(&rt, rt.alloc(), &tables_of(rt.alloc(), SAMPLES)?)?;
-    Ok(())
+    check_source(rt.alloc(), &tables_of(rt.alloc(), SAMPLES)?)
 }

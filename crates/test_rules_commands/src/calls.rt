@@ -4,8 +4,17 @@
 use lbk_rules::{
     Cell, CellSource, LateMachine, Machine, Out, Profile, Stepper, Verdict, decide, decide_in,
 };
+use std::alloc::Global;
 use std::fmt::Debug;
 use std::process::Abort;
+
+/// How texts are decided.
+#[derive(Drop)]
+pub struct Setting<'a, C> {
+    pub alloc: Global,
+    pub source: &'a C,
+    pub profile: Profile,
+}
 
 pub fn decided(rt: &impl Abort, cells: &[Cell], k: usize) -> Verdict {
     assert!(rt; k <= cells.len());

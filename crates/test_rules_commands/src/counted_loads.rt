@@ -3,9 +3,10 @@
 
 use lbk_cmd::{Ending, MemoryStore, SAMPLE_FILES, Store, run};
 use lbk_feed::devices::{MemorySink, MemorySource};
-use std::alloc::{AllocError, Global};
+use std::alloc::Global;
 use std::test::Fail;
 use test_support::checks::same;
+use test_support::property_files::words_on_files;
 
 const BAD_ROW: &[u8] = b"0061;AK\n";
 
@@ -85,19 +86,12 @@ fn check(
     same(&(ending.status(), reported, loads), &want, &words)
 }
 
-fn words_of(alloc: Global, row: &Row) -> Result<Vec<&'static str>, AllocError> {
-    let mut words = Vec::new(alloc);
-    words.extend_from_slice(&[row.0, "--line-break", row.1[0], "--east-asian", row.1[1]])?;
-    words.extend_from_slice(&["--category", "C", "--emoji", "M"])?;
-    words.extend_from_slice(row.2)?;
-    Ok(words)
-}
-
 #[test]
 fn counted_loads(rt: HostRuntime) -> Result<(), Fail> {
     let alloc = rt.alloc();
     for row in &ROWS {
-        check(alloc, &words_of(alloc, row)?, row.3, (row.4, row.5, row.6))?;
+        let words = words_on_files(alloc, row.0, row.1, row.2)?;
+        check(alloc, &words, row.3, (row.4, row.5, row.6))?;
     }
     for (words, text) in &NO_FILES {
         check(alloc, words, text, (0, false, 0))?;

@@ -1,7 +1,7 @@
 //! The verdicts at the positions of texts with the sample files: by the evaluator in both profiles, and by the
 //! machines.
 
-use crate::calls::{decided, decided_in, late_step, same, start_late, step_over, stepper};
+use crate::calls::{Setting, decided, decided_in, late_step, same, start_late, step_over, stepper};
 use lbk_rules::{
     Cell, CellPages, CellSource, Class, End, Kind, Out, Profile, Rule, Verdict, decide_all,
     decide_all_in,
@@ -149,14 +149,9 @@ fn steps_of(
 }
 
 /// The same by a stepper over the scalars of a text.
-fn steps_over<C: CellSource>(
-    alloc: Global,
-    source: &C,
-    profile: Profile,
-    text: &str,
-) -> Result<String, AllocError> {
-    let mut steps = String::new(alloc);
-    let mut stepper = stepper(source, profile);
+fn steps_over<C: CellSource>(setting: &Setting<'_, C>, text: &str) -> Result<String, AllocError> {
+    let mut steps = String::new(setting.alloc);
+    let mut stepper = stepper(setting.source, setting.profile);
     for c in text.chars() {
         push_step(&mut steps, step_over(&mut stepper, c))?;
     }
@@ -189,14 +184,12 @@ fn push_late(steps: &mut String, late: Option<(u64, Verdict)>) -> Result<(), All
 /// Compares the verdicts of the positions of each text with those of its row.
 fn check<C: CellSource>(
     rt: &impl Abort,
-    alloc: Global,
-    source: &C,
-    profile: Profile,
+    setting: &Setting<'_, C>,
     rows: &[Row],
 ) -> Result<(), AllocError> {
     for row in rows {
-        let cells = cells_of(alloc, source, row.0)?;
-        check_cells(rt, alloc, profile, &cells, *row)?;
+        let cells = cells_of(setting.alloc, setting.source, row.0)?;
+        check_cells(rt, setting.alloc, setting.profile, &cells, *row)?;
     }
     Ok(())
 }
@@ -204,16 +197,14 @@ fn check<C: CellSource>(
 /// Compares the steps of the late machine and of a stepper over each text with those of its row.
 fn check_steps<C: CellSource>(
     rt: &impl Abort,
-    alloc: Global,
-    source: &C,
-    profile: Profile,
+    setting: &Setting<'_, C>,
     rows: &[Row],
 ) -> Result<(), AllocError> {
     for (text, want) in rows {
-        let cells = cells_of(alloc, source, text)?;
-        let found = steps_of(rt, alloc, profile, &cells)?;
+        let cells = cells_of(setting.alloc, setting.source, text)?;
+        let found = steps_of(rt, setting.alloc, setting.profile, &cells)?;
         same(rt, found.as_str(), want, "steps", text);
-        let found = steps_over(alloc, source, profile, text)?;
+        let found = steps_over(setting, text)?;
         same(rt, found.as_str(), want, "the stepper", text);
     }
     Ok(())
@@ -224,12 +215,18 @@ fn check_source<C: CellSource>(
     alloc: Global,
     source: &C,
 ) -> Result<(), AllocError> {
-    check(rt, alloc, source, Profile::First, &FIRST)?;
-    check(rt, alloc, source, Profile::Second, &SECOND)?;
-    check(rt, alloc, source, Profile::First, &KINDS[..1])?;
-    check(rt, alloc, source, Profile::Second, &KINDS[1..])?;
-    check_steps(rt, alloc, source, Profile::First, &FIRST)?;
-    check_steps(rt, alloc, source, Profile::Second, &STEPS)
+    let mut setting = Setting {
+        alloc,
+        source,
+        profile: Profile::First,
+    };
+    check(rt, &setting, &FIRST)?;
+    check(rt, &setting, &KINDS[..1])?;
+    check_steps(rt, &setting, &FIRST)?;
+    setting.profile = Profile::Second;
+    check(rt, &setting, &SECOND)?;
+    check(rt, &setting, &KINDS[1..])?;
+    check_steps(rt, &setting, &STEPS)
 }
 
 #[test]
@@ -247,13 +244,12 @@ fn sample_rows_by_tables(rt: HostRuntime) -> Result<(), Fail> {
 #[test]
 fn no_files(rt: HostRuntime) -> Result<(), Fail> {
     let tables = tables_of(rt.alloc(), line_break_alone(b""))?;
-    check(
-        &rt,
-        rt.alloc(),
-        &tables,
-        Profile::First,
-        &[("a ", "2 28 3")],
-    )?;
+    let setting = Setting {
+        alloc: rt.alloc(),
+        source: &tables,
+        profile: Profile::First,
+    };
+    check(&rt, &setting, &[("a ", "2 28 3")])?;
     Ok(())
 }
 

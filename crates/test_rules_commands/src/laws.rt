@@ -1,8 +1,31 @@
-//! The laws about rules and the annex can be called.
+//! The laws can be called.
 
+use lbk_notation::file_laws;
 use lbk_rules::annex;
+use lbk_ucd::LineBreak;
 
-fn of_rules_and_paragraphs() {
+#[test]
+fn laws_of_feeds() {
+    lbk_feed::laws::text_max();
+    lbk_feed::laws::limit_max();
+    lbk_feed::laws::prefix_is_longest_text();
+    lbk_feed::laws::prefix_behind_a_text();
+    lbk_feed::laws::faults_exclude_each_other();
+}
+
+#[test]
+fn laws_of_property_files() {
+    lbk_ucd::laws::lines_say_what_the_grammar_has();
+    lbk_ucd::laws::lines_make_up_the_file();
+    lbk_ucd::laws::shared_codes_are_held::<LineBreak>();
+    lbk_ucd::laws::files_have_one_fault_or_none::<LineBreak>();
+    lbk_ucd::laws::kept_rows_are_apart::<LineBreak>();
+    lbk_ucd::laws::lawful_files_want_memory();
+    lbk_ucd::laws::samples_are_lawful();
+}
+
+#[test]
+fn laws_of_paragraphs() {
     lbk_rules::laws::paragraph();
     lbk_rules::laws::look_ahead();
     lbk_rules::laws::look_ahead_second();
@@ -10,7 +33,8 @@ fn of_rules_and_paragraphs() {
     lbk_rules::laws::unanswered_alone();
 }
 
-fn of_rules_and_positions() {
+#[test]
+fn laws_of_positions() {
     lbk_rules::laws::must_end();
     lbk_rules::laws::must_end_of_text();
     lbk_rules::laws::before_line_end();
@@ -21,7 +45,8 @@ fn of_rules_and_positions() {
     lbk_rules::laws::normal_cells();
 }
 
-fn of_the_annex() {
+#[test]
+fn laws_of_the_annex() {
     annex::spaces();
     annex::indicators();
     annex::heads();
@@ -30,8 +55,24 @@ fn of_the_annex() {
 }
 
 #[test]
-fn laws_of_rules() {
-    of_rules_and_paragraphs();
-    of_rules_and_positions();
-    of_the_annex();
+fn laws_of_passages() {
+    lbk_passage::laws::behind_an_earlier_text();
+    lbk_passage::laws::run_begins();
+    lbk_passage::laws::run_goes_on();
+    lbk_passage::laws::run_ends();
+}
+
+#[test]
+fn laws_of_test_files() {
+    file_laws::lines_make_up_the_file();
+    file_laws::one_replay_text();
+    file_laws::settled_text_stays();
+}
+
+#[test]
+fn laws_of_the_program() {
+    lbk_args::laws::accepted_words_ask_for_a_task();
+    lbk_cmd::laws::shown_lines();
+    lbk_cmd::laws::headline();
+    lbk_cmd::laws::joined_ranges();
 }

@@ -23,8 +23,6 @@ mod decided;
 #[cfg(test)]
 mod deciding;
 #[cfg(test)]
-mod engine_laws;
-#[cfg(test)]
 mod faults_told;
 #[cfg(test)]
 mod first_bytes;
@@ -43,14 +41,11 @@ mod passages_of_a_reader;
 #[cfg(test)]
 mod property_calls;
 #[cfg(test)]
-mod property_laws;
-#[cfg(test)]
 mod reasons_told;
 #[cfg(test)]
 mod sample_ranges;
 #[cfg(test)]
 mod sizes_of_passages;
-#[cfg(test)]
 #[cfg(test)]
 mod surface;
 #[cfg(test)]

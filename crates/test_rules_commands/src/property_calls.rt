@@ -7,24 +7,17 @@ use std::process::Abort;
 
 pub const LAST_CODE: u32 = 0x10FFFF;
 
-pub fn line_break_of(rt: &impl Abort, tables: &Tables, code: u32) -> LineBreak {
-    assert!(rt; code <= LAST_CODE);
-    tables.line_break(code)
-}
+/// The values of a code point: line break, width, category, and whether it is a pictograph.
+pub type Values = (LineBreak, EastAsian, Category, bool);
 
-pub fn east_asian_of(rt: &impl Abort, tables: &Tables, code: u32) -> EastAsian {
+pub fn values_of(rt: &impl Abort, tables: &Tables, code: u32) -> Values {
     assert!(rt; code <= LAST_CODE);
-    tables.east_asian(code)
-}
-
-pub fn category_of(rt: &impl Abort, tables: &Tables, code: u32) -> Category {
-    assert!(rt; code <= LAST_CODE);
-    tables.category(code)
-}
-
-pub fn is_pictographic(rt: &impl Abort, tables: &Tables, code: u32) -> bool {
-    assert!(rt; code <= LAST_CODE);
-    tables.is_pictographic(code)
+    (
+        tables.line_break(code),
+        tables.east_asian(code),
+        tables.category(code),
+        tables.is_pictographic(code),
+    )
 }
 
 pub fn run_of(rt: &impl Abort, tables: &Tables, code: u32, near: Places) -> Run {

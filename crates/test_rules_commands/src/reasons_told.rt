@@ -55,6 +55,24 @@ const IN_FOLDER: Caller<'static> = Caller::Words {
 
 const READ: RunFault = RunFault::Cmd(CmdFault::Passage(PassageFault::Read));
 
+const REPLAY_READ: RunFault = RunFault::Replay(ReplayFault::Read);
+
+const WRITE: RunFault = RunFault::Cmd(CmdFault::Write);
+
+const REPLAY_WRITE: RunFault = RunFault::Replay(ReplayFault::Write);
+
+const LOAD_LINES: RunFault = RunFault::Load(Which::LineBreak);
+
+const LOAD_CATEGORY: RunFault = RunFault::Load(Which::Category);
+
+const LOAD_WIDTHS: RunFault = RunFault::Load(Which::EastAsianWidth);
+
+const IN: &str = "standard input: cannot be read";
+
+const OUT: &str = "standard output: cannot be written";
+
+const WIDTHS: &str = "EastAsianWidth.txt: the file cannot be read";
+
 /// A fault, its caller, the operand that names the text, and the message before the reason.
 type Row = (
     RunFault,
@@ -66,56 +84,16 @@ type Row = (
 static ROWS: [Row; 12] = [
     (RunFault::Open, GIVEN, Some("x"), "x: cannot be read"),
     (READ, GIVEN, Some("x"), "x: cannot be read"),
-    (READ, GIVEN, None, "standard input: cannot be read"),
-    (
-        READ,
-        Caller::NoWords,
-        None,
-        "standard input: cannot be read",
-    ),
+    (READ, GIVEN, None, IN),
+    (READ, Caller::NoWords, None, IN),
     (READ, Caller::Call, None, "the input: cannot be read"),
-    (
-        RunFault::Replay(ReplayFault::Read),
-        GIVEN,
-        Some("-"),
-        "standard input: cannot be read",
-    ),
-    (
-        RunFault::Cmd(CmdFault::Write),
-        GIVEN,
-        None,
-        "standard output: cannot be written",
-    ),
-    (
-        RunFault::Replay(ReplayFault::Write),
-        IN_FOLDER,
-        None,
-        "standard output: cannot be written",
-    ),
-    (
-        RunFault::Cmd(CmdFault::Write),
-        Caller::Call,
-        None,
-        "the output: cannot be written",
-    ),
-    (
-        RunFault::Load(Which::LineBreak),
-        GIVEN,
-        None,
-        "L: the file cannot be read",
-    ),
-    (
-        RunFault::Load(Which::Category),
-        GIVEN,
-        None,
-        "C: the file cannot be read",
-    ),
-    (
-        RunFault::Load(Which::EastAsianWidth),
-        Caller::Call,
-        None,
-        "EastAsianWidth.txt: the file cannot be read",
-    ),
+    (REPLAY_READ, GIVEN, Some("-"), IN),
+    (WRITE, GIVEN, None, OUT),
+    (REPLAY_WRITE, IN_FOLDER, None, OUT),
+    (WRITE, Caller::Call, None, "the output: cannot be written"),
+    (LOAD_LINES, GIVEN, None, "L: the file cannot be read"),
+    (LOAD_CATEGORY, GIVEN, None, "C: the file cannot be read"),
+    (LOAD_WIDTHS, Caller::Call, None, WIDTHS),
 ];
 
 fn check(rt: &impl Abort, alloc: Global, row: &Row, kind: ErrorKind) -> Result<(), Fail> {

@@ -1,9 +1,7 @@
 //! The sample files, range by range: the tables' values for the first and the last code point of each, and for those on
 //! either side.
 
-use crate::property_calls::{
-    LAST_CODE, category_of, east_asian_of, is_pictographic, line_break_of, same_at,
-};
+use crate::property_calls::{LAST_CODE, same_at, values_of};
 use lbk_ucd::{Category, EastAsian, LineBreak, Tables};
 use std::alloc::{AllocError, Global};
 use std::process::Abort;
@@ -172,14 +170,12 @@ fn codes(alloc: Global) -> Result<Vec<u32>, AllocError> {
 }
 
 fn check(rt: &impl Abort, tables: &Tables, code: u32) {
-    let value = line_break_of(rt, tables, code);
-    same_at(rt, Some(value), value_at(LINE_BREAKS, code), code);
-    let value = east_asian_of(rt, tables, code);
-    same_at(rt, Some(value), value_at(WIDTHS, code), code);
-    let value = category_of(rt, tables, code);
-    same_at(rt, Some(value), value_at(CATEGORIES, code), code);
-    let value = is_pictographic(rt, tables, code);
-    same_at(rt, Some(value), value_at(PICTOGRAPHS, code), code);
+    let (line_break, width, category, is_pictographic) = values_of(rt, tables, code);
+    same_at(rt, Some(line_break), value_at(LINE_BREAKS, code), code);
+    same_at(rt, Some(width), value_at(WIDTHS, code), code);
+    same_at(rt, Some(category), value_at(CATEGORIES, code), code);
+    let value = value_at(PICTOGRAPHS, code);
+    same_at(rt, Some(is_pictographic), value, code);
 }
 
 #[test]

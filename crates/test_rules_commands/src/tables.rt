@@ -1,8 +1,6 @@
 //! The values of code points in tables, and how files are refused.
 
-use crate::property_calls::{
-    category_of, east_asian_of, is_pictographic, line_break_of, run_of, same_at,
-};
+use crate::property_calls::{Values, run_of, same_at, values_of};
 use lbk_ucd::{Category, EastAsian, Files, LineBreak, Places, Tables, UcdCause, UcdFault, Which};
 use std::alloc::{AllocError, Global};
 use std::fmt::Write;
@@ -24,104 +22,84 @@ fn check_file(rt: &impl Abort, alloc: Global, bytes: &[u8], fault: Option<(u32, 
 }
 
 /// A code point, and its values in files.
-type Row = (u32, LineBreak, EastAsian, Category, bool);
+type Row = (u32, Values);
 
 /// The values in the samples.
 const SAMPLE_ROWS: [Row; 10] = [
     (
         0x23,
-        LineBreak::Alphabetic,
-        EastAsian::Narrow,
-        Category::Po,
-        false,
+        (
+            LineBreak::Alphabetic,
+            EastAsian::Narrow,
+            Category::Po,
+            false,
+        ),
     ),
     (
         0x61,
-        LineBreak::Alphabetic,
-        EastAsian::Narrow,
-        Category::Ll,
-        false,
+        (
+            LineBreak::Alphabetic,
+            EastAsian::Narrow,
+            Category::Ll,
+            false,
+        ),
     ),
     (
         0xE31,
-        LineBreak::ComplexContext,
-        EastAsian::Neutral,
-        Category::Mn,
-        false,
+        (
+            LineBreak::ComplexContext,
+            EastAsian::Neutral,
+            Category::Mn,
+            false,
+        ),
     ),
     (
         0x20A9,
-        LineBreak::Unknown,
-        EastAsian::Halfwidth,
-        Category::Sc,
-        false,
+        (
+            LineBreak::Unknown,
+            EastAsian::Halfwidth,
+            Category::Sc,
+            false,
+        ),
     ),
     (
         0x3042,
-        LineBreak::Unknown,
-        EastAsian::Neutral,
-        Category::Cn,
-        false,
+        (LineBreak::Unknown, EastAsian::Neutral, Category::Cn, false),
     ),
     (
         0xD800,
-        LineBreak::Surrogate,
-        EastAsian::Neutral,
-        Category::Cs,
-        false,
+        (
+            LineBreak::Surrogate,
+            EastAsian::Neutral,
+            Category::Cs,
+            false,
+        ),
     ),
     (
         0x1F3FB,
-        LineBreak::EModifier,
-        EastAsian::Wide,
-        Category::Sk,
-        false,
+        (LineBreak::EModifier, EastAsian::Wide, Category::Sk, false),
     ),
     (
         0x1F466,
-        LineBreak::EBase,
-        EastAsian::Wide,
-        Category::So,
-        true,
+        (LineBreak::EBase, EastAsian::Wide, Category::So, true),
     ),
     (
         0x1FAFF,
-        LineBreak::Ideographic,
-        EastAsian::Neutral,
-        Category::Cn,
-        true,
+        (
+            LineBreak::Ideographic,
+            EastAsian::Neutral,
+            Category::Cn,
+            true,
+        ),
     ),
     (
         0x10FFFF,
-        LineBreak::Unknown,
-        EastAsian::Neutral,
-        Category::Cn,
-        false,
+        (LineBreak::Unknown, EastAsian::Neutral, Category::Cn, false),
     ),
 ];
 
-fn check_line_break(rt: &impl Abort, tables: &Tables, code: u32, want: LineBreak) {
-    same_at(rt, line_break_of(rt, tables, code), want, code);
-}
-
-fn check_width(rt: &impl Abort, tables: &Tables, code: u32, want: EastAsian) {
-    same_at(rt, east_asian_of(rt, tables, code), want, code);
-}
-
-fn check_category(rt: &impl Abort, tables: &Tables, code: u32, want: Category) {
-    same_at(rt, category_of(rt, tables, code), want, code);
-}
-
-fn check_pictograph(rt: &impl Abort, tables: &Tables, code: u32, want: bool) {
-    same_at(rt, is_pictographic(rt, tables, code), want, code);
-}
-
 fn check_row(rt: &impl Abort, tables: &Tables, row: &Row) {
-    let (code, line_break, east_asian, category, is_pictographic) = *row;
-    check_line_break(rt, tables, code, line_break);
-    check_width(rt, tables, code, east_asian);
-    check_category(rt, tables, code, category);
-    check_pictograph(rt, tables, code, is_pictographic);
+    same_at(rt, values_of(rt, tables, row.0), row.1, row.0);
 }
 
 #[test]
@@ -196,30 +174,40 @@ fn check_long_file(rt: &impl Abort, alloc: Global, bytes: &[u8], fault: Option<(
     assert_eq!(rt; line_break_fault(alloc, bytes), fault);
 }
 
-/// A row for each code point up to FFFF.
-fn many_rows(alloc: Global) -> Result<String, AllocError> {
+/// A row for each code point up to FFFF, in rising or in falling order.
+fn many_rows(alloc: Global, falling: bool) -> Result<String, AllocError> {
     let mut text = String::new(alloc);
-    for code in 0..=0xFFFFu32 {
+    for place in 0..=0xFFFFu32 {
+        let code = if falling { 0xFFFF - place } else { place };
         writeln!(text, "{code:04X};AL")?;
     }
     Ok(text)
 }
 
+/// The order of the rows, a row after them, and its fault.
+const ROWS_BEHIND: [(bool, &str, UcdCause); 2] = [
+    (false, "10000;AL", UcdCause::TooManyRows),
+    (true, "8000..8001;AL", UcdCause::Overlap),
+];
+
 #[test]
 fn rows_for_each_code(rt: HostRuntime) -> Result<(), Fail> {
-    let mut text = many_rows(rt.alloc())?;
-    check_long_file(&rt, rt.alloc(), text.as_bytes(), None);
-    text.push_str("10000;AL")?;
-    let fault = Some((65_537, UcdCause::TooManyRows));
-    check_long_file(&rt, rt.alloc(), text.as_bytes(), fault);
+    for (falling, row, cause) in &ROWS_BEHIND {
+        let mut text = many_rows(rt.alloc(), *falling)?;
+        check_long_file(&rt, rt.alloc(), text.as_bytes(), None);
+        text.push_str(row)?;
+        let fault = Some((65_537, *cause));
+        check_long_file(&rt, rt.alloc(), text.as_bytes(), fault);
+    }
     Ok(())
 }
 
 #[test]
 fn no_files(rt: HostRuntime) -> Result<(), Fail> {
     let empty = tables_of(rt.alloc(), NO_FILES)?;
-    check_line_break(&rt, &empty, 0x61, LineBreak::Unknown);
-    check_category(&rt, &empty, 0x61, Category::Cn);
+    let (line_break, _, category, _) = values_of(&rt, &empty, 0x61);
+    same_at(&rt, line_break, LineBreak::Unknown, 0x61);
+    same_at(&rt, category, Category::Cn, 0x61);
     Ok(())
 }
 
@@ -233,10 +221,15 @@ const DEFAULTS: Files<'static> = Files {
 #[test]
 fn defaults(rt: HostRuntime) -> Result<(), Fail> {
     let tables = tables_of(rt.alloc(), DEFAULTS)?;
-    check_line_break(&rt, &tables, 0x41, LineBreak::Alphabetic);
-    check_line_break(&rt, &tables, 0x42, LineBreak::Ideographic);
-    check_pictograph(&rt, &tables, 0xA9, true);
-    check_pictograph(&rt, &tables, 0x61, false);
+    for (code, want) in [
+        (0x41, LineBreak::Alphabetic),
+        (0x42, LineBreak::Ideographic),
+    ] {
+        same_at(&rt, values_of(&rt, &tables, code).0, want, code);
+    }
+    for (code, want) in [(0xA9, true), (0x61, false)] {
+        same_at(&rt, values_of(&rt, &tables, code).3, want, code);
+    }
     Ok(())
 }
 
@@ -325,7 +318,7 @@ fn check_run(
     near: Places,
     (code, line_break, last): (u32, LineBreak, u32),
 ) -> Places {
-    check_line_break(rt, tables, code, line_break);
+    same_at(rt, values_of(rt, tables, code).0, line_break, code);
     let run = run_of(rt, tables, code, near);
     same_at(rt, run.line_break, line_break, code);
     same_at(rt, run.last, last, code);
@@ -343,33 +336,17 @@ fn defaults_over_one_another(rt: HostRuntime) -> Result<(), Fail> {
     Ok(())
 }
 
-/// The same rows in falling order.
-fn falling_rows(alloc: Global) -> Result<String, AllocError> {
-    let mut text = String::new(alloc);
-    for code in 0..=0xFFFFu32 {
-        writeln!(text, "{:04X};AL", 0xFFFF - code)?;
-    }
-    Ok(text)
-}
-
-#[test]
-fn rows_in_falling_order(rt: HostRuntime) -> Result<(), Fail> {
-    let mut text = falling_rows(rt.alloc())?;
-    check_long_file(&rt, rt.alloc(), text.as_bytes(), None);
-    text.push_str("8000..8001;AL")?;
-    let fault = Some((65_537, UcdCause::Overlap));
-    check_long_file(&rt, rt.alloc(), text.as_bytes(), fault);
-    Ok(())
-}
-
 /// Compares the range of a row's code point, looked up near the previous one. Returns where it was found.
 fn check_run_of_row(rt: &impl Abort, tables: &Tables, near: Places, row: &Row) -> Places {
-    let (code, line_break, east_asian, category, is_pictographic) = *row;
+    let (code, values) = *row;
     let run = run_of(rt, tables, code, near);
-    same_at(rt, run.line_break, line_break, code);
-    same_at(rt, run.east_asian, east_asian, code);
-    same_at(rt, run.category, category, code);
-    same_at(rt, run.is_pictographic, is_pictographic, code);
+    let found = (
+        run.line_break,
+        run.east_asian,
+        run.category,
+        run.is_pictographic,
+    );
+    same_at(rt, found, values, code);
     run.places
 }
 

@@ -70,25 +70,17 @@ fn status(ending: Ending) -> u8 {
     status
 }
 
-fn shown<R: Source, W: Sink, C: CellSource>(
+/// The engines over a text have the same types: `show`, and `segment`.
+fn written<R: Source, W: Sink, C: CellSource>(
+    shows: bool,
     alloc: Global,
+    (cells, limit, profile): (&C, u32, Profile),
     reader: &mut R,
     writer: &mut W,
-    cells: &C,
-    limit: u32,
-    profile: Profile,
 ) -> Result<(), CmdFault> {
-    show(alloc, reader, writer, cells, limit, profile)
-}
-
-fn segmented<R: Source, W: Sink, C: CellSource>(
-    alloc: Global,
-    reader: &mut R,
-    writer: &mut W,
-    cells: &C,
-    limit: u32,
-    profile: Profile,
-) -> Result<(), CmdFault> {
+    if shows {
+        return show(alloc, reader, writer, cells, limit, profile);
+    }
     segment(alloc, reader, writer, cells, limit, profile)
 }
 
@@ -111,30 +103,12 @@ fn loaded<S: Store>(alloc: Global, store: &mut S, name: &str) -> Result<Vec<u8>,
 fn engines(rt: HostRuntime) -> Result<(), Fail> {
     let cells: CellPages = pages_by(rt.alloc(), SAMPLE_FILES)?;
     let mut writer = MemorySink::new(rt.alloc(), 128)?;
-    let mut reader = MemorySource::new(b"ab");
-    assert_eq!(&rt;
-        shown(
-            rt.alloc(),
-            &mut reader,
-            &mut writer,
-            &cells,
-            4,
-            Profile::First
-        ),
-        Ok(())
-    );
-    let mut reader = MemorySource::new(b"ab");
-    assert_eq!(&rt;
-        segmented(
-            rt.alloc(),
-            &mut reader,
-            &mut writer,
-            &cells,
-            4,
-            Profile::First
-        ),
-        Ok(())
-    );
+    for shows in [true, false] {
+        let setting = (&cells, 4, Profile::First);
+        let mut reader = MemorySource::new(b"ab");
+        let answer = written(shows, rt.alloc(), setting, &mut reader, &mut writer);
+        assert_eq!(&rt; answer, Ok(()));
+    }
     assert!(&rt;
         fault(CmdFault::Write) && run_fault(RunFault::Memory) && load_fault(LoadFault::Unreadable)
     );

@@ -77,11 +77,9 @@ fn replayed_line<C: CellSource>(
 
 fn replayed<R: Source, W: Sink, C: CellSource>(
     alloc: Global,
+    (cells, form, profile): (&C, Form, Profile),
     reader: &mut R,
     writer: &mut W,
-    cells: &C,
-    form: Form,
-    profile: Profile,
 ) -> Result<Report, ReplayFault> {
     replay(alloc, reader, writer, cells, form, profile)
 }
@@ -113,13 +111,12 @@ fn files(rt: HostRuntime) -> Result<(), Fail> {
     let cells: CellPages = pages_by(rt.alloc(), SAMPLE_FILES)?;
     let mut reader = MemorySource::new("÷ 0061 ÷\n".as_bytes());
     let mut writer = MemorySink::new(rt.alloc(), 64)?;
+    let setting = (&cells, Form::Plain, Profile::First);
     let found: Result<Report, ReplayFault> = replayed(
         rt.alloc(),
+        setting,
         &mut reader,
         &mut writer,
-        &cells,
-        Form::Plain,
-        Profile::First,
     );
     assert!(&rt; found.is_ok() && replay_fault(ReplayFault::Read));
     if let Ok(

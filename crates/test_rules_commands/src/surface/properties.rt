@@ -1,6 +1,6 @@
 //! What `lbk_ucd` exports: the values of the properties, and their tables.
 
-use crate::property_calls::{category_of, east_asian_of, is_pictographic, line_break_of};
+use crate::property_calls::values_of;
 use lbk_ucd::{
     Category, EastAsian, Files, LineBreak, SAMPLE_CATEGORY, SAMPLE_EAST_ASIAN, SAMPLE_EMOJI,
     SAMPLE_LINE_BREAK, Tables, UcdCause, UcdFault, Which,
@@ -142,11 +142,9 @@ fn properties(rt: HostRuntime) -> Result<(), Fail> {
     assert!(&rt; tables.is_ok());
     if let Ok(tables) = &tables {
         let code: u32 = 0x1F466;
-        let pictographic: bool = is_pictographic(&rt, tables, code);
-        assert!(&rt; line_break(line_break_of(&rt, tables, code)) && pictographic);
-        assert!(&rt;
-            east_asian(east_asian_of(&rt, tables, code)) && category(category_of(&rt, tables, code))
-        );
+        let (its_line_break, width, its_category, pictographic) = values_of(&rt, tables, code);
+        assert!(&rt; line_break(its_line_break) && pictographic);
+        assert!(&rt; east_asian(width) && category(its_category));
     }
     let refused: Result<Tables, UcdFault> = read(rt.alloc(), b"\n0061;AK\n");
     assert!(&rt; refused.is_err());

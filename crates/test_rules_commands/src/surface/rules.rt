@@ -12,47 +12,47 @@ use std::process::Abort;
 use std::test::Fail;
 use test_support::calls::tables_of;
 
-fn class(value: Class) -> bool {
-    use Class::*;
+/// The property value of the same name.
+fn class(value: Class) -> LineBreak {
     match value {
-        Alphabetic
-        | BreakBoth
-        | BreakAfter
-        | BreakBefore
-        | MandatoryBreak
-        | ContingentBreak
-        | ClosePunctuation
-        | CombiningMark
-        | CloseParenthesis
-        | CarriageReturn
-        | EBase
-        | EModifier
-        | Exclamation
-        | Glue
-        | H2
-        | H3
-        | HebrewLetter
-        | Hyphen
-        | Ideographic
-        | Inseparable
-        | InfixNumeric
-        | JL
-        | JT
-        | JV
-        | LineFeed
-        | NextLine
-        | Nonstarter
-        | Numeric
-        | OpenPunctuation
-        | PostfixNumeric
-        | PrefixNumeric
-        | Quotation
-        | RegionalIndicator
-        | Space
-        | BreakSymbols
-        | WordJoiner
-        | ZWSpace
-        | ZWJ => true,
+        Class::Alphabetic => LineBreak::Alphabetic,
+        Class::BreakBoth => LineBreak::BreakBoth,
+        Class::BreakAfter => LineBreak::BreakAfter,
+        Class::BreakBefore => LineBreak::BreakBefore,
+        Class::MandatoryBreak => LineBreak::MandatoryBreak,
+        Class::ContingentBreak => LineBreak::ContingentBreak,
+        Class::ClosePunctuation => LineBreak::ClosePunctuation,
+        Class::CombiningMark => LineBreak::CombiningMark,
+        Class::CloseParenthesis => LineBreak::CloseParenthesis,
+        Class::CarriageReturn => LineBreak::CarriageReturn,
+        Class::EBase => LineBreak::EBase,
+        Class::EModifier => LineBreak::EModifier,
+        Class::Exclamation => LineBreak::Exclamation,
+        Class::Glue => LineBreak::Glue,
+        Class::H2 => LineBreak::H2,
+        Class::H3 => LineBreak::H3,
+        Class::HebrewLetter => LineBreak::HebrewLetter,
+        Class::Hyphen => LineBreak::Hyphen,
+        Class::Ideographic => LineBreak::Ideographic,
+        Class::Inseparable => LineBreak::Inseparable,
+        Class::InfixNumeric => LineBreak::InfixNumeric,
+        Class::JL => LineBreak::JL,
+        Class::JT => LineBreak::JT,
+        Class::JV => LineBreak::JV,
+        Class::LineFeed => LineBreak::LineFeed,
+        Class::NextLine => LineBreak::NextLine,
+        Class::Nonstarter => LineBreak::Nonstarter,
+        Class::Numeric => LineBreak::Numeric,
+        Class::OpenPunctuation => LineBreak::OpenPunctuation,
+        Class::PostfixNumeric => LineBreak::PostfixNumeric,
+        Class::PrefixNumeric => LineBreak::PrefixNumeric,
+        Class::Quotation => LineBreak::Quotation,
+        Class::RegionalIndicator => LineBreak::RegionalIndicator,
+        Class::Space => LineBreak::Space,
+        Class::BreakSymbols => LineBreak::BreakSymbols,
+        Class::WordJoiner => LineBreak::WordJoiner,
+        Class::ZWSpace => LineBreak::ZWSpace,
+        Class::ZWJ => LineBreak::ZWJ,
     }
 }
 
@@ -175,7 +175,8 @@ fn cells(rt: HostRuntime) -> Result<(), Fail> {
         quote: its_quote,
         letter,
     } = resolved;
-    assert!(&rt; class(its_class) && !wide && !pict_cn && quote(its_quote) && letter);
+    assert_eq!(&rt; class(its_class), LineBreak::Alphabetic);
+    assert!(&rt; !wide && !pict_cn && quote(its_quote) && letter);
     let tables: Tables = tables_of(rt.alloc(), SAMPLE_FILES)?;
     let pages: CellPages = pages(rt.alloc(), &tables)?;
     assert_eq!(&rt; cell_of(&tables, 'a'), cell_of(&pages, 'a'));
