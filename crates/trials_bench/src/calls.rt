@@ -2,8 +2,8 @@
 //! only proves that it is safe and returns, so it needs no facts about them; without these facts a check takes a
 //! fraction of the time.
 
-use crate::commands::Words;
 use crate::counting::{begin, end};
+use crate::engines::Engine;
 use crate::inputs::{Input, source_of};
 use anyhow::{Result, ensure};
 use lbk_args::{Order, WordsFault};
@@ -165,8 +165,9 @@ pub fn push_mark(
     answer
 }
 
-pub fn show(
+pub fn write(
     alloc: Global,
+    engine: Engine,
     input: &Input,
     sink: &mut MemorySink,
     limit: u32,
@@ -174,21 +175,7 @@ pub fn show(
 ) -> Result<(), CmdFault> {
     let mut source = source_of(&input.bytes);
     begin(alloc);
-    let answer = lbk_cmd::show(alloc, &mut source, sink, &input.cells, limit, profile);
-    end(alloc);
-    answer
-}
-
-pub fn segment(
-    alloc: Global,
-    input: &Input,
-    sink: &mut MemorySink,
-    limit: u32,
-    profile: Profile,
-) -> Result<(), CmdFault> {
-    let mut source = source_of(&input.bytes);
-    begin(alloc);
-    let answer = lbk_cmd::segment(alloc, &mut source, sink, &input.cells, limit, profile);
+    let answer = engine.write(alloc, &mut source, sink, &input.cells, limit, profile);
     end(alloc);
     answer
 }
@@ -220,7 +207,7 @@ pub fn replay(
     answer
 }
 
-pub fn parse(alloc: Global, words: Words) -> Result<Order<'static>, WordsFault> {
+pub fn parse<'a>(alloc: Global, words: &'a [&'a str]) -> Result<Order<'a>, WordsFault> {
     begin(alloc);
     let answer = bare_parse(alloc, words);
     end(alloc);
@@ -250,11 +237,11 @@ pub fn load(
     answer
 }
 
-pub fn prepare(
+pub fn prepare<'a>(
     alloc: Global,
-    words: Words,
+    words: &'a [&'a str],
     store: &mut MemoryStore<'_>,
-) -> Result<Ready<'static>, NotReady> {
+) -> Result<Ready<'a>, NotReady> {
     begin(alloc);
     let answer = bare_prepare(alloc, words, store);
     end(alloc);
@@ -263,7 +250,7 @@ pub fn prepare(
 
 pub fn run(
     alloc: Global,
-    words: Words,
+    words: &[&str],
     store: &mut MemoryStore<'_>,
     texts: &mut MemoryTexts<'_>,
     bytes: &[u8],
@@ -296,7 +283,7 @@ fn bare_next<'s>(
 
 fn bare_run(
     alloc: Global,
-    words: Words,
+    words: &[&str],
     store: &mut MemoryStore<'_>,
     texts: &mut MemoryTexts<'_>,
     source: &mut MemorySource<'_>,
@@ -305,18 +292,18 @@ fn bare_run(
     lbk_cmd::run_over_texts(alloc, words, store, texts, source, sink)
 }
 
-fn bare_prepare(
+fn bare_prepare<'a>(
     alloc: Global,
-    words: Words,
+    words: &'a [&'a str],
     store: &mut MemoryStore<'_>,
-) -> Result<Ready<'static>, NotReady> {
+) -> Result<Ready<'a>, NotReady> {
     match lbk_files::read_order(alloc, words) {
         Ok(order) => lbk_files::prepare(alloc, order, store).map_err(NotReady::Refused),
         Err(stop) => Err(stop),
     }
 }
 
-fn bare_parse(alloc: Global, words: Words) -> Result<Order<'static>, WordsFault> {
+fn bare_parse<'a>(alloc: Global, words: &'a [&'a str]) -> Result<Order<'a>, WordsFault> {
     lbk_args::parse(alloc, words)
 }
 

@@ -8,25 +8,32 @@ use lbk_cmd::MemoryTexts;
 use lbk_feed::Source;
 use lbk_feed::devices::MemorySource;
 use lbk_files::{MemoryStore, Ready};
-use lbk_ucd::{SAMPLE_CATEGORY, SAMPLE_EAST_ASIAN, SAMPLE_EMOJI, SAMPLE_LINE_BREAK};
-use std::alloc::Global;
+use std::alloc::{AllocError, Global};
+use test_support::property_files::{NAMED, words_on_files};
 
 /// The arguments after the program's name.
-pub type Words = &'static [&'static str];
+#[derive(Clone, Copy)]
+pub enum Words {
+    /// These.
+    Plain(&'static [&'static str]),
+    /// A subcommand over named files: the names of the first two, and what follows.
+    OnFiles(&'static str, &'static str, &'static str, &'static [&'static str]),
+}
 
-const BAD_ROW: &[u8] = b"0061;AK\n";
-
-/// The sample files, and a file of one bad row.
-static FILES: [(&str, &[u8]); 5] = [
-    ("L", SAMPLE_LINE_BREAK),
-    ("E", SAMPLE_EAST_ASIAN),
-    ("C", SAMPLE_CATEGORY),
-    ("M", SAMPLE_EMOJI),
-    ("B", BAD_ROW),
-];
+impl Words {
+    fn list(self, alloc: Global) -> Result<Vec<&'static str>, AllocError> {
+        match self {
+            Words::Plain(words) => Vec::from_slice(alloc, words),
+            Words::OnFiles(subcommand, line_break, east_asian, more) => {
+                words_on_files(alloc, subcommand, [line_break, east_asian], more)
+            }
+        }
+    }
+}
 
 pub fn parse(alloc: Global, words: Words) -> Result<String> {
-    told(alloc, &calls::parse(alloc, words))
+    let words = words.list(alloc)?;
+    told(alloc, &calls::parse(alloc, &words))
 }
 
 pub fn front(alloc: Global, bytes: Text, most: u16) -> Result<String> {
@@ -44,9 +51,8 @@ fn front_told(alloc: Global, front: &[u8], reads: u64) -> Result<String> {
     Ok(format!(in alloc; "Ok: {count} bytes after {reads} reads, digest {digest:016x}\n")?)
 }
 
-/// These by their names.
 fn store() -> MemoryStore<'static> {
-    MemoryStore::new(&FILES)
+    MemoryStore::new(&NAMED)
 }
 
 pub fn load(alloc: Global, name: &str, most: u16) -> Result<String> {
@@ -55,8 +61,9 @@ pub fn load(alloc: Global, name: &str, most: u16) -> Result<String> {
 }
 
 pub fn prepared(alloc: Global, words: Words) -> Result<String> {
+    let words = words.list(alloc)?;
     let mut store = store();
-    match calls::prepare(alloc, words, &mut store) {
+    match calls::prepare(alloc, &words, &mut store) {
         Ok(ready) => ready_told(alloc, &ready),
         Err(stop) => fault_told(alloc, &stop),
     }
@@ -70,10 +77,11 @@ fn ready_told(alloc: Global, ready: &Ready<'_>) -> Result<String> {
 }
 
 pub fn run(alloc: Global, words: Words, input: Text) -> Result<String> {
+    let words = words.list(alloc)?;
     let bytes = input.bytes(alloc)?;
     let mut sink = sink_of(alloc)?;
     let mut texts = MemoryTexts::new(alloc, store());
     let mut store = store();
-    let ending = calls::run(alloc, words, &mut store, &mut texts, &bytes, &mut sink);
+    let ending = calls::run(alloc, &words, &mut store, &mut texts, &bytes, &mut sink);
     answer_told(alloc, &ending, sink.bytes())
 }

@@ -1,22 +1,52 @@
-//! `show`, `segment` and `replay`: their results and outputs; the sink of the output; and `break_text`.
+//! The engines of the program: their results and outputs; the sink of the output; and `break_text`.
 
 use crate::calls;
 use crate::inputs::{Input, sink_of};
 use crate::told::{answer_told, fault_told, line_told};
 use anyhow::Result;
+use lbk_cmd::{CmdFault, mark, segment, show};
+use lbk_feed::Sink;
+use lbk_feed::devices::MemorySource;
 use lbk_notation::{Form, TestLine};
-use lbk_rules::Profile;
+use lbk_rules::{CellPages, Profile};
 use std::alloc::Global;
 
-pub fn show(alloc: Global, input: &Input, limit: u32, profile: Profile) -> Result<String> {
-    let mut sink = sink_of(alloc)?;
-    let answer = calls::show(alloc, input, &mut sink, limit, profile);
-    answer_told(alloc, &answer, sink.bytes())
+/// An engine over a text.
+#[derive(Clone, Copy)]
+pub enum Engine {
+    Show,
+    Mark,
+    Segment,
 }
 
-pub fn segment(alloc: Global, input: &Input, limit: u32, profile: Profile) -> Result<String> {
+impl Engine {
+    /// Only a call.
+    pub fn write<W: Sink>(
+        self,
+        alloc: Global,
+        reader: &mut MemorySource<'_>,
+        writer: &mut W,
+        cells: &CellPages,
+        limit: u32,
+        profile: Profile,
+    ) -> Result<(), CmdFault> {
+        match self {
+            Engine::Show => show(alloc, reader, writer, cells, limit, profile),
+            Engine::Mark => mark(alloc, reader, writer, cells, limit, profile),
+            Engine::Segment => segment(alloc, reader, writer, cells, limit, profile),
+        }
+    }
+}
+
+pub fn write(
+    alloc: Global,
+    engine: Engine,
+    input: &Input,
+    limit: u32,
+    profile: Profile,
+) -> Result<String> {
     let mut sink = sink_of(alloc)?;
-    let answer = calls::segment(alloc, input, &mut sink, limit, profile);
+    let answer = calls::write(alloc, engine, input, &mut sink, limit, profile);
     answer_told(alloc, &answer, sink.bytes())
 }
 

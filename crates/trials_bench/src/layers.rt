@@ -1,13 +1,14 @@
 //! The layers, each as one run over the whole text.
 
 use crate::dropped::Dropped;
+use crate::engines::Engine;
 use crate::material::Material;
+use crate::passages::segmenter_of;
 use crate::stepless::Stepless;
 use anyhow::{Result, bail};
-use lbk_cmd::{mark, segment, show};
 use lbk_feed::devices::MemorySource;
 use lbk_notation::{Form, replay};
-use lbk_passage::{Breaks, LIMIT_MAX, Segment, Segmenter};
+use lbk_passage::{Breaks, LIMIT_MAX, Segment};
 use lbk_rules::{
     Break, CellPages, CellSource, Class, Kind, LateMachine, Machine, Profile, Rule, Stepper,
     Verdict,
@@ -39,10 +40,8 @@ pub enum Layer {
     Segments,
     /// The passages of the text from a device in memory.
     Next,
-    /// What the engines of the program write for the text.
-    Show,
-    Mark,
-    Segment,
+    /// What an engine of the program writes for the text.
+    Engine(Engine),
     /// The lines that `show` writes, compared with the rules.
     Replay,
     /// The property files read.
@@ -66,9 +65,9 @@ pub const LAYERS: [Layer; 19] = [
     Layer::Words,
     Layer::Segments,
     Layer::Next,
-    Layer::Show,
-    Layer::Mark,
-    Layer::Segment,
+    Layer::Engine(Engine::Show),
+    Layer::Engine(Engine::Mark),
+    Layer::Engine(Engine::Segment),
     Layer::Replay,
     Layer::Tables,
     Layer::Pages,
@@ -102,9 +101,9 @@ impl Layer {
             Layer::Words => "words",
             Layer::Segments => "segments of passages",
             Layer::Next => "next",
-            Layer::Show => "show",
-            Layer::Mark => "mark",
-            Layer::Segment => "segment",
+            Layer::Engine(Engine::Show) => "show",
+            Layer::Engine(Engine::Mark) => "mark",
+            Layer::Engine(Engine::Segment) => "segment",
             Layer::Replay => "replay",
             Layer::Tables => "Tables::read",
             Layer::Pages => "CellPages::build",
@@ -135,9 +134,7 @@ impl Layer {
             Layer::Words => Ok(text.split_word_bounds().count() as u64),
             Layer::Segments => segments(alloc, material),
             Layer::Next => passages(alloc, cells, text),
-            Layer::Show => shown(alloc, cells, text),
-            Layer::Mark => marked(alloc, cells, text),
-            Layer::Segment => segmented(alloc, cells, text),
+            Layer::Engine(engine) => written(alloc, engine, cells, text),
             Layer::Replay => replayed(alloc, cells, material.shown),
             Layer::Tables => tables(alloc, material),
             Layer::Pages => pages(alloc, material.tables),
@@ -268,9 +265,7 @@ fn cut(
 
 fn passages(alloc: Global, cells: &CellPages, text: &str) -> Result<u64> {
     let mut source = MemorySource::new(text.as_bytes());
-    let Ok(mut segmenter) = Segmenter::new(alloc, cells, LIMIT_MAX, Profile::First) else {
-        bail!("no room for a paragraph");
-    };
+    let mut segmenter = segmenter_of(alloc, cells, LIMIT_MAX, Profile::First)?;
     let mut count = 0u64;
     for _ in 0..u64::MAX {
         match segmenter.next(&mut source) {
@@ -282,51 +277,12 @@ fn passages(alloc: Global, cells: &CellPages, text: &str) -> Result<u64> {
     Ok(count)
 }
 
-fn shown(alloc: Global, cells: &CellPages, text: &str) -> Result<u64> {
+fn written(alloc: Global, engine: Engine, cells: &CellPages, text: &str) -> Result<u64> {
     let mut source = MemorySource::new(text.as_bytes());
-    let mut sink = Dropped;
-    match show(
-        alloc,
-        &mut source,
-        &mut sink,
-        cells,
-        LIMIT_MAX,
-        Profile::First,
-    ) {
+    let (limit, profile) = (LIMIT_MAX, Profile::First);
+    match engine.write(alloc, &mut source, &mut Dropped, cells, limit, profile) {
         Ok(()) => Ok(0),
-        Err(_) => bail!("the text cannot be shown"),
-    }
-}
-
-fn marked(alloc: Global, cells: &CellPages, text: &str) -> Result<u64> {
-    let mut source = MemorySource::new(text.as_bytes());
-    let mut sink = Dropped;
-    match mark(
-        alloc,
-        &mut source,
-        &mut sink,
-        cells,
-        LIMIT_MAX,
-        Profile::First,
-    ) {
-        Ok(()) => Ok(0),
-        Err(_) => bail!("the text cannot be marked"),
-    }
-}
-
-fn segmented(alloc: Global, cells: &CellPages, text: &str) -> Result<u64> {
-    let mut source = MemorySource::new(text.as_bytes());
-    let mut sink = Dropped;
-    match segment(
-        alloc,
-        &mut source,
-        &mut sink,
-        cells,
-        LIMIT_MAX,
-        Profile::First,
-    ) {
-        Ok(()) => Ok(0),
-        Err(_) => bail!("the text cannot be cut"),
+        Err(_) => bail!("the text is refused"),
     }
 }
 

@@ -1,9 +1,10 @@
 //! The inputs of the layers.
 
+use crate::engines::Engine;
+use crate::passages::segmenter_of;
 use anyhow::{Result, bail};
-use lbk_cmd::show;
 use lbk_feed::devices::{MemorySink, MemorySource};
-use lbk_passage::{LIMIT_MAX, Segmenter};
+use lbk_passage::LIMIT_MAX;
 use lbk_rules::{CellPages, CellSource, Profile};
 use lbk_ucd::{Files, Tables};
 use std::alloc::Global;
@@ -57,9 +58,7 @@ pub fn front_of(text: &str) -> &str {
 
 pub fn passages_of(alloc: Global, cells: &CellPages, text: &str) -> Result<Vec<(usize, usize)>> {
     let mut source = MemorySource::new(text.as_bytes());
-    let Ok(mut segmenter) = Segmenter::new(alloc, cells, LIMIT_MAX, Profile::First) else {
-        bail!("no room for a paragraph");
-    };
+    let mut segmenter = segmenter_of(alloc, cells, LIMIT_MAX, Profile::First)?;
     let mut passages = Vec::new(alloc);
     let mut start = 0usize;
     for _ in 0..text.len() {
@@ -79,16 +78,9 @@ pub fn passages_of(alloc: Global, cells: &CellPages, text: &str) -> Result<Vec<(
 pub fn shown_of(alloc: Global, cells: &CellPages, text: &str) -> Result<MemorySink> {
     let mut source = MemorySource::new(text.as_bytes());
     let mut sink = MemorySink::new(alloc, SHOWN_MOST)?;
-    if show(
-        alloc,
-        &mut source,
-        &mut sink,
-        cells,
-        LIMIT_MAX,
-        Profile::First,
-    )
-    .is_err()
-    {
+    let (limit, profile) = (LIMIT_MAX, Profile::First);
+    let answer = Engine::Show.write(alloc, &mut source, &mut sink, cells, limit, profile);
+    if answer.is_err() {
         bail!("the text cannot be shown");
     }
     Ok(sink)

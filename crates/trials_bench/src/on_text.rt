@@ -1,5 +1,6 @@
 //! Calls on a text.
 
+use crate::engines::Engine;
 use crate::inputs::{Input, Text};
 use crate::{breaks, engines, lines, passages, pushes, verdicts};
 use anyhow::Result;
@@ -55,8 +56,10 @@ impl OnText {
             OnText::MarkText => lines::mark(alloc, input, profile),
             OnText::PushLine(form) => pushes::line(alloc, input, form, profile),
             OnText::PushPassageLine => pushes::passage_line(alloc, input, profile),
-            OnText::Show(limit) => engines::show(alloc, input, limit, profile),
-            OnText::Segment(limit) => engines::segment(alloc, input, limit, profile),
+            OnText::Show(limit) => engines::write(alloc, Engine::Show, input, limit, profile),
+            OnText::Segment(limit) => {
+                engines::write(alloc, Engine::Segment, input, limit, profile)
+            }
             OnText::BreakText(limit) => engines::break_text(alloc, input, limit, profile),
             OnText::Replay(form) => engines::replay(alloc, input, form, profile),
             OnText::Decide => verdicts::decided(alloc, input, profile),

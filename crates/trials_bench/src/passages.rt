@@ -33,7 +33,8 @@ pub fn next(alloc: Global, input: &Input, limit: u32, profile: Profile) -> Resul
     all_told(alloc, &mut segmenter, &input.bytes)
 }
 
-fn segmenter_of(
+/// A segmenter that is made without being counted.
+pub fn segmenter_of(
     alloc: Global,
     cells: &CellPages,
     limit: u32,

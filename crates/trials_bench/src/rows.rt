@@ -56,124 +56,29 @@ const LONG_BAD_LINE: Text = Text::Repeated("× 0061 ", 1000);
 
 const PASSAGE_LINE: Text = Text::Of("× 0061 × 000D × 000A !\t# 2 6 5 3");
 
-const FILES_SHOW: Words = &[
-    "show",
-    "--line-break",
-    "L",
-    "--east-asian",
-    "E",
-    "--category",
-    "C",
-    "--emoji",
-    "M",
-];
+const FILES_SHOW: Words = Words::OnFiles("show", "L", "E", &[]);
 
-const FILES_SHOW_SECOND: Words = &[
-    "show",
-    "--line-break",
-    "L",
-    "--east-asian",
-    "E",
-    "--category",
-    "C",
-    "--emoji",
-    "M",
-    "--profile",
-    "2",
-];
+const FILES_SHOW_SECOND: Words = Words::OnFiles("show", "L", "E", &["--profile", "2"]);
 
-const FILES_SHOW_LIMIT: Words = &[
-    "show",
-    "--line-break",
-    "L",
-    "--east-asian",
-    "E",
-    "--category",
-    "C",
-    "--emoji",
-    "M",
-    "--limit",
-    "4",
-];
+const FILES_SHOW_LIMIT: Words = Words::OnFiles("show", "L", "E", &["--limit", "4"]);
 
-const FILES_SHOW_NO_LIMIT: Words = &[
-    "show",
-    "--line-break",
-    "L",
-    "--east-asian",
-    "E",
-    "--category",
-    "C",
-    "--emoji",
-    "M",
-    "--limit",
-    "0",
-];
+const FILES_SHOW_NO_LIMIT: Words = Words::OnFiles("show", "L", "E", &["--limit", "0"]);
 
-const FILES_SHOW_MISSING: Words = &[
-    "show",
-    "--line-break",
-    "L",
-    "--east-asian",
-    "none",
-    "--category",
-    "C",
-    "--emoji",
-    "M",
-];
+const FILES_SHOW_MISSING: Words = Words::OnFiles("show", "L", "none", &[]);
 
-const FILES_SHOW_BAD: Words = &[
-    "show",
-    "--line-break",
-    "B",
-    "--east-asian",
-    "E",
-    "--category",
-    "C",
-    "--emoji",
-    "M",
-];
+const FILES_SHOW_BAD: Words = Words::OnFiles("show", "B", "E", &[]);
 
-const FILES_SEGMENT: Words = &[
-    "segment",
-    "--line-break",
-    "L",
-    "--east-asian",
-    "E",
-    "--category",
-    "C",
-    "--emoji",
-    "M",
-];
+const FILES_SEGMENT: Words = Words::OnFiles("segment", "L", "E", &[]);
 
-const FILES_REPLAY: Words = &[
-    "replay",
-    "--line-break",
-    "L",
-    "--east-asian",
-    "E",
-    "--category",
-    "C",
-    "--emoji",
-    "M",
-];
+const FILES_REPLAY: Words = Words::OnFiles("replay", "L", "E", &[]);
 
-const FILES_REPLAY_KINDS: Words = &[
-    "replay",
-    "--line-break",
-    "L",
-    "--east-asian",
-    "E",
-    "--category",
-    "C",
-    "--emoji",
-    "M",
-    "--kinds",
-];
+const FILES_REPLAY_KINDS: Words = Words::OnFiles("replay", "L", "E", &["--kinds"]);
 
-const HELP: Words = &["--help"];
+const NONE: Words = Words::Plain(&[]);
 
-const WRONG: Words = &["bogus"];
+const HELP: Words = Words::Plain(&["--help"]);
+
+const WRONG: Words = Words::Plain(&["bogus"]);
 
 /// The default limit, in bytes.
 const LIMIT: u32 = 65_536;
@@ -589,7 +494,7 @@ static ENGINES: [Row; 34] = [
 ];
 
 static WORDS: [Row; 17] = [
-    ("parse/none", Trial::Parse(&[])),
+    ("parse/none", Trial::Parse(NONE)),
     ("parse/show", Trial::Parse(FILES_SHOW)),
     ("parse/show-profile-2", Trial::Parse(FILES_SHOW_SECOND)),
     ("parse/show-limit", Trial::Parse(FILES_SHOW_LIMIT)),
@@ -609,7 +514,7 @@ static WORDS: [Row; 17] = [
 ];
 
 static RUNS: [Row; 13] = [
-    ("run/none", Trial::Run(&[], TWO_WORDS)),
+    ("run/none", Trial::Run(NONE, TWO_WORDS)),
     ("run/show", Trial::Run(FILES_SHOW, TWO_WORDS)),
     ("run/show-long", Trial::Run(FILES_SHOW, LONG)),
     ("run/show-profile-2", Trial::Run(FILES_SHOW_SECOND, QUOTED)),
