@@ -1,5 +1,5 @@
 -- The words of a passage, piece by piece.
-use Rattle.std.proofs.Common.{◌≡◌, ℕ, ◌+◌, ◌<◌, ◌≤◌, ◌&&◌, Bool, true, false, cond, nat_lt, List, [], ◌∷◌, ◌++◌, length}
+use Rattle.std.proofs.Common.{◌≡◌, ℕ, ◌+◌, ◌^◌, ◌<◌, ◌≤◌, ◌&&◌, Bool, true, false, cond, nat_lt, List, [], ◌∷◌, ◌++◌, length}
 use Rattle.std.proofs.Common.{map, refl, sym, ap, ap₂, subst, ◌∙◌, arith, length-append, append_assoc, append-nil}
 use Rattle.std.specs.List.{concat, list_any}
 use Rattle.std.specs.Str.{IsUtf8, chars}
@@ -158,8 +158,22 @@ pushed-none start words segments pieces old is =
 module _ (start words : ℕ) (segments : List Segment) (pieces : List Piece) (old new : List given.Cut)
     (count counted : ℕ) (left after : List Piece)
     (rest more : List Segment) (s : Segment) (is : rest ≡ s ∷ more)
+    (regular : IsRegular start words segments pieces)
     (p : ArePushed start words segments pieces old new count left rest)
-    (passed : ArePassed start (start + s.end) count left counted after) where
+    (passes : (start from : ℕ) → AreJoined from left → count + length (words_in_pieces start left) < 2 ^ 64
+    → ArePassed start (start + s.end) count left counted after)
+    (ends : (start : ℕ) → EndsPast start (start + s.end) after)
+    (inside : Bool)
+    (tells : (start from : ℕ) → AreJoined from after → EndsPast start (start + s.end) after
+    → (inside ≡ is_within (words_in_pieces start after) (start + s.end))
+    × (words_before (words_in_pieces start after) (start + s.end) ≡ 0)) where
+  passed : ArePassed start (start + s.end) count left counted after
+  passed = passes start p.from p.joined (omega (arith, p.same, regular.few))
+
+  told : (inside ≡ is_within (words_in_pieces start after) (start + s.end))
+      × (words_before (words_in_pieces start after) (start + s.end) ≡ 0)
+  told = tells start passed.from passed.joined (ends start)
+
   past-s : AreBreaksPast p.past (map (break_at start) (s ∷ more))
   past-s = subst (λ l. AreBreaksPast p.past (map (break_at start) l)) is p.rising
 
@@ -178,11 +192,10 @@ module _ (start words : ℕ) (segments : List Segment) (pieces : List Piece) (ol
 
   pub pushed-on : (items : List given.Cut)
       → items ≡ new ++ record { at = start + s.end; words = counted; kind = s.kind; rule = s.rule } ∷ []
-      → is_within (words_in_pieces start after) (start + s.end) ≡ false
-      → words_before (words_in_pieces start after) (start + s.end) ≡ 0
+      → inside ≡ false
       → ArePushed start words segments pieces old items counted after more
   unfolding others
-  pushed-on items pushed within before =
+  pushed-on items pushed outside =
       let cut : Cut = record {
         at = start + s.end;
         words = counted;
@@ -191,7 +204,8 @@ module _ (start words : ℕ) (segments : List Segment) (pieces : List Piece) (ol
       } in
       let here : cut ∷ others ≡ cuts_among counted (words_in_pieces start after)
       (break_at start s ∷ map (break_at start) more) =
-      sym (ap₂ (λ (w : Bool) (n : ℕ). cond w others (cut_by (break_at start s) (counted + n) ∷ others)) within before
+      sym (ap₂ (λ (w : Bool) (n : ℕ). cond w others (cut_by (break_at start s) (counted + n) ∷ others))
+      (sym told.0 ∙ outside) told.1
       ∙ ap (λ n. cut_by (break_at start s) n ∷ others) (let none : counted + 0 ≡ counted = omega arith in none)) in
       record {
         from = passed.from;
@@ -205,8 +219,7 @@ module _ (start words : ℕ) (segments : List Segment) (pieces : List Piece) (ol
             ∙ append_assoc (map numbered new) (cut ∷ []) others ∙ on (cut ∷ others) here;
       }
 
-  pub pushed-over : is_within (words_in_pieces start after) (start + s.end) ≡ true
-      → ArePushed start words segments pieces old new counted after more
+  pub pushed-over : inside ≡ true → ArePushed start words segments pieces old new counted after more
   unfolding others
   pushed-over within = record {
     from = passed.from;
@@ -216,7 +229,7 @@ module _ (start words : ℕ) (segments : List Segment) (pieces : List Piece) (ol
     rising = past-s.1;
     cuts = on others (sym (ap (λ (w : Bool). cond w others
         (cut_by (break_at start s) (counted + words_before (words_in_pieces start after) (start + s.end)) ∷ others))
-        within));
+        (sym told.0 ∙ within)));
   }
 
 pub pushed-all : (start words : ℕ) (segments : List Segment) (pieces : List Piece) (old new : List given.Cut)

@@ -14,3 +14,5 @@ pub mod Choosing
 pub mod Pieces
 pub mod Standing
 pub mod Taking
+-- Terms of other crates.
+pub mod Terms

@@ -2,15 +2,8 @@
 
 ghost use Rattle.std.specs.Prelude.{◌≡◌, ℕ, true, List, [], ◌++◌, IsUtf8, encode_utf8_all};
 ghost use Rattle.std.specs.Str.{chars};
-ghost use Rattle.lbk_rules.specs.declared.Cell.{Cell};
-ghost use Rattle.lbk_values.specs.declared.profile.Profile.{Profile};
-ghost use Rattle.lbk_chunks.specs.declared.chunk.Chunk.{Chunk};
-ghost use Rattle.lbk_chunks.specs.declared.chunk.Limits.{Limits};
-ghost use Rattle.lbk_chunks.specs.Chunks.{AreChunks, text_start};
-ghost use Rattle.lbk_chunks.specs.declared.cut.Cut.{Cut};
-ghost use Rattle.lbk_chunks.specs.Cuts.{AreCutsPast, cuts_of};
-ghost use Rattle.lbk_passage.specs.Next.{IsDone};
-ghost use Rattle.lbk_passage.specs.Passages.{passages};
+ghost use Rattle.lbk_chunk_reader.specs.Terms.{AreChunks, AreCutsPast, Cell, Chunk, Cut, IsDone, Limits, Profile};
+ghost use Rattle.lbk_chunk_reader.specs.Terms.{cuts_of, passages, text_start};
 ghost use Rattle.lbk_chunk_reader.specs.Agreement.{AgreeOnLetters, AgreeOnLines};
 ghost use Rattle.lbk_chunk_reader.specs.Cuts.{cuts_of_passages};
 ghost use Rattle.lbk_chunk_reader.specs.Reader.{ChunksCome, HasGiven, View, new_view};

@@ -4,12 +4,7 @@
 
 ghost use Rattle.std.specs.Prelude.{◌≡◌, ℕ, ◌≤◌, List, ◌++◌, IsUtf8, drop, length, map, take};
 ghost use Rattle.std.specs.Str.{chars};
-ghost use Rattle.lbk_rules.specs.declared.Cell.{Cell};
-ghost use Rattle.lbk_values.specs.declared.profile.Profile.{Profile};
-ghost use Rattle.lbk_passage.specs.Passages.{passages};
-ghost use Rattle.lbk_passage.specs.Pieces.{pieces_of};
-ghost use Rattle.lbk_streams.specs.Cuts.{EndsBefore};
-ghost use Rattle.lbk_words.specs.Words.{words_of};
+ghost use Rattle.lbk_chunk_reader.specs.Terms.{Cell, EndsBefore, Profile, passages, pieces_of, words_of};
 ghost use Rattle.lbk_chunk_reader.specs.Agreement.{AgreeOnLetters, AgreeOnLines};
 ghost use Rattle.lbk_chunk_reader.specs.PassageWords.{moved_word, words_in_pieces, words_of_passages};
 

@@ -1,4 +1,4 @@
-use Rattle.std.proofs.Common.{◌+◌, ◌<◌, ◌^◌, ◌∙◌, arith, length, sym}
+use Rattle.std.proofs.Common.{◌+◌, ◌<◌, ◌^◌, ◌∙◌, arith, length}
 use Rattle.lbk_chunk_reader.specs.PassageWords.{words_in_pieces}
 use Rattle.lbk_chunk_reader.proofs.WordLemmas.{no-items, pushed-all, pushed-none, pushed-on, pushed-over}
 use Rattle.lbk_chunk_reader.proofs.gathering.push_cuts.Goals as goal
@@ -10,36 +10,21 @@ loop-segment-init c = record {
 }
 
 pub loop-segment-preserved-in_ok-push : goal.loop-segment-preserved-in_ok-push
-loop-segment-preserved-in_ok-push c =
-    let l = c.loop-segment in
-    let here = c.pass_words-here in
-    record {
-      pushed = λ is. (
-          let p = l.invariant.pushed is in
-          let few : l.here.count + length (words_in_pieces c.args.start l.here.left.now) < 2 ^ 64 =
-          omega (arith, p.same, is.few) in
-          let passed = here.ensures.passed c.args.start p.from p.joined few in
-          let within = c.is_within.ensures c.args.start passed.from passed.joined (here.ensures.past c.args.start) in
-          pushed-on c.args.start c.args.words _ _ _ _ _ _ _ _ _ _ c.in-Some.segment.now c.in-Some.ensures.cases.0
-          p passed c.push.new.self.items c.in_ok-push.ensures.items (sym within.0 ∙ c.if-not-is_within.true) within.1);
-      grows = omega (arith, l.invariant.grows, c.in_ok-push.ensures.len);
-    }
+loop-segment-preserved-in_ok-push c = record {
+  pushed = λ is. pushed-on c.args.start c.args.words _ _ _ _ _ _ _ _ _ _ c.in-Some.segment.now
+      c.in-Some.ensures.cases.0 is (c.loop-segment.invariant.pushed is) c.pass_words-here.ensures.passed
+      c.pass_words-here.ensures.past c.is_within.result c.is_within.ensures c.push.new.self.items
+      c.in_ok-push.ensures.items c.if-not-is_within.true;
+  grows = omega (arith, c.loop-segment.invariant.grows, c.in_ok-push.ensures.len);
+}
 
 pub loop-segment-preserved : goal.loop-segment-preserved
-loop-segment-preserved c =
-    let l = c.loop-segment in
-    let here = c.pass_words-here in
-    record {
-      pushed = λ is. (
-          let p = l.invariant.pushed is in
-          let few : l.here.count + length (words_in_pieces c.args.start l.here.left.now) < 2 ^ 64 =
-          omega (arith, p.same, is.few) in
-          let passed = here.ensures.passed c.args.start p.from p.joined few in
-          let within = c.is_within.ensures c.args.start passed.from passed.joined (here.ensures.past c.args.start) in
-          pushed-over c.args.start c.args.words _ _ _ _ _ _ _ _ _ _ c.in-Some.segment.now c.in-Some.ensures.cases.0
-          p passed (sym within.0 ∙ c.if-not-is_within.false));
-      grows = l.invariant.grows;
-    }
+loop-segment-preserved c = record {
+  pushed = λ is. pushed-over c.args.start c.args.words _ _ _ _ _ _ _ _ _ _ c.in-Some.segment.now
+      c.in-Some.ensures.cases.0 is (c.loop-segment.invariant.pushed is) c.pass_words-here.ensures.passed
+      c.pass_words-here.ensures.past c.is_within.result c.is_within.ensures c.if-not-is_within.false;
+  grows = c.loop-segment.invariant.grows;
+}
 
 pub returns-clause-cuts : goal.returns-clause-cuts
 returns-clause-cuts c = λ is.
