@@ -20,7 +20,7 @@ use Rattle.lbk_rules.specs.Breaks.{is_no}
 use Rattle.lbk_rules.specs.Marks.{marks, ended}
 use Rattle.lbk_passage.specs.Stays.{ends_at, stays, last_class, IsWholeText}
 use Rattle.lbk_passage.specs.State.{State, state_with}
-use Rattle.lbk_passage.specs.Next.{fault_in, ends_run, KeepsAhead, IsDone, ComesFirst, Stops, Costs}
+use Rattle.lbk_passage.specs.Next.{failures_with, fault_in, ends_run, KeepsAhead, IsDone, ComesFirst, Stops, Costs}
 use Rattle.lbk_passage.specs.declared.faults.PassageFault.{PassageFault}
 use Rattle.lbk_passage.specs.declared.faults.PassageFault.TheVariants.{Read, Spent}
 use Rattle.lbk_passage.specs.declared.paragraph.Paragraph.{Paragraph}
@@ -102,6 +102,14 @@ pub record Settles (old new : Paragraph) (unread unread' : Option (List ℕ)) (e
   pub unasked : old.feed.is_ended ≡ true → (reads' ≡ reads) × (¬ (fault ≡ Some feed_read))
   pub stands : IfOk r (λ stands. OnTrue stands (0 < length new.feed.ready))
   pub ends : IfOk r (λ stands. OnFalse stands ((new.feed.held ≡ []) × (new.feed.is_ended ≡ true)))
+
+-- what a step of the feed does with its reader: a failed read is counted, and answered; where a read gave no byte before,
+-- none is made, and the answer is this one if nothing is left
+pub record ReadsOn {R X : Type 0} (failure_count : R → ℕ) (feed : View) (reader reader' : R) (none : X)
+    (r : Result X PassageFault) : Type 0 where
+  pub failures : failure_count reader' ≡ failures_with (failure_count reader) (fault_in r)
+  pub quiet : feed.is_ended ≡ true → reader' ≡ reader
+  pub again : feed.is_ended ≡ true → feed.held ≡ [] → r ≡ Ok none
 
 -- before the last of some reads, from when nothing was gathered, no line must end in what was gathered, and behind it
 -- was what may go on: all that was held at first and that the other reads gave

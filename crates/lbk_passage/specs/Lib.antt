@@ -16,6 +16,7 @@ pub mod Parts
 pub mod Faults
 pub mod Stays
 pub mod Flags
+pub mod Room
 pub mod Gathering
 pub mod Cuts
 pub mod Onward

@@ -230,3 +230,17 @@ pub record AfterNext (old new : State) (unread unread' : Option (List ℕ)) (end
       × (¬ (fault_in r ≡ Some Read))
   pub still : old.is_settled ≡ true → IsStill old.held (lent_text r ++ new.held) reads reads'
       × (¬ (fault_in r ≡ Some Read))
+
+-- what a call that goes to the next passage does, from this state on: what it answers where nothing comes any more, and
+-- how often it reads
+pub record GoesOnce {R X : Type 0} (s : State) (reader reader' : R) (made made' : ℕ)
+    (r : Result (Option X) PassageFault) : Type 0 where
+  -- a fault was answered before: `Spent` says so, and nothing else
+  pub spent : s.is_spent ≡ true → r ≡ Err Spent
+  pub spent_only : r ≡ Err Spent → s.is_spent ≡ true
+  -- `None` stays: it leaves nothing held and the end reached
+  pub again : IsDone s → s.is_spent ≡ false → r ≡ Ok None
+  -- where the answer was seen before, a fault was answered, or a read gave no byte, no read is made
+  pub settled : s.is_settled ≡ true → reader' ≡ reader
+  pub ended : s.is_ended ≡ true → reader' ≡ reader
+  pub reads : made' ≤ made + (s.limit + 8)

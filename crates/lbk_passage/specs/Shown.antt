@@ -15,7 +15,7 @@ use Rattle.lbk_passage.specs.State.{State, state_with}
 
 -- what a segmenter shows, by the cells of its source
 abbrev pub state_of : {C : Type 0} {bound : _} → (C → ℕ → Cell) → Segmenter C bound → State
-state_of cell s = state_with (cell s.cells.now) s.profile s.paragraph
+state_of cell s = state_with (cell s.known.cells.now) s.profile s.paragraph
 
 -- room is reserved for so many bytes of text, and for nothing else
 pub record HasRoom {C : Type 0} {bound : _} (s : Segmenter C bound) (limit : ℕ) : Type 0 where

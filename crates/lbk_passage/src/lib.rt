@@ -10,6 +10,7 @@ mod breaks;
 mod ends;
 mod faults;
 mod flags;
+mod known;
 pub mod laws;
 mod paragraph;
 mod passage;

@@ -5,7 +5,7 @@ ghost use Rattle.lbk_feed.specs.Text.{greatest_limit};
 
 use crate::ends::end_before;
 use crate::faults::{PassageFault, from_feed};
-use crate::flags::ByteFlags;
+use crate::known::KnownCells;
 use crate::reach::{Reach, ReachEnd, reach_in};
 use lbk_feed::{Feed, Source};
 use lbk_rules::{CellSource, Class, Verdict};
@@ -35,8 +35,8 @@ impl Paragraph {
     ghost use Rattle.lbk_feed.specs.View.{IsFront, LendsFront};
     ghost use Rattle.lbk_passage.specs.State.{state_with, new_state};
     ghost use Rattle.lbk_passage.specs.Stays.{IsWhole};
-    ghost use Rattle.lbk_passage.specs.Flags.{AreQuiet};
-    ghost use Rattle.lbk_passage.specs.Gathering.{Reaches, Takes, Moves, Settles, Gathering, Gathers, Fills, IsSame};
+    ghost use Rattle.lbk_passage.specs.Gathering.{Reaches, Takes, Moves, ReadsOn, Settles, Gathering, Gathers, Fills};
+    ghost use Rattle.lbk_passage.specs.Gathering.{IsSame};
     ghost use Rattle.lbk_passage.specs.Next.{IsDone, IsOpen, failures_with, fault_in};
     ghost use Rattle.lbk_rules.specs.declared.Cell.{Cell};
     ghost use Rattle.lbk_values.specs.declared.profile.Profile.{Profile};
@@ -93,15 +93,13 @@ impl Paragraph {
     pub fn fill<R: Source, C: CellSource>(
         &mut self,
         reader: &mut R,
-        cells: &C,
-        flags: &ByteFlags,
+        known: &KnownCells<'_, C>,
     ) -> Result<Option<Verdict>, PassageFault>
-        requires quiet { AreQuiet (C.cell_of cells.now) flags.now.is_quiet }
-        requires whole { self.old.is_held ≡ true → IsWhole (C.cell_of cells.now) self.old }
-        ensures fills { (profile : Profile) → Fills (C.cell_of cells.now) profile self.old self.new
+        requires whole { self.old.is_held ≡ true → IsWhole (C.cell_of known.now.cells.now) self.old }
+        ensures fills { (profile : Profile) → Fills (C.cell_of known.now.cells.now) profile self.old self.new
             (R.unread reader.old) (R.unread reader.new) (R.has_ended reader.old) (R.has_ended reader.new)
             (R.reads_made reader.old) (R.reads_made reader.new) result }
-        ensures whole { self.new.is_held ≡ true → IsWhole (C.cell_of cells.now) self.new }
+        ensures whole { self.new.is_held ≡ true → IsWhole (C.cell_of known.now.cells.now) self.new }
         ensures end { IfOk result (λ end. end ≡ self.new.end) }
         ensures failures { R.failure_count reader.new ≡ failures_with (R.failure_count reader.old) (fault_in result) }
         ensures reads { (R.reads_made reader.new).count ≤ (R.reads_made reader.old).count + (self.old.limit + 4) }
@@ -109,7 +107,7 @@ impl Paragraph {
         ensures spent { self.old.is_spent ≡ true → reader.new ≡ reader.old }
         ensures ended { self.old.feed.is_ended ≡ true → reader.new ≡ reader.old }
         ensures refused { self.old.is_spent ≡ true → result ≡ Err PassageFault.Spent }
-        ensures again { (profile : Profile) → IsDone (state_with (C.cell_of cells.now) profile self.old)
+        ensures again { (profile : Profile) → IsDone (state_with (C.cell_of known.now.cells.now) profile self.old)
             → self.old.is_spent ≡ false → result ≡ Ok None }
     {
         if self.is_spent {
@@ -119,7 +117,7 @@ impl Paragraph {
             return Ok(self.end);
         }
         self.text.clear();
-        let end = self.gather(reader, cells, flags)?;
+        let end = self.gather(reader, known)?;
         self.end = end;
         self.is_held = true;
         Ok(end)
@@ -127,20 +125,19 @@ impl Paragraph {
 
     /// Gathers the paragraph if the bytes that are ready settle it: if a line must end before one of their scalars.
     /// Returns whether it is held, or a fault was met, so that the next `fill` makes no read.
-    pub fn look_ahead<C: CellSource>(&mut self, cells: &C, flags: &ByteFlags) -> bool
-        requires quiet { AreQuiet (C.cell_of cells.now) flags.now.is_quiet }
-        requires whole { self.old.is_held ≡ true → IsWhole (C.cell_of cells.now) self.old }
+    pub fn look_ahead<C: CellSource>(&mut self, known: &KnownCells<'_, C>) -> bool
+        requires whole { self.old.is_held ≡ true → IsWhole (C.cell_of known.now.cells.now) self.old }
         ensures state { (cell : ℕ → Cell) (profile : Profile)
             → state_with cell profile self.new ≡ record (state_with cell profile self.old) { is_settled = result } }
         ensures remains { result ≡ false → (profile : Profile)
-            → IsOpen (state_with (C.cell_of cells.now) profile self.old) }
-        ensures whole { self.new.is_held ≡ true → IsWhole (C.cell_of cells.now) self.new }
+            → IsOpen (state_with (C.cell_of known.now.cells.now) profile self.old) }
+        ensures whole { self.new.is_held ≡ true → IsWhole (C.cell_of known.now.cells.now) self.new }
     {
         if self.is_held || self.is_spent {
             return true;
         }
         self.text.clear();
-        let reach = self.reach(cells, flags, None);
+        let reach = self.reach(known, None);
         let ReachEnd::LineEnds = reach.stop else {
             return false;
         };
@@ -154,23 +151,19 @@ impl Paragraph {
     fn gather<R: Source, C: CellSource>(
         &mut self,
         reader: &mut R,
-        cells: &C,
-        flags: &ByteFlags,
+        known: &KnownCells<'_, C>,
     ) -> Result<Option<Verdict>, PassageFault>
-        requires quiet { AreQuiet (C.cell_of cells.now) flags.now.is_quiet }
         requires fresh { string_bytes self.old.text ≡ [] }
         requires open_end { self.old.is_held ≡ false }
         requires unspent { self.old.is_spent ≡ false }
-        ensures gathers { Gathers (C.cell_of cells.now) self.old self.new
+        ensures gathers { Gathers (C.cell_of known.now.cells.now) self.old self.new
             (R.unread reader.old) (R.unread reader.new) (R.has_ended reader.old) (R.has_ended reader.new)
             (R.reads_made reader.old) (R.reads_made reader.new) result }
-        ensures failures { R.failure_count reader.new ≡ failures_with (R.failure_count reader.old) (fault_in result) }
-        ensures quiet { self.old.feed.is_ended ≡ true → reader.new ≡ reader.old }
-        ensures again { self.old.feed.is_ended ≡ true → self.old.feed.held ≡ [] → result ≡ Ok None }
+        ensures reads_on { ReadsOn R.failure_count self.old.feed reader.old reader.new None result }
     {
         let mut last = None;
         while self.settle(reader)? {
-            let reach = self.take(cells, flags, last);
+            let reach = self.take(known, last);
             last = reach.last;
             match reach.stop {
                 ReachEnd::PieceEnds => {}
@@ -187,9 +180,7 @@ impl Paragraph {
         ensures settles { Settles self.old self.new
             (R.unread reader.old) (R.unread reader.new) (R.has_ended reader.old) (R.has_ended reader.new)
             (R.reads_made reader.old) (R.reads_made reader.new) result }
-        ensures failures { R.failure_count reader.new ≡ failures_with (R.failure_count reader.old) (fault_in result) }
-        ensures quiet { self.old.feed.is_ended ≡ true → reader.new ≡ reader.old }
-        ensures again { self.old.feed.is_ended ≡ true → self.old.feed.held ≡ [] → result ≡ Ok false }
+        ensures reads_on { ReadsOn R.failure_count self.old.feed reader.old reader.new false result }
     {
         let outcome = self.feed.settle(reader);
         self.is_spent = outcome.is_err();
@@ -200,26 +191,24 @@ impl Paragraph {
     }
 
     /// Takes of the piece that is ready what belongs to the paragraph, after a scalar of class `last`.
-    fn take<C: CellSource>(&mut self, cells: &C, flags: &ByteFlags, last: Option<Class>) -> Reach
-        requires { AreQuiet (C.cell_of cells.now) flags.now.is_quiet }
-        ensures { Takes (C.cell_of cells.now) last self.old self.new result }
+    fn take<C: CellSource>(&mut self, known: &KnownCells<'_, C>, last: Option<Class>) -> Reach
+        ensures { Takes (C.cell_of known.now.cells.now) last self.old self.new result }
     {
-        let reach = self.reach(cells, flags, last);
+        let reach = self.reach(known, last);
         self.move_up(reach.len);
         reach
     }
 
     /// How far the paragraph reaches into the piece that is ready, after a scalar of class `last`.
-    fn reach<C: CellSource>(&self, cells: &C, flags: &ByteFlags, last: Option<Class>) -> Reach
-        requires { AreQuiet (C.cell_of cells.now) flags.now.is_quiet }
-        ensures reaches { Reaches (C.cell_of cells.now) last self.now.feed.ready
+    fn reach<C: CellSource>(&self, known: &KnownCells<'_, C>, last: Option<Class>) -> Reach
+        ensures reaches { Reaches (C.cell_of known.now.cells.now) last self.now.feed.ready
             (self.now.limit - string_len self.now.text) result }
         ensures place { IsCharBoundary self.now.feed.ready result.len }
         ensures lends { LendsFront self.now.feed }
         ensures front { IsFront self.now.feed }
     {
         let room = self.limit as usize - self.text.len();
-        reach_in(cells, flags, last, self.feed.ready(), room)
+        reach_in(known, last, self.feed.ready(), room)
     }
 
     /// Moves the first `len` bytes that are ready to the end of the text.

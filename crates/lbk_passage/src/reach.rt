@@ -2,10 +2,10 @@
 
 ghost use Rattle.std.specs.Prelude.{◌≡◌, ℕ, ◌≤◌, IsCharBoundary, Option};
 ghost use Rattle.lbk_rules.specs.declared.Class.{Class};
-ghost use Rattle.lbk_passage.specs.Flags.{AreQuiet, Passes, is_end};
+ghost use Rattle.lbk_passage.specs.Flags.{Passes, is_end};
 
 use crate::ends::ends_at;
-use crate::flags::ByteFlags;
+use crate::known::KnownCells;
 use lbk_rules::{CellSource, Class};
 
 /// Why a paragraph reaches no further into a piece.
@@ -50,25 +50,23 @@ impl Scanned {
 
 /// How far a paragraph that stands at a scalar of class `last` reaches into `piece`, where `room` bytes are left.
 pub fn reach_in<C: CellSource>(
-    cells: &C,
-    flags: &ByteFlags,
+    known: &KnownCells<'_, C>,
     last: Option<Class>,
     piece: &str,
     room: usize,
 ) -> Reach
-    requires { AreQuiet (C.cell_of cells.now) flags.now.is_quiet }
-    ensures { Reaches (C.cell_of cells.now) last piece.now room result }
+    ensures { Reaches (C.cell_of known.now.cells.now) last piece.now room result }
 {
     let most = piece.floor_char_boundary(room);
     let mut here = Scanned { len: 0, last };
     loop {
         // Scalars after which no line must end come in runs.
-        let quiet = pass_quiet(cells, flags, piece, most, here);
+        let quiet = pass_quiet(known, piece, most, here);
         let mut scalars = piece[quiet.len..].chars();
         let Some(c) = scalars.next() else {
             return quiet.stops(ReachEnd::PieceEnds);
         };
-        let class = cells.cell(c).class;
+        let class = known.cells.cell(c).class;
         if ends_at(quiet.last, class) {
             return quiet.stops(ReachEnd::LineEnds);
         }
@@ -87,24 +85,22 @@ pub fn reach_in<C: CellSource>(
 /// the one before them.
 #[inline(always)]
 fn pass_quiet<C: CellSource>(
-    cells: &C,
-    flags: &ByteFlags,
+    known: &KnownCells<'_, C>,
     piece: &str,
     most: usize,
     here: Scanned,
 ) -> Scanned
-    requires quiet { AreQuiet (C.cell_of cells.now) flags.now.is_quiet }
     requires order { here.len ≤ most }
     requires most { IsCharBoundary piece.now most }
     ensures passes { (first : Option Class) (room : ℕ) → most ≤ room
-        → Passes (C.cell_of cells.now) first piece.now room here.len here.last
-        → Passes (C.cell_of cells.now) first piece.now room result.len result.last }
+        → Passes (C.cell_of known.now.cells.now) first piece.now room here.len here.last
+        → Passes (C.cell_of known.now.cells.now) first piece.now room result.len result.last }
     ensures onward { here.len ≤ result.len }
 {
     if is_end(here.last) {
         return here;
     }
-    let len = flags.past_quiet(piece.as_bytes(), here.len, most);
+    let len = known.flags.past_quiet(piece.as_bytes(), here.len, most);
     if len == here.len {
         return here;
     }
@@ -113,7 +109,7 @@ fn pass_quiet<C: CellSource>(
     };
     Scanned {
         len,
-        last: Some(cells.cell(last).class),
+        last: Some(known.cells.cell(last).class),
     }
 }
 

@@ -1,6 +1,7 @@
 //! Room in a list for what is to be put into it.
 
-ghost use Rattle.std.specs.Prelude.{◌≡◌, ◌+◌, ◌*◌, ◌<◌, ◌≤◌, max, vec_capacity, vec_len, OnOk, OnErr};
+ghost use Rattle.std.specs.Prelude.{◌+◌, ◌<◌, vec_capacity, vec_len, OnErr};
+ghost use Rattle.lbk_passage.specs.Room.{MakesRoom};
 
 use std::alloc::AllocError;
 
@@ -8,13 +9,8 @@ use std::alloc::AllocError;
 /// then stand in it at most, so that a list that grows is seldom moved.
 #[inline(always)]
 pub(crate) fn make_room<T>(list: &mut Vec<T>, count: usize) -> Result<(), AllocError>
-    ensures items { list.new.items ≡ list.old.items }
-    ensures len { vec_len list.new ≡ vec_len list.old }
-    ensures room { OnOk result (vec_len list.old + count ≤ vec_capacity list.new) }
-    ensures kept { vec_capacity list.old ≤ vec_capacity list.new }
-    ensures most { OnOk result (vec_capacity list.new ≤ max (vec_capacity list.old) (2 * (vec_len list.old + count))) }
+    ensures makes { MakesRoom list.old list.new count result }
     ensures full { OnErr result (vec_capacity list.old < vec_len list.old + count) }
-    ensures refused { OnErr result (vec_capacity list.new ≡ vec_capacity list.old) }
 {
     if count <= list.capacity().saturating_sub(list.len()) {
         return Ok(());
@@ -28,12 +24,7 @@ pub(crate) fn make_room<T>(list: &mut Vec<T>, count: usize) -> Result<(), AllocE
 #[inline(never)]
 fn double<T>(list: &mut Vec<T>, count: usize) -> Result<(), AllocError>
     requires { vec_capacity list.old < vec_len list.old + count }
-    ensures items { list.new.items ≡ list.old.items }
-    ensures len { vec_len list.new ≡ vec_len list.old }
-    ensures room { OnOk result (vec_len list.old + count ≤ vec_capacity list.new) }
-    ensures kept { vec_capacity list.old ≤ vec_capacity list.new }
-    ensures most { OnOk result (vec_capacity list.new ≤ max (vec_capacity list.old) (2 * (vec_len list.old + count))) }
-    ensures refused { OnErr result (vec_capacity list.new ≡ vec_capacity list.old) }
+    ensures makes { MakesRoom list.old list.new count result }
 {
     let wanted = list.len().saturating_add(count);
     list.reserve_exact(count.saturating_add(wanted))

@@ -5,11 +5,10 @@ ghost use Rattle.std.specs.Prelude.{string_bytes, IfOk, IfErr, IfSome, OnOk, IsE
 ghost use Rattle.std.specs.Borrow.{sem};
 ghost use Rattle.std.specs.Io.BufRead.{Rests};
 ghost use Rattle.std.specs.Str.{chars};
-ghost use Rattle.lbk_passage.specs.Flags.{AreLetters, AreQuiet};
 ghost use Rattle.lbk_passage.specs.Stays.{IsWhole};
 
 use crate::faults::PassageFault;
-use crate::flags::ByteFlags;
+use crate::known::KnownCells;
 use crate::paragraph::Paragraph;
 use crate::passage::{Passage, PassageText, Piece, Segment};
 use crate::pieces::{ENDS, cut_words};
@@ -32,9 +31,8 @@ use std::alloc::{AllocError, Global};
 /// ```
 #[derive(Drop)]
 pub struct Segmenter<'a, C: CellSource> {
-    cells: &'a C,
+    known: KnownCells<'a, C>,
     profile: Profile,
-    flags: ByteFlags,
     paragraph: Paragraph,
     /// Where breaks are found into.
     block: [Break; BLOCK],
@@ -42,15 +40,13 @@ pub struct Segmenter<'a, C: CellSource> {
     ends: [usize; ENDS],
     segments: Vec<Segment>,
     pieces: Vec<Piece>,
-    ghost quiet: { AreQuiet (C.cell_of cells.now) flags.is_quiet },
-    ghost letters: { AreLetters (C.cell_of cells.now) flags.is_letter },
-    ghost whole: { paragraph.is_held ≡ true → IsWhole (C.cell_of cells.now) paragraph },
+    ghost whole: { paragraph.is_held ≡ true → IsWhole (C.cell_of known.cells.now) paragraph },
 }
 
 impl<'a, C: CellSource> Segmenter<'a, C> {
     ghost use Rattle.lbk_passage.specs.State.{IsLimit, new_state};
     ghost use Rattle.lbk_passage.specs.Shown.{HasRoom, KeepsRoom, found_by, state_of};
-    ghost use Rattle.lbk_passage.specs.Next.{AfterNext, IsDone, IsOpen, IsPlaced, fault_in, failures_with};
+    ghost use Rattle.lbk_passage.specs.Next.{AfterNext, GoesOnce, IsOpen, IsPlaced, fault_in, failures_with};
     ghost use Rattle.lbk_passage.specs.Passing.{LendsText, PassesOver};
     ghost use Rattle.lbk_passage.specs.contracts.segmenter.Segmenter.{the_row};
     ghost use mir.Syntax.{named};
@@ -76,9 +72,8 @@ impl<'a, C: CellSource> Segmenter<'a, C> {
             return Err(PassageFault::Memory);
         };
         Ok(Segmenter {
-            cells,
+            known: KnownCells::of(cells),
             profile,
-            flags: ByteFlags::of(cells),
             paragraph,
             block: NO_BREAKS,
             ends: [0; ENDS],
@@ -102,30 +97,22 @@ impl<'a, C: CellSource> Segmenter<'a, C> {
             × KeepsRoom (found_by self.old) (found_by new) (state_of C.cell_of new) (fault_in result))) }
 
         ensures lent { IfOk result (λ o. IfSome o IsPlaced) }
-        ensures spent { (state_of C.cell_of self.old).is_spent ≡ true → result ≡ Err PassageFault.Spent }
-        ensures spent_only { result ≡ Err PassageFault.Spent → (state_of C.cell_of self.old).is_spent ≡ true }
-        // `None` stays: it leaves nothing held and the end reached.
-        ensures again { IsDone (state_of C.cell_of self.old) → (state_of C.cell_of self.old).is_spent ≡ false → result
-            ≡ Ok None }
-        // Where the end was seen before, or a fault was returned, no read is made.
-        ensures settled { (state_of C.cell_of self.old).is_settled ≡ true → reader.new ≡ reader.old }
-        ensures ended { (state_of C.cell_of self.old).is_ended ≡ true → reader.new ≡ reader.old }
-        ensures reads { (R.reads_made reader.new).count ≤ (R.reads_made reader.old).count
-            + ((state_of C.cell_of self.old).limit + 8) }
+        ensures goes_on { GoesOnce (state_of C.cell_of self.old) reader.old reader.new
+            (R.reads_made reader.old).count (R.reads_made reader.new).count result }
         // `Read` is returned exactly where a read failed.
         ensures failures { R.failure_count reader.new ≡ failures_with (R.failure_count reader.old) (fault_in result) }
     {
-        let Some(end) = self.paragraph.fill(reader, self.cells, &self.flags)? else {
+        let Some(end) = self.paragraph.fill(reader, &self.known)? else {
             return Ok(None);
         };
         let text = self.paragraph.text();
         let block = &mut self.block;
         let segments = &mut self.segments;
-        if cut_lines(self.cells, self.profile, text, end, block, segments).is_err() {
+        if cut_lines(self.known.cells, self.profile, text, end, block, segments).is_err() {
             return Err(PassageFault::Memory);
         }
         let (ends, pieces) = (&mut self.ends, &mut self.pieces);
-        if cut_words(self.cells, &self.flags, text, ends, pieces).is_err() {
+        if cut_words(&self.known, text, ends, pieces).is_err() {
             return Err(PassageFault::Memory);
         }
         self.paragraph.release();
@@ -144,19 +131,13 @@ impl<'a, C: CellSource> Segmenter<'a, C> {
             (R.has_ended reader.old) (R.has_ended reader.new)
             (R.reads_made reader.old) (R.reads_made reader.new) result
             × (found_by new ≡ found_by self.old))) }
-        ensures spent { (state_of C.cell_of self.old).is_spent ≡ true → result ≡ Err PassageFault.Spent }
-        ensures spent_only { result ≡ Err PassageFault.Spent → (state_of C.cell_of self.old).is_spent ≡ true }
-        ensures again { IsDone (state_of C.cell_of self.old) → (state_of C.cell_of self.old).is_spent ≡ false → result
-            ≡ Ok None }
-        ensures settled { (state_of C.cell_of self.old).is_settled ≡ true → reader.new ≡ reader.old }
-        ensures ended { (state_of C.cell_of self.old).is_ended ≡ true → reader.new ≡ reader.old }
-        ensures reads { (R.reads_made reader.new).count ≤ (R.reads_made reader.old).count
-            + ((state_of C.cell_of self.old).limit + 8) }
+        ensures goes_on { GoesOnce (state_of C.cell_of self.old) reader.old reader.new
+            (R.reads_made reader.old).count (R.reads_made reader.new).count result }
         // Nothing grows, so it is never out of memory.
         ensures memory { ¬ (result ≡ Err PassageFault.Memory) }
         ensures failures { R.failure_count reader.new ≡ failures_with (R.failure_count reader.old) (fault_in result) }
     {
-        let Some(end) = self.paragraph.fill(reader, self.cells, &self.flags)? else {
+        let Some(end) = self.paragraph.fill(reader, &self.known)? else {
             return Ok(None);
         };
         self.paragraph.release();
@@ -175,20 +156,14 @@ impl<'a, C: CellSource> Segmenter<'a, C> {
             (R.unread reader.new)
             (R.has_ended reader.old) (R.has_ended reader.new) (R.reads_made reader.old) (R.reads_made reader.new)
             result }
-        ensures spent { (state_of C.cell_of self.old).is_spent ≡ true → result ≡ Err PassageFault.Spent }
-        ensures spent_only { result ≡ Err PassageFault.Spent → (state_of C.cell_of self.old).is_spent ≡ true }
-        ensures again { IsDone (state_of C.cell_of self.old) → (state_of C.cell_of self.old).is_spent ≡ false → result
-            ≡ Ok None }
-        ensures settled { (state_of C.cell_of self.old).is_settled ≡ true → reader.new ≡ reader.old }
-        ensures ended { (state_of C.cell_of self.old).is_ended ≡ true → reader.new ≡ reader.old }
-        ensures reads { (R.reads_made reader.new).count ≤ (R.reads_made reader.old).count
-            + ((state_of C.cell_of self.old).limit + 8) }
+        ensures goes_on { GoesOnce (state_of C.cell_of self.old) reader.old reader.new
+            (R.reads_made reader.old).count (R.reads_made reader.new).count result }
         // Nothing grows, so it is never out of memory.
         ensures memory { ¬ (result ≡ Err PassageFault.Memory) }
         ensures found { found_by self.new ≡ found_by self.old }
         ensures failures { R.failure_count reader.new ≡ failures_with (R.failure_count reader.old) (fault_in result) }
     {
-        let Some(_) = self.paragraph.fill(reader, self.cells, &self.flags)? else {
+        let Some(_) = self.paragraph.fill(reader, &self.known)? else {
             return Ok(None);
         };
         self.paragraph.release();
@@ -203,7 +178,7 @@ impl<'a, C: CellSource> Segmenter<'a, C> {
         ensures remains { result ≡ false → IsOpen (state_of C.cell_of self.old) }
         ensures found { found_by self.new ≡ found_by self.old }
     {
-        self.paragraph.look_ahead(self.cells, &self.flags)
+        self.paragraph.look_ahead(&self.known)
     }
 
     /// The paragraph as a passage.

@@ -7,6 +7,7 @@ ghost use Rattle.lbk_rules.specs.declared.Break.{Break};
 ghost use Rattle.lbk_passage.specs.Breaks.{breaks, is_no};
 ghost use Rattle.lbk_passage.specs.Cuts.{cut_at, ending_by};
 ghost use Rattle.lbk_passage.specs.Marks.{marks, ended};
+ghost use Rattle.lbk_passage.specs.Room.{Grows};
 ghost use Rattle.lbk_passage.specs.Segments.{segments_of};
 
 use crate::breaks::Breaks;
@@ -83,9 +84,7 @@ fn cut_alone<C: CellSource>(
         ≡ segments.old.items ++ cut_at 0 (breaks profile (C.cell_of cells.now) (chars text.now))) }
     ensures count { OnOk result (vec_len segments.new
         ≡ vec_len segments.old + length (breaks profile (C.cell_of cells.now) (chars text.now))) }
-    ensures room { vec_capacity segments.old ≤ vec_capacity segments.new }
-    ensures most { vec_capacity segments.new ≤ max (vec_capacity segments.old) (2 * vec_len segments.new) }
-    ensures grows { vec_len segments.old ≤ vec_len segments.new }
+    ensures grows { Grows segments.old segments.new }
     ensures full { OnErr result (vec_capacity segments.old
         < vec_len segments.old + length (breaks profile (C.cell_of cells.now) (chars text.now))) }
 {
@@ -108,9 +107,7 @@ fn cut_block(block: &[Break], start: u32, segments: &mut Vec<Segment>) -> Result
     ensures cut { IfOk result (λ next. (more : List Break)
         → segments.new.items ++ cut_at next more ≡ segments.old.items ++ cut_at start (block.now ++ more)) }
     ensures count { OnOk result (vec_len segments.new ≡ vec_len segments.old + length block.now) }
-    ensures room { vec_capacity segments.old ≤ vec_capacity segments.new }
-    ensures most { vec_capacity segments.new ≤ max (vec_capacity segments.old) (2 * vec_len segments.new) }
-    ensures grows { vec_len segments.old ≤ vec_len segments.new }
+    ensures grows { Grows segments.old segments.new }
     ensures full { OnErr result (vec_capacity segments.old < vec_len segments.old + length block.now) }
 {
     make_room(segments, block.len())?;

@@ -5,11 +5,12 @@ use Rattle.lbk_words.proofs.WellFormedLemmas.{first-bound}
 use Rattle.lbk_passage.specs.declared.passage.Piece.{Piece}
 use Rattle.lbk_passage.specs.Pieces.{is_word, pieces_on}
 use Rattle.lbk_passage.proofs.PieceLemmas.{part-at, parts-few, pieces-step}
+use Rattle.lbk_passage.proofs.RoomLemmas.{Grows-made, Grows-none}
 use Rattle.lbk_passage.proofs.pieces.cut_block.Goals as goal
 
 pub returns-in_err-make_room-clause-full : goal.returns-in_err-make_room-clause-full
 returns-in_err-make_room-clause-full g c =
-    let cell = g.C.CellSource.cell_of c.args.cells.now in
+    let cell = g.C.CellSource.cell_of c.args.known.now.cells.now in
     let parts = c.requires.parts in
     let few = parts-few cell c.args.text.now c.args.start parts.0 c.args.ends.now c.requires.utf8 parts.1 in
     let p = err_from_is_err_and c.from_residual.result c.from_residual.ensures.1 in
@@ -31,7 +32,7 @@ range-requires-clause-end_boundary g c =
 
 pub loop-end-preserved : goal.loop-end-preserved
 loop-end-preserved g c =
-    let cell = g.C.CellSource.cell_of c.args.cells.now in
+    let cell = g.C.CellSource.cell_of c.args.known.now.cells.now in
     let text = c.args.text.now in
     let l = c.loop-end in
     let end = slice_index_or c.args.ends.now l.end-index 0 in
@@ -58,3 +59,14 @@ loop-end-preserved g c =
       utf8 = (first-bound text l.start end part.0 l.invariant.utf8 part.1).utf8;
       parts = (parts.0, both.1);
     }
+
+pub returns-in_err-make_room-clause-grows : goal.returns-in_err-make_room-clause-grows
+returns-in_err-make_room-clause-grows g c =
+    let made = c.in_err-make_room.ensures.makes in
+    Grows-none c.args.pieces.now c.make_room.new.list made.refused made.len
+
+pub returns-clause-grows : goal.returns-clause-grows
+returns-clause-grows g c =
+    let made = c.in_ok-make_room.ensures.makes in
+    let l = c.loop-end in
+    Grows-made c.args.pieces.now c.make_room.new.list l.pieces (length c.args.ends.now) made.kept made.most l.invariant.room (omega (arith, l.invariant.len))

@@ -6,7 +6,7 @@ use Rattle.lbk_passage.proofs.pieces.cut_block.Given as goal
 
 abbrev pub invariant-loop-end : goal.invariant-loop-end
 invariant-loop-end g l =
-    let cell = g.C.CellSource.cell_of l.cells in
+    let cell = g.C.CellSource.cell_of l.known.cells.now in
     record {
       cut : l.pieces.items ++ pieces_on cell l.text l.start ≡ l.fn.pieces.items ++ pieces_on cell l.text l.fn.start;
       count : vec_len l.pieces + length (pieces_on cell l.text l.start) ≡ vec_len l.fn.pieces + length (pieces_on cell l.text l.fn.start);

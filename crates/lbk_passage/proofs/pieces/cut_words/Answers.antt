@@ -8,7 +8,7 @@ use Rattle.lbk_passage.proofs.pieces.cut_words.Goals as goal
 pub loop-start-init : goal.loop-start-init
 unfolding pieces_of
 loop-start-init g c =
-    let cell = g.C.CellSource.cell_of c.args.cells.now in
+    let cell = g.C.CellSource.cell_of c.args.known.now.cells.now in
     let others = pieces_on cell c.args.text.now 0 in
     record {
       cut = ap (λ items. items ++ others) c.clear.ensures.items;
@@ -24,7 +24,7 @@ returns-in_err-start-clause-most g c =
     let l = c.loop-start in
     let cut = c.cut_block.ensures in
     room-on (vec_capacity c.args.pieces.now) (vec_capacity l.pieces) (vec_capacity c.cut_block.new.pieces) (vec_len l.pieces) (vec_len c.cut_block.new.pieces) l.invariant.most
-    cut.most cut.grows
+    cut.grows.most cut.grows.onward
 
 pub loop-start-preserved : goal.loop-start-preserved
 loop-start-preserved g c =
@@ -34,16 +34,16 @@ loop-start-preserved g c =
     record {
       cut = next.cut ∙ l.invariant.cut;
       count = omega (arith, next.count, l.invariant.count);
-      room = omega (arith, cut.room, l.invariant.room);
+      room = omega (arith, cut.grows.room, l.invariant.room);
       most = room-on (vec_capacity c.args.pieces.now) (vec_capacity l.pieces) (vec_capacity c.cut_block.new.pieces) (vec_len l.pieces) (vec_len c.cut_block.new.pieces) l.invariant.most
-          cut.most cut.grows;
+          cut.grows.most cut.grows.onward;
       within = next.within;
       utf8 = next.utf8;
     }
 
 pub returns-clause-cut : goal.returns-clause-cut
 returns-clause-cut g c =
-    let cell = g.C.CellSource.cell_of c.args.cells.now in
+    let cell = g.C.CellSource.cell_of c.args.known.now.cells.now in
     let l = c.loop-start in
     sym (append-nil l.pieces.items)
     ∙ ap (λ rest. l.pieces.items ++ rest) (sym (pieces-end cell c.args.text.now l.start (omega (arith, c.loop-start-test.false))))

@@ -5,7 +5,7 @@ use Rattle.lbk_passage.proofs.pieces.cut_words.Given as goal
 
 abbrev pub invariant-loop-start : goal.invariant-loop-start
 invariant-loop-start g l =
-    let cell = g.C.CellSource.cell_of l.cells in
+    let cell = g.C.CellSource.cell_of l.known.cells.now in
     record {
       cut : l.pieces.items ++ pieces_on cell l.text l.start ≡ pieces_of cell l.text;
       count : vec_len l.pieces + length (pieces_on cell l.text l.start) ≡ length (pieces_of cell l.text);

@@ -7,25 +7,25 @@ use Rattle.lbk_passage.proofs.reach.pass_quiet.Goals as goal
 
 pub range-requires-clause-end_boundary : goal.range-requires-clause-end_boundary
 range-requires-clause-end_boundary g c =
-    place-passed (g.C.CellSource.cell_of c.args.cells.now) c.args.flags.now.is_quiet c.args.piece.now c.past_quiet-len.result c.args.most c.requires.quiet c.requires.most
+    place-passed (g.C.CellSource.cell_of c.args.known.now.cells.now) c.args.known.now.flags.is_quiet c.args.piece.now c.past_quiet-len.result c.args.most c.args.known.now.quiet c.requires.most
     c.past_quiet-len.ensures.within.1
-    (subst (λ l. c.past_quiet-len.result < c.args.most → slice_index_or c.args.flags.now.is_quiet (slice_index_or l c.past_quiet-len.result 0) false ≡ false)
+    (subst (λ l. c.past_quiet-len.result < c.args.most → slice_index_or c.args.known.now.flags.is_quiet (slice_index_or l c.past_quiet-len.result 0) false ≡ false)
     c.as_bytes.ensures.value c.past_quiet-len.ensures.stops)
 
 pub returns-clause-passes : goal.returns-clause-passes
 returns-clause-passes g c = λ first room enough passes.
-    let cell = g.C.CellSource.cell_of c.args.cells.now in
-    let is_quiet = c.args.flags.now.is_quiet in
+    let cell = g.C.CellSource.cell_of c.args.known.now.cells.now in
+    let is_quiet = c.args.known.now.flags.is_quiet in
     let piece = c.args.piece.now in
     let here = c.args.here in
     let len = c.past_quiet-len.result in
     let within = c.past_quiet-len.ensures.within in
-    let place = place-passed cell is_quiet piece len c.args.most c.requires.quiet c.requires.most within.1
+    let place = place-passed cell is_quiet piece len c.args.most c.args.known.now.quiet c.requires.most within.1
     (subst (λ l. len < c.args.most → slice_index_or is_quiet (slice_index_or l len 0) false ≡ false) c.as_bytes.ensures.value c.past_quiet-len.ensures.stops) in
     let text = IsUtf8-drop piece here.len c.utf8.piece passes.place in
     let calm : is_end here.last ≡ false = sym c.is_end.ensures ∙ c.if-is_end.false in
     let passed = subst (λ l. ArePassed is_quiet l here.len len) c.as_bytes.ensures.value c.past_quiet-len.ensures.passed in
-    let all = Passes-quiet cell first piece room c.utf8.piece is_quiet c.requires.quiet len place (omega (arith, within.1, enough))
+    let all = Passes-quiet cell first piece room c.utf8.piece is_quiet c.args.known.now.quiet len place (omega (arith, within.1, enough))
     (chars (drop here.len piece)) here.len here.last passes calm (scalars-chars (drop here.len piece) text)
     (sym (encodes-chars (drop here.len piece) text)) within.0 passed in
     let is_scalar : IsScalar c.in-Some.last = search rules in

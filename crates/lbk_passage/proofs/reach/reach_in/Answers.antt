@@ -8,7 +8,7 @@ use Rattle.lbk_passage.proofs.Passing.{Passes-none, Passes-more, Passes-stops}
 use Rattle.lbk_passage.proofs.reach.reach_in.Goals as goal
 
 pub loop-c-init : goal.loop-c-init
-loop-c-init g c = Passes-none (g.C.CellSource.cell_of c.args.cells.now) c.args.last c.args.piece.now c.args.room c.utf8.piece
+loop-c-init g c = Passes-none (g.C.CellSource.cell_of c.args.known.now.cells.now) c.args.last c.args.piece.now c.args.room c.utf8.piece
 
 pub pass_quiet-quiet-requires-clause-order : goal.pass_quiet-quiet-requires-clause-order
 pass_quiet-quiet-requires-clause-order g c = elim (cases_lt c.floor_char_boundary-most.result c.loop-c.here.len) [
@@ -26,13 +26,13 @@ returns-in_default g c =
     let empty : length (drop quiet.len piece) ≡ 0 =
     ap length (sym (c.chars-scalars.ensures.rest ∙ c.range_from.ensures.value)) ∙ c.in_default.ensures.steps.0.0 in
     let none : chars (drop quiet.len piece) ≡ [] = ap chars (nil_from_length (drop quiet.len piece) empty) ∙ chars-nil in
-    Passes-stops (g.C.CellSource.cell_of c.args.cells.now) c.args.last piece c.args.room c.utf8.piece quiet.len quiet.last c.stops.result
+    Passes-stops (g.C.CellSource.cell_of c.args.known.now.cells.now) c.args.last piece c.args.room c.utf8.piece quiet.len quiet.last c.stops.result
     (c.pass_quiet-quiet.ensures.passes c.args.last c.args.room c.floor_char_boundary-most.ensures.bound c.loop-c.invariant) (c.stops.ensures.0, c.stops.ensures.1)
     (rw c.stops.ensures.2 none)
 
 pub returns-then-ends_at : goal.returns-then-ends_at
 returns-then-ends_at g c =
-    let cell = g.C.CellSource.cell_of c.args.cells.now in
+    let cell = g.C.CellSource.cell_of c.args.known.now.cells.now in
     let quiet = c.pass_quiet-quiet.result in
     let piece = c.args.piece.now in
     let passes = c.pass_quiet-quiet.ensures.passes c.args.last c.args.room c.floor_char_boundary-most.ensures.bound c.loop-c.invariant in
@@ -48,7 +48,7 @@ returns-then-ends_at g c =
 
 pub returns-then-next-room : goal.returns-then-next-room
 returns-then-next-room g c =
-    let cell = g.C.CellSource.cell_of c.args.cells.now in
+    let cell = g.C.CellSource.cell_of c.args.known.now.cells.now in
     let quiet = c.pass_quiet-quiet.result in
     let piece = c.args.piece.now in
     let passes = c.pass_quiet-quiet.ensures.passes c.args.last c.args.room c.floor_char_boundary-most.ensures.bound c.loop-c.invariant in
@@ -65,7 +65,7 @@ returns-then-next-room g c =
 
 pub loop-c-preserved : goal.loop-c-preserved
 loop-c-preserved g c =
-    let cell = g.C.CellSource.cell_of c.args.cells.now in
+    let cell = g.C.CellSource.cell_of c.args.known.now.cells.now in
     let quiet = c.pass_quiet-quiet.result in
     let piece = c.args.piece.now in
     let passes = c.pass_quiet-quiet.ensures.passes c.args.last c.args.room c.floor_char_boundary-most.ensures.bound c.loop-c.invariant in

@@ -30,16 +30,24 @@ returns-then-count-lt-BLOCK-clause-cut g c =
     ∙ ap (λ bs. held ++ cut_at c.loop-start.start bs) (append-nil (take count c.fill-count.new.block) ∙ c.fill-count.ensures.front ∙ take_all count to_come all)
     ∙ c.loop-start.invariant.cut
 
-pub returns-in_err-start-clause-most : goal.returns-in_err-start-clause-most
-returns-in_err-start-clause-most g c =
+pub returns-in_err-start-clause-grows : goal.returns-in_err-start-clause-grows
+returns-in_err-start-clause-grows g c =
     let l = c.loop-start in
-    let cut = c.cut_block.ensures in
-    room-on (vec_capacity c.args.segments.now) (vec_capacity l.segments) (vec_capacity c.cut_block.new.segments) (vec_len l.segments) (vec_len c.cut_block.new.segments)
-    l.invariant.most cut.most cut.grows
+    let cut = c.cut_block.ensures.grows in
+    record {
+      room = omega (arith, l.invariant.room, cut.room);
+      most = room-on (vec_capacity c.args.segments.now) (vec_capacity l.segments) (vec_capacity c.cut_block.new.segments) (vec_len l.segments) (vec_len c.cut_block.new.segments)
+          l.invariant.most cut.most cut.onward;
+      onward = omega (arith, l.invariant.grows, cut.onward);
+    }
 
-pub returns-then-count-lt-BLOCK-clause-most : goal.returns-then-count-lt-BLOCK-clause-most
-returns-then-count-lt-BLOCK-clause-most g c =
+pub returns-then-count-lt-BLOCK-clause-grows : goal.returns-then-count-lt-BLOCK-clause-grows
+returns-then-count-lt-BLOCK-clause-grows g c =
     let l = c.loop-start in
-    let cut = c.cut_block.ensures in
-    room-on (vec_capacity c.args.segments.now) (vec_capacity l.segments) (vec_capacity c.cut_block.new.segments) (vec_len l.segments) (vec_len c.cut_block.new.segments)
-    l.invariant.most cut.most cut.grows
+    let cut = c.cut_block.ensures.grows in
+    record {
+      room = omega (arith, l.invariant.room, cut.room);
+      most = room-on (vec_capacity c.args.segments.now) (vec_capacity l.segments) (vec_capacity c.cut_block.new.segments) (vec_len l.segments) (vec_len c.cut_block.new.segments)
+          l.invariant.most cut.most cut.onward;
+      onward = omega (arith, l.invariant.grows, cut.onward);
+    }

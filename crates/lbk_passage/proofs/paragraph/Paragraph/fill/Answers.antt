@@ -8,15 +8,15 @@ use Rattle.lbk_passage.proofs.Booleans.{or-true}
 use Rattle.lbk_passage.proofs.paragraph.Paragraph.fill.Goals as goal
 
 pub returns-then-self-clause-fills : goal.returns-then-self-clause-fills
-returns-then-self-clause-fills g c = λ profile. Fills-spent (g.C.CellSource.cell_of c.args.cells.now) profile c.args.self.now _ _ _ c.if-self.true
+returns-then-self-clause-fills g c = λ profile. Fills-spent (g.C.CellSource.cell_of c.args.known.now.cells.now) profile c.args.self.now _ _ _ c.if-self.true
 
 pub returns-then-self-2-clause-fills : goal.returns-then-self-2-clause-fills
 returns-then-self-2-clause-fills g c =
-    λ profile. Fills-held (g.C.CellSource.cell_of c.args.cells.now) profile c.args.self.now _ _ _ c.if-self-2.true c.if-self.false (c.requires.whole c.if-self-2.true)
+    λ profile. Fills-held (g.C.CellSource.cell_of c.args.known.now.cells.now) profile c.args.self.now _ _ _ c.if-self-2.true c.if-self.false (c.requires.whole c.if-self-2.true)
 
 pub returns-in_err-end-clause-fills : goal.returns-in_err-end-clause-fills
 returns-in_err-end-clause-fills g c = λ profile.
-    let cell = g.C.CellSource.cell_of c.args.cells.now in
+    let cell = g.C.CellSource.cell_of c.args.known.now.cells.now in
     let old = c.args.self.now in
     let new = c.gather.new.self in
     let p = err_from_is_err_and c.from_residual.result c.from_residual.ensures.1 in
@@ -29,7 +29,7 @@ returns-in_err-end-clause-fills g c = λ profile.
 
 pub returns-clause-fills : goal.returns-clause-fills
 returns-clause-fills g c = λ profile.
-    let cell = g.C.CellSource.cell_of c.args.cells.now in
+    let cell = g.C.CellSource.cell_of c.args.known.now.cells.now in
     let old = c.args.self.now in
     let new = c.gather.new.self in
     let gathers = rw c.in_ok-end.was at c.gather.ensures.gathers in
@@ -41,15 +41,15 @@ returns-then-self-clause-again g c = λ profile done unspent. absurd (false≢tr
 
 pub returns-then-self-2-clause-again : goal.returns-then-self-2-clause-again
 returns-then-self-2-clause-again g c = λ profile done unspent.
-    ap Ok (whole_done (g.C.CellSource.cell_of c.args.cells.now) profile c.args.self.now (ap (λ b. b || c.args.self.now.is_spent) c.if-self-2.true)
+    ap Ok (whole_done (g.C.CellSource.cell_of c.args.known.now.cells.now) profile c.args.self.now (ap (λ b. b || c.args.self.now.is_spent) c.if-self-2.true)
     (c.requires.whole c.if-self-2.true) done)
 
 pub returns-in_err-end-clause-again : goal.returns-in_err-end-clause-again
 returns-in_err-end-clause-again g c = λ profile done unspent.
     let fresh = ap (λ b. b || c.args.self.now.is_spent) c.if-self-2.false ∙ c.if-self.false in
-    absurd (ok_err c.gather.result None _ (c.gather.ensures.again done.at_end (held_done (g.C.CellSource.cell_of c.args.cells.now) profile c.args.self.now fresh done)) c.in_err-end.was)
+    absurd (ok_err c.gather.result None _ (c.gather.ensures.reads_on.again done.at_end (held_done (g.C.CellSource.cell_of c.args.known.now.cells.now) profile c.args.self.now fresh done)) c.in_err-end.was)
 
 pub returns-clause-again : goal.returns-clause-again
 returns-clause-again g c = λ profile done unspent.
     let fresh = ap (λ b. b || c.args.self.now.is_spent) c.if-self-2.false ∙ c.if-self.false in
-    sym c.in_ok-end.was ∙ c.gather.ensures.again done.at_end (held_done (g.C.CellSource.cell_of c.args.cells.now) profile c.args.self.now fresh done)
+    sym c.in_ok-end.was ∙ c.gather.ensures.reads_on.again done.at_end (held_done (g.C.CellSource.cell_of c.args.known.now.cells.now) profile c.args.self.now fresh done)

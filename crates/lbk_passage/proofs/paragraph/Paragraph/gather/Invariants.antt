@@ -4,7 +4,7 @@ use Rattle.lbk_passage.proofs.paragraph.Paragraph.gather.Given as goal
 
 abbrev pub invariant-loop-self : goal.invariant-loop-self
 invariant-loop-self g l = record {
-  gathering : Gathering (g.C.CellSource.cell_of l.cells) l.initial.self l.self l.last
+  gathering : Gathering (g.C.CellSource.cell_of l.known.cells.now) l.initial.self l.self l.last
       (g.R.Source.unread l.initial.reader) (g.R.Source.unread l.reader) (g.R.Source.has_ended l.initial.reader) (g.R.Source.has_ended l.reader)
       (g.R.Source.reads_made l.initial.reader) (g.R.Source.reads_made l.reader);
   failures : g.R.Source.failure_count l.reader ≡ g.R.Source.failure_count l.initial.reader;

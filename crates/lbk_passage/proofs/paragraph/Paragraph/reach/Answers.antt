@@ -8,4 +8,4 @@ returns-clause-reaches g c = rw (← c.ready.ensures.ready, ← c.len.ensures) c
 pub returns-clause-place : goal.returns-clause-place
 returns-clause-place g c =
     subst (λ l. IsCharBoundary l c.reach_in.result.len) c.ready.ensures.ready
-    (boundary (g.C.CellSource.cell_of c.args.cells.now) c.args.last c.ready.result.now _ c.reach_in.result c.ready.utf8 c.reach_in.ensures)
+    (boundary (g.C.CellSource.cell_of c.args.known.now.cells.now) c.args.last c.ready.result.now _ c.reach_in.result c.ready.utf8 c.reach_in.ensures)

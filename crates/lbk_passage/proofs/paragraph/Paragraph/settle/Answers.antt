@@ -53,24 +53,22 @@ returns-in-Err-clause-settles g c = record {
   ends = tt;
 }
 
-pub returns-in-Err-clause-failures : goal.returns-in-Err-clause-failures
-returns-in-Err-clause-failures g c =
-    c.settle-outcome.ensures.failures ∙ ap (λ r. feed.failures_with (g.R.Source.failure_count c.args.reader.now) (fault_of r)) c.in-Err.is
-    ∙ failures_alike (g.R.Source.failure_count c.args.reader.now) c.in-Err.fault
-    ∙ ap (λ e. failures_with (g.R.Source.failure_count c.args.reader.now) (Some e)) (sym c.from_feed.ensures)
+pub returns-in-Ok-clause-reads_on : goal.returns-in-Ok-clause-reads_on
+returns-in-Ok-clause-reads_on g c = record {
+  failures = c.settle-outcome.ensures.failures ∙ ap (λ r. feed.failures_with (g.R.Source.failure_count c.args.reader.now) (fault_of r)) c.in-Ok.is;
+  quiet = λ h. c.settle-outcome.ensures.idle (inr (inl h));
+  again = λ h none.
+      ap Ok (one_value c.settle-outcome.result c.in-Ok.stands false c.in-Ok.is (c.settle-outcome.ensures.again h none
+      (feed_unspent c.args.self.now.feed.is_spent c.args.self.now.is_spent c.args.self.now.spent c.requires.unspent)));
+}
 
-pub returns-in-Ok-clause-quiet : goal.returns-in-Ok-clause-quiet
-returns-in-Ok-clause-quiet g c = λ h. c.settle-outcome.ensures.idle (inr (inl h))
-
-pub returns-in-Err-clause-quiet : goal.returns-in-Err-clause-quiet
-returns-in-Err-clause-quiet g c = λ h. c.settle-outcome.ensures.idle (inr (inl h))
-
-pub returns-in-Ok-clause-again : goal.returns-in-Ok-clause-again
-returns-in-Ok-clause-again g c = λ h none.
-    ap Ok (one_value c.settle-outcome.result c.in-Ok.stands false c.in-Ok.is (c.settle-outcome.ensures.again h none
-    (feed_unspent c.args.self.now.feed.is_spent c.args.self.now.is_spent c.args.self.now.spent c.requires.unspent)))
-
-pub returns-in-Err-clause-again : goal.returns-in-Err-clause-again
-returns-in-Err-clause-again g c = λ h none.
-    absurd (ok_err c.settle-outcome.result false c.in-Err.fault (c.settle-outcome.ensures.again h none
-    (feed_unspent c.args.self.now.feed.is_spent c.args.self.now.is_spent c.args.self.now.spent c.requires.unspent)) c.in-Err.is)
+pub returns-in-Err-clause-reads_on : goal.returns-in-Err-clause-reads_on
+returns-in-Err-clause-reads_on g c = record {
+  failures = c.settle-outcome.ensures.failures ∙ ap (λ r. feed.failures_with (g.R.Source.failure_count c.args.reader.now) (fault_of r)) c.in-Err.is
+      ∙ failures_alike (g.R.Source.failure_count c.args.reader.now) c.in-Err.fault
+      ∙ ap (λ e. failures_with (g.R.Source.failure_count c.args.reader.now) (Some e)) (sym c.from_feed.ensures);
+  quiet = λ h. c.settle-outcome.ensures.idle (inr (inl h));
+  again = λ h none.
+      absurd (ok_err c.settle-outcome.result false c.in-Err.fault (c.settle-outcome.ensures.again h none
+      (feed_unspent c.args.self.now.feed.is_spent c.args.self.now.is_spent c.args.self.now.spent c.requires.unspent)) c.in-Err.is);
+}

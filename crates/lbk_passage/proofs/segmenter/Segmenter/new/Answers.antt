@@ -1,12 +1,15 @@
 use Rattle.std.proofs.Common.{◌||◌, sym, ap, ◌∙◌}
 use Rattle.std.proofs.lemmas.Bool.{false≢true}
+use Rattle.lbk_passage.specs.State.{new_state}
 use Rattle.lbk_passage.proofs.segmenter.Segmenter.new.Goals as goal
 
-pub invariant_of-result-clause-whole : goal.invariant_of-result-clause-whole
-invariant_of-result-clause-whole g c = λ held. absurd (false≢true (
+pub invariant_of-result : goal.invariant_of-result
+invariant_of-result g c = record { whole = λ held. absurd (false≢true (
     sym (ap (λ s. s.is_settled) (c.in-Ok.ensures.state (g.C.CellSource.cell_of c.args.cells.now) c.args.profile))
     ∙ ap (λ b. b || c.in-Ok.paragraph.is_spent) held
-    ))
+    )) }
 
 pub returns-clause-state : goal.returns-clause-state
-returns-clause-state g c = c.in-Ok.ensures.state (g.C.CellSource.cell_of c.args.cells.now) c.args.profile
+returns-clause-state g c =
+    c.in-Ok.ensures.state (g.C.CellSource.cell_of c.of.result.cells.now) c.args.profile
+    ∙ ap (λ cells. new_state (g.C.CellSource.cell_of cells) c.args.profile c.args.limit) c.of.ensures

@@ -17,7 +17,7 @@ use Rattle.lbk_passage.proofs.segmenter.Segmenter.next.Goals as goal
 
 pub returns-in_err-end : goal.returns-in_err-end
 returns-in_err-end g c =
-    let cell = g.C.CellSource.cell_of c.args.self.now.cells.now in
+    let cell = g.C.CellSource.cell_of c.args.self.now.known.cells.now in
     let profile = c.args.self.now.profile in
     let old = c.args.self.now.paragraph in
     let p = c.fill.new.self in
@@ -42,20 +42,22 @@ returns-in_err-end g c =
       record {
         after_borrow = tt;
         lent = tt;
-        spent = λ spent. let told = sym was ∙ c.fill.ensures.refused spent in
-            let same : exit.0 ≡ Spent = cc in ap (λ (f : PassageFault). Err f) same;
-        spent_only = λ is. spent_by (state_with cell profile p) p old.is_spent exit.0 fills.answer (let same : exit.0 ≡ Spent = cc in same);
-        again = λ done unspent. absurd (ok_err c.fill.result None exit.0 (c.fill.ensures.again profile done unspent) was);
-        settled = λ seen. ⊎_elim (λ held. c.fill.ensures.quiet held) (λ spent. c.fill.ensures.spent spent) (or-cases old.is_held old.is_spent seen);
-        ended = λ h. c.fill.ensures.ended h;
-        reads = omega (arith, c.fill.ensures.reads);
+        goes_on = record {
+          spent = λ spent. let told = sym was ∙ c.fill.ensures.refused spent in
+              let same : exit.0 ≡ Spent = cc in ap (λ (f : PassageFault). Err f) same;
+          spent_only = λ is. spent_by (state_with cell profile p) p old.is_spent exit.0 fills.answer (let same : exit.0 ≡ Spent = cc in same);
+          again = λ done unspent. absurd (ok_err c.fill.result None exit.0 (c.fill.ensures.again profile done unspent) was);
+          settled = λ seen. ⊎_elim (λ held. c.fill.ensures.quiet held) (λ spent. c.fill.ensures.spent spent) (or-cases old.is_held old.is_spent seen);
+          ended = λ h. c.fill.ensures.ended h;
+          reads = omega (arith, c.fill.ensures.reads);
+        };
         failures = c.fill.ensures.failures ∙ ap (λ r. failures_with (g.R.Source.failure_count c.args.reader.now) (fault_in r)) was;
       },
     )
 
 pub returns-in_default : goal.returns-in_default
 returns-in_default g c =
-    let cell = g.C.CellSource.cell_of c.args.self.now.cells.now in
+    let cell = g.C.CellSource.cell_of c.args.self.now.known.cells.now in
     let profile = c.args.self.now.profile in
     let old = c.args.self.now.paragraph in
     let p = c.fill.new.self in
@@ -78,19 +80,21 @@ returns-in_default g c =
       record {
         after_borrow = tt;
         lent = tt;
-        spent = λ spent. absurd (let refused = c.fill.ensures.refused spent in cc);
-        spent_only = λ is. cc;
-        again = λ done unspent. refl;
-        settled = λ seen. ⊎_elim (λ held. c.fill.ensures.quiet held) (λ spent. c.fill.ensures.spent spent) (or-cases old.is_held old.is_spent seen);
-        ended = λ h. c.fill.ensures.ended h;
-        reads = omega (arith, c.fill.ensures.reads);
+        goes_on = record {
+          spent = λ spent. absurd (let refused = c.fill.ensures.refused spent in cc);
+          spent_only = λ is. cc;
+          again = λ done unspent. refl;
+          settled = λ seen. ⊎_elim (λ held. c.fill.ensures.quiet held) (λ spent. c.fill.ensures.spent spent) (or-cases old.is_held old.is_spent seen);
+          ended = λ h. c.fill.ensures.ended h;
+          reads = omega (arith, c.fill.ensures.reads);
+        };
         failures = c.fill.ensures.failures ∙ ap (λ r. failures_with (g.R.Source.failure_count c.args.reader.now) (fault_in r)) was;
       },
     )
 
 pub returns-then-is_err : goal.returns-then-is_err
 returns-then-is_err g c =
-    let cell = g.C.CellSource.cell_of c.args.self.now.cells.now in
+    let cell = g.C.CellSource.cell_of c.args.self.now.known.cells.now in
     let profile = c.args.self.now.profile in
     let old = c.args.self.now.paragraph in
     let p = c.fill.new.self in
@@ -120,19 +124,21 @@ returns-then-is_err g c =
       record {
         after_borrow = tt;
         lent = tt;
-        spent = λ spent. absurd (let refused = c.fill.ensures.refused spent in cc);
-        spent_only = λ is. cc;
-        again = λ done unspent. absurd (some_none c.fill.result c.in-Some.end was (c.fill.ensures.again profile done unspent));
-        settled = λ seen. ⊎_elim (λ held. c.fill.ensures.quiet held) (λ spent. c.fill.ensures.spent spent) (or-cases old.is_held old.is_spent seen);
-        ended = λ h. c.fill.ensures.ended h;
-        reads = omega (arith, c.fill.ensures.reads);
+        goes_on = record {
+          spent = λ spent. absurd (let refused = c.fill.ensures.refused spent in cc);
+          spent_only = λ is. cc;
+          again = λ done unspent. absurd (some_none c.fill.result c.in-Some.end was (c.fill.ensures.again profile done unspent));
+          settled = λ seen. ⊎_elim (λ held. c.fill.ensures.quiet held) (λ spent. c.fill.ensures.spent spent) (or-cases old.is_held old.is_spent seen);
+          ended = λ h. c.fill.ensures.ended h;
+          reads = omega (arith, c.fill.ensures.reads);
+        };
         failures = c.fill.ensures.failures ∙ ap (λ r. failures_with (g.R.Source.failure_count c.args.reader.now) (fault_in r)) was;
       },
     )
 
 pub returns-then-is_err-2 : goal.returns-then-is_err-2
 returns-then-is_err-2 g c =
-    let cell = g.C.CellSource.cell_of c.args.self.now.cells.now in
+    let cell = g.C.CellSource.cell_of c.args.self.now.known.cells.now in
     let profile = c.args.self.now.profile in
     let old = c.args.self.now.paragraph in
     let p = c.fill.new.self in
@@ -161,19 +167,21 @@ returns-then-is_err-2 g c =
       record {
         after_borrow = tt;
         lent = tt;
-        spent = λ spent. absurd (let refused = c.fill.ensures.refused spent in cc);
-        spent_only = λ is. cc;
-        again = λ done unspent. absurd (some_none c.fill.result c.in-Some.end was (c.fill.ensures.again profile done unspent));
-        settled = λ seen. ⊎_elim (λ held. c.fill.ensures.quiet held) (λ spent. c.fill.ensures.spent spent) (or-cases old.is_held old.is_spent seen);
-        ended = λ h. c.fill.ensures.ended h;
-        reads = omega (arith, c.fill.ensures.reads);
+        goes_on = record {
+          spent = λ spent. absurd (let refused = c.fill.ensures.refused spent in cc);
+          spent_only = λ is. cc;
+          again = λ done unspent. absurd (some_none c.fill.result c.in-Some.end was (c.fill.ensures.again profile done unspent));
+          settled = λ seen. ⊎_elim (λ held. c.fill.ensures.quiet held) (λ spent. c.fill.ensures.spent spent) (or-cases old.is_held old.is_spent seen);
+          ended = λ h. c.fill.ensures.ended h;
+          reads = omega (arith, c.fill.ensures.reads);
+        };
         failures = c.fill.ensures.failures ∙ ap (λ r. failures_with (g.R.Source.failure_count c.args.reader.now) (fault_in r)) was;
       },
     )
 
 pub returns : goal.returns
 returns g c =
-    let cell = g.C.CellSource.cell_of c.args.self.now.cells.now in
+    let cell = g.C.CellSource.cell_of c.args.self.now.known.cells.now in
     let profile = c.args.self.now.profile in
     let old = c.args.self.now.paragraph in
     let p = c.fill.new.self in
@@ -218,12 +226,14 @@ returns g c =
       record {
         after_borrow = tt;
         lent = given.1;
-        spent = λ spent. absurd (ok_err c.fill.result (Some c.in-Some.end) Spent was (c.fill.ensures.refused spent));
-        spent_only = λ is. absurd (ok_err (Ok (Some c.lend.result)) (Some c.lend.result) Spent refl is);
-        again = λ done unspent. absurd (some_none c.fill.result c.in-Some.end was (c.fill.ensures.again profile done unspent));
-        settled = λ seen. ⊎_elim (λ held. c.fill.ensures.quiet held) (λ spent. c.fill.ensures.spent spent) (or-cases old.is_held old.is_spent seen);
-        ended = λ h. c.fill.ensures.ended h;
-        reads = omega (arith, c.fill.ensures.reads);
+        goes_on = record {
+          spent = λ spent. absurd (ok_err c.fill.result (Some c.in-Some.end) Spent was (c.fill.ensures.refused spent));
+          spent_only = λ is. absurd (ok_err (Ok (Some c.lend.result)) (Some c.lend.result) Spent refl is);
+          again = λ done unspent. absurd (some_none c.fill.result c.in-Some.end was (c.fill.ensures.again profile done unspent));
+          settled = λ seen. ⊎_elim (λ held. c.fill.ensures.quiet held) (λ spent. c.fill.ensures.spent spent) (or-cases old.is_held old.is_spent seen);
+          ended = λ h. c.fill.ensures.ended h;
+          reads = omega (arith, c.fill.ensures.reads);
+        };
         failures = c.fill.ensures.failures ∙ ap (λ r. failures_with (g.R.Source.failure_count c.args.reader.now) (fault_in r)) was;
       },
     )

@@ -28,7 +28,7 @@ passage cell profile t = record {
 
 pub returns-in_err-end : goal.returns-in_err-end
 returns-in_err-end g c =
-    let cell = g.C.CellSource.cell_of c.args.self.now.cells.now in
+    let cell = g.C.CellSource.cell_of c.args.self.now.known.cells.now in
     let profile = c.args.self.now.profile in
     let old = c.args.self.now.paragraph in
     let p = c.fill.new.self in
@@ -43,13 +43,15 @@ returns-in_err-end g c =
       ),
       record {
         after_borrow = tt;
-        spent = λ spent. let told = sym was ∙ c.fill.ensures.refused spent in
-            let same : exit.0 ≡ Spent = cc in ap (λ (f : PassageFault). Err f) same;
-        spent_only = λ is. spent_by (state_with cell profile p) p old.is_spent exit.0 fills.answer (let same : exit.0 ≡ Spent = cc in same);
-        again = λ done unspent. absurd (ok_err c.fill.result None exit.0 (c.fill.ensures.again profile done unspent) was);
-        settled = λ seen. ⊎_elim (λ held. c.fill.ensures.quiet held) (λ spent. c.fill.ensures.spent spent) (or-cases old.is_held old.is_spent seen);
-        ended = λ h. c.fill.ensures.ended h;
-        reads = omega (arith, c.fill.ensures.reads);
+        goes_on = record {
+          spent = λ spent. let told = sym was ∙ c.fill.ensures.refused spent in
+              let same : exit.0 ≡ Spent = cc in ap (λ (f : PassageFault). Err f) same;
+          spent_only = λ is. spent_by (state_with cell profile p) p old.is_spent exit.0 fills.answer (let same : exit.0 ≡ Spent = cc in same);
+          again = λ done unspent. absurd (ok_err c.fill.result None exit.0 (c.fill.ensures.again profile done unspent) was);
+          settled = λ seen. ⊎_elim (λ held. c.fill.ensures.quiet held) (λ spent. c.fill.ensures.spent spent) (or-cases old.is_held old.is_spent seen);
+          ended = λ h. c.fill.ensures.ended h;
+          reads = omega (arith, c.fill.ensures.reads);
+        };
         memory = λ is. never_memory (state_with cell profile p) p old.is_spent exit.0 fills.answer (let same : exit.0 ≡ Memory = cc in same);
         failures = c.fill.ensures.failures ∙ ap (λ r. failures_with (g.R.Source.failure_count c.args.reader.now) (fault_in r)) was;
       },
@@ -57,7 +59,7 @@ returns-in_err-end g c =
 
 pub returns-in_default : goal.returns-in_default
 returns-in_default g c =
-    let cell = g.C.CellSource.cell_of c.args.self.now.cells.now in
+    let cell = g.C.CellSource.cell_of c.args.self.now.known.cells.now in
     let profile = c.args.self.now.profile in
     let old = c.args.self.now.paragraph in
     let p = c.fill.new.self in
@@ -70,12 +72,14 @@ returns-in_default g c =
       ),
       record {
         after_borrow = tt;
-        spent = λ spent. absurd (let refused = c.fill.ensures.refused spent in cc);
-        spent_only = λ is. cc;
-        again = λ done unspent. refl;
-        settled = λ seen. ⊎_elim (λ held. c.fill.ensures.quiet held) (λ spent. c.fill.ensures.spent spent) (or-cases old.is_held old.is_spent seen);
-        ended = λ h. c.fill.ensures.ended h;
-        reads = omega (arith, c.fill.ensures.reads);
+        goes_on = record {
+          spent = λ spent. absurd (let refused = c.fill.ensures.refused spent in cc);
+          spent_only = λ is. cc;
+          again = λ done unspent. refl;
+          settled = λ seen. ⊎_elim (λ held. c.fill.ensures.quiet held) (λ spent. c.fill.ensures.spent spent) (or-cases old.is_held old.is_spent seen);
+          ended = λ h. c.fill.ensures.ended h;
+          reads = omega (arith, c.fill.ensures.reads);
+        };
         memory = λ is. cc;
         failures = c.fill.ensures.failures ∙ ap (λ r. failures_with (g.R.Source.failure_count c.args.reader.now) (fault_in r)) was;
       },
@@ -83,7 +87,7 @@ returns-in_default g c =
 
 pub returns : goal.returns
 returns g c =
-    let cell = g.C.CellSource.cell_of c.args.self.now.cells.now in
+    let cell = g.C.CellSource.cell_of c.args.self.now.known.cells.now in
     let profile = c.args.self.now.profile in
     let old = c.args.self.now.paragraph in
     let p = c.fill.new.self in
@@ -113,12 +117,14 @@ returns g c =
       ),
       record {
         after_borrow = tt;
-        spent = λ spent. absurd (ok_err c.fill.result (Some c.in-Some.end) Spent was (c.fill.ensures.refused spent));
-        spent_only = λ is. absurd (ok_err (Ok (Some text)) (Some text) Spent refl is);
-        again = λ done unspent. absurd (some_none c.fill.result c.in-Some.end was (c.fill.ensures.again profile done unspent));
-        settled = λ seen. ⊎_elim (λ held. c.fill.ensures.quiet held) (λ spent. c.fill.ensures.spent spent) (or-cases old.is_held old.is_spent seen);
-        ended = λ h. c.fill.ensures.ended h;
-        reads = omega (arith, c.fill.ensures.reads);
+        goes_on = record {
+          spent = λ spent. absurd (ok_err c.fill.result (Some c.in-Some.end) Spent was (c.fill.ensures.refused spent));
+          spent_only = λ is. absurd (ok_err (Ok (Some text)) (Some text) Spent refl is);
+          again = λ done unspent. absurd (some_none c.fill.result c.in-Some.end was (c.fill.ensures.again profile done unspent));
+          settled = λ seen. ⊎_elim (λ held. c.fill.ensures.quiet held) (λ spent. c.fill.ensures.spent spent) (or-cases old.is_held old.is_spent seen);
+          ended = λ h. c.fill.ensures.ended h;
+          reads = omega (arith, c.fill.ensures.reads);
+        };
         memory = λ is. absurd (ok_err (Ok (Some text)) (Some text) Memory refl is);
         failures = c.fill.ensures.failures ∙ ap (λ r. failures_with (g.R.Source.failure_count c.args.reader.now) (fault_in r)) was;
       },

@@ -29,7 +29,7 @@ passed cell profile p end = record {
 
 pub returns-in_err-fill : goal.returns-in_err-fill
 returns-in_err-fill g c =
-    let cell = g.C.CellSource.cell_of c.args.self.now.cells.now in
+    let cell = g.C.CellSource.cell_of c.args.self.now.known.cells.now in
     let profile = c.args.self.now.profile in
     let old = c.args.self.now.paragraph in
     let p = c.fill.new.self in
@@ -38,13 +38,15 @@ returns-in_err-fill g c =
     let fills = rw was at (c.fill.ensures.fills profile) in
     rw exit.1 (record {
       passes = record { lent = Err exit.0; after = After-fault cell profile old p _ _ _ _ _ _ exit.0 fills; is = refl };
-      spent = λ spent. let told = sym was ∙ c.fill.ensures.refused spent in
-          let same : exit.0 ≡ Spent = cc in ap (λ (f : PassageFault). Err f) same;
-      spent_only = λ is. spent_by (state_with cell profile p) p old.is_spent exit.0 fills.answer (let same : exit.0 ≡ Spent = cc in same);
-      again = λ done unspent. absurd (ok_err c.fill.result None exit.0 (c.fill.ensures.again profile done unspent) was);
-      settled = λ seen. ⊎_elim (λ held. c.fill.ensures.quiet held) (λ spent. c.fill.ensures.spent spent) (or-cases old.is_held old.is_spent seen);
-      ended = λ h. c.fill.ensures.ended h;
-      reads = omega (arith, c.fill.ensures.reads);
+      goes_on = record {
+        spent = λ spent. let told = sym was ∙ c.fill.ensures.refused spent in
+            let same : exit.0 ≡ Spent = cc in ap (λ (f : PassageFault). Err f) same;
+        spent_only = λ is. spent_by (state_with cell profile p) p old.is_spent exit.0 fills.answer (let same : exit.0 ≡ Spent = cc in same);
+        again = λ done unspent. absurd (ok_err c.fill.result None exit.0 (c.fill.ensures.again profile done unspent) was);
+        settled = λ seen. ⊎_elim (λ held. c.fill.ensures.quiet held) (λ spent. c.fill.ensures.spent spent) (or-cases old.is_held old.is_spent seen);
+        ended = λ h. c.fill.ensures.ended h;
+        reads = omega (arith, c.fill.ensures.reads);
+      };
       memory = λ is. never_memory (state_with cell profile p) p old.is_spent exit.0 fills.answer (let same : exit.0 ≡ Memory = cc in same);
       found = refl;
       failures = c.fill.ensures.failures ∙ ap (λ r. failures_with (g.R.Source.failure_count c.args.reader.now) (fault_in r)) was;
@@ -52,19 +54,21 @@ returns-in_err-fill g c =
 
 pub returns-in_default : goal.returns-in_default
 returns-in_default g c =
-    let cell = g.C.CellSource.cell_of c.args.self.now.cells.now in
+    let cell = g.C.CellSource.cell_of c.args.self.now.known.cells.now in
     let profile = c.args.self.now.profile in
     let old = c.args.self.now.paragraph in
     let p = c.fill.new.self in
     let was = c.in_ok-fill.was ∙ ap Ok c.in_default.is in
     let fills = rw was at (c.fill.ensures.fills profile) in record {
       passes = record { lent = Ok None; after = After-none cell profile old p _ _ _ _ _ _ fills; is = refl };
-      spent = λ spent. absurd (let refused = c.fill.ensures.refused spent in cc);
-      spent_only = λ is. cc;
-      again = λ done unspent. refl;
-      settled = λ seen. ⊎_elim (λ held. c.fill.ensures.quiet held) (λ spent. c.fill.ensures.spent spent) (or-cases old.is_held old.is_spent seen);
-      ended = λ h. c.fill.ensures.ended h;
-      reads = omega (arith, c.fill.ensures.reads);
+      goes_on = record {
+        spent = λ spent. absurd (let refused = c.fill.ensures.refused spent in cc);
+        spent_only = λ is. cc;
+        again = λ done unspent. refl;
+        settled = λ seen. ⊎_elim (λ held. c.fill.ensures.quiet held) (λ spent. c.fill.ensures.spent spent) (or-cases old.is_held old.is_spent seen);
+        ended = λ h. c.fill.ensures.ended h;
+        reads = omega (arith, c.fill.ensures.reads);
+      };
       memory = λ is. cc;
       found = refl;
       failures = c.fill.ensures.failures ∙ ap (λ r. failures_with (g.R.Source.failure_count c.args.reader.now) (fault_in r)) was;
@@ -72,7 +76,7 @@ returns-in_default g c =
 
 pub returns : goal.returns
 returns g c =
-    let cell = g.C.CellSource.cell_of c.args.self.now.cells.now in
+    let cell = g.C.CellSource.cell_of c.args.self.now.known.cells.now in
     let profile = c.args.self.now.profile in
     let old = c.args.self.now.paragraph in
     let p = c.fill.new.self in
@@ -89,12 +93,14 @@ returns g c =
         after = after;
         is = ap (λ (n : ℕ). Ok (Some n)) (omega (arith, c.given.ensures, after.start, after.answer.start, none));
       };
-      spent = λ spent. absurd (ok_err c.fill.result (Some c.in-Some.field-0) Spent was (c.fill.ensures.refused spent));
-      spent_only = λ is. absurd (ok_err (Ok (Some c.given.result)) (Some c.given.result) Spent refl is);
-      again = λ done unspent. absurd (some_none c.fill.result c.in-Some.field-0 was (c.fill.ensures.again profile done unspent));
-      settled = λ seen. ⊎_elim (λ held. c.fill.ensures.quiet held) (λ spent. c.fill.ensures.spent spent) (or-cases old.is_held old.is_spent seen);
-      ended = λ h. c.fill.ensures.ended h;
-      reads = omega (arith, c.fill.ensures.reads);
+      goes_on = record {
+        spent = λ spent. absurd (ok_err c.fill.result (Some c.in-Some.field-0) Spent was (c.fill.ensures.refused spent));
+        spent_only = λ is. absurd (ok_err (Ok (Some c.given.result)) (Some c.given.result) Spent refl is);
+        again = λ done unspent. absurd (some_none c.fill.result c.in-Some.field-0 was (c.fill.ensures.again profile done unspent));
+        settled = λ seen. ⊎_elim (λ held. c.fill.ensures.quiet held) (λ spent. c.fill.ensures.spent spent) (or-cases old.is_held old.is_spent seen);
+        ended = λ h. c.fill.ensures.ended h;
+        reads = omega (arith, c.fill.ensures.reads);
+      };
       memory = λ is. absurd (ok_err (Ok (Some c.given.result)) (Some c.given.result) Memory refl is);
       found = refl;
       failures = c.fill.ensures.failures ∙ ap (λ r. failures_with (g.R.Source.failure_count c.args.reader.now) (fault_in r)) was;
