@@ -8,23 +8,22 @@ use Rattle.std.proofs.lemmas.Bool.Decides.{nat_tests}
 use Rattle.std.proofs.lemmas.List.Sums.{sum_by-cons}
 use Rattle.std.proofs.lemmas.Str.{chars-encodes}
 use lib.Utf8.{scalars}
-use Rattle.bstr.proofs.lemmas.EncodeLemmas.{lossy_chars-encode}
 use Rattle.unicode_segmentation.specs.Segments.{segments}
 use Rattle.unicode_segmentation.specs.Word.{word_bounds}
 use Rattle.lbk_rules.specs.declared.Break.{Break}
 use Rattle.lbk_rules.specs.declared.Cell.{Cell}
 use Rattle.lbk_values.specs.declared.profile.Profile.{Profile}
-use Rattle.lbk_rules.proofs.MarkLemmas.{scalars-behind}
-use Rattle.lbk_bytes.specs.Bytes.{breaks_after, breaks_of_bytes, with_break}
-use Rattle.lbk_passage.specs.Breaks.{breaks, breaks_from}
+use Rattle.lbk_bytes.specs.Bytes.{breaks_of_bytes}
+use Rattle.lbk_passage.specs.Breaks.{breaks}
 use Rattle.lbk_passage.specs.Laws.{break_at, segment_breaks}
-use Rattle.lbk_passage.specs.Marks.{Marked, marks, scalars_of, text_of}
+use Rattle.lbk_passage.specs.Marks.{Marked, scalars_of, text_of}
 use Rattle.lbk_passage.specs.Passages.{passages}
 use Rattle.lbk_passage.specs.Pieces.{is_word, pieces_from, pieces_of}
 use Rattle.lbk_passage.specs.Segments.{segments_of}
+use Rattle.lbk_passage.proofs.FoundLemmas.{breaks-encoded}
 use Rattle.lbk_passage.proofs.Together.{passages-breaks, passages-scalars}
 use Rattle.lbk_words.specs.declared.word.Word.{Word}
-use Rattle.lbk_words.proofs.WellFormedLemmas.{good_of, pieces-encode, scalars-split}
+use Rattle.lbk_words.proofs.WellFormedLemmas.{scalars-split}
 use Rattle.lbk_chunk_reader.specs.Agreement.{AgreeOnLetters, AgreeOnLines}
 use Rattle.lbk_chunk_reader.specs.PassageWords.{words_in_pieces, words_of_passages}
 use Rattle.lbk_chunk_reader.proofs.PieceWords.{bytes-of-parts}
@@ -36,20 +35,6 @@ use Rattle.lbk_chunk_reader.specs.Between.{AreBreaksBetween}
 use Rattle.lbk_chunk_reader.specs.Cuts.{cuts_of_passages}
 use Rattle.lbk_chunk_reader.proofs.BetweenLemmas.{passage-breaks, breaks-ends, breaks-past-append}
 use Rattle.lbk_chunk_reader.proofs.WordLemmas.{no-word}
-
--- Breaks of well-formed bytes
-
-breaks-good : (at : ℕ) (ms : List Marked) → breaks_after at (map good_of (scalars_of ms)) ms ≡ breaks_from at ms
-breaks-good at [] = refl
-breaks-good at (m ∷ ms) = let end = at + length (encode_utf8 m.scalar) in
-    ap (with_break end m.after) (breaks-good end ms)
-
-breaks-encoded : (profile : Profile) (cell : ℕ → Cell) (cs : List ℕ) → scalars cs ≡ true
-    → breaks_of_bytes profile cell (encode_utf8_all cs) ≡ breaks profile cell cs
-breaks-encoded profile cell cs all =
-    ap₂ (λ ps ds. breaks_after 0 ps (marks profile cell ds)) (pieces-encode cs all) (lossy_chars-encode cs all)
-    ∙ ap (λ ds. breaks_after 0 (map good_of ds) (marks profile cell cs)) (sym (scalars-behind profile cell [] cs))
-    ∙ breaks-good 0 (marks profile cell cs)
 
 -- Words that stand one behind the other, each with a byte, between two places
 

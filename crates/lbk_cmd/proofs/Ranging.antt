@@ -13,7 +13,7 @@ use Rattle.lbk_passage.specs.Laws.{EndsOnce}
 use Rattle.lbk_passage.specs.Marks.{Marked, scalars_of, text_of}
 use Rattle.lbk_passage.specs.Passages.{passages}
 use Rattle.lbk_passage.specs.State.{State}
-use Rattle.lbk_passage.specs.Next.{AfterNext, IsPassage}
+use Rattle.lbk_passage.specs.Next.{AfterNext, IsPassage, fault_in}
 use Rattle.lbk_passage.specs.Passing.{end_of}
 use Rattle.lbk_passage.specs.declared.faults.PassageFault.{PassageFault}
 use Rattle.lbk_passage.specs.declared.passage.Passage.{Passage}
@@ -225,6 +225,11 @@ pub lent_none : (lent : Result (Option Passage) PassageFault) → Ok None ≡ en
 lent_none (Ok None) is = refl
 lent_none (Ok (Some p)) is = absurd (cc is)
 lent_none (Err why) is = absurd (cc is)
+
+pub lent_some : (lent : Result (Option Passage) PassageFault) (end : ℕ) → Ok (Some end) ≡ end_of lent → fault_in lent ≡ None
+lent_some (Ok None) end is = absurd (cc is)
+lent_some (Ok (Some p)) end is = refl
+lent_some (Err why) end is = absurd (cc is)
 
 -- a passage before the range that was passed over has no lines
 pub puts_none : (part : Part) (lines : ℕ → List Marked → List ℕ) (cell : ℕ → Cell) (profile : Profile) (limit : ℕ) (s t : State) (u v : Option (List ℕ))

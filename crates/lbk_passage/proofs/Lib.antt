@@ -22,5 +22,5 @@ pub mod SegmentLemmas
 pub mod Together
 pub mod Joining
 pub mod SameCells
-pub mod FillingLemmas
-pub mod ComingLemmas
+pub mod ReadLemmas
+pub mod FoundLemmas

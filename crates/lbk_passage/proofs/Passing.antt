@@ -10,7 +10,7 @@ use Rattle.lbk_rules.specs.Classes.{CR, LF}
 use Rattle.lbk_rules.specs.FirstBytes.{first_byte}
 use Rattle.lbk_rules.specs.declared.Class.{Class}
 use Rattle.lbk_rules.specs.declared.Cell.{Cell}
-use Rattle.lbk_passage.proofs.FillingLemmas.{reads}
+use Rattle.lbk_passage.proofs.ReadLemmas.{reads}
 use Rattle.lbk_passage.specs.Gathering.{Reaches, StopsBefore}
 use Rattle.lbk_passage.specs.Flags.{AreQuiet, ArePassed, Passes, is_end}
 use Rattle.lbk_passage.specs.Stays.{ends_at, last_class}

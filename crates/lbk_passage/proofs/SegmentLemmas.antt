@@ -3,7 +3,7 @@ use Rattle.std.proofs.Common.{◌≡◌, ℕ, ◌+◌, ◌<◌, Bool, true, fals
 use Rattle.std.specs.Char.{encode_utf8}
 use Rattle.std.specs.Str.{IsUtf8, chars}
 use Rattle.std.proofs.lemmas.List.{append_cancel_left, length-append, length_push, map-append, take_at}
-use Rattle.std.proofs.lemmas.List.Elements.{All-cons, All-nil}
+use Rattle.std.proofs.lemmas.List.Elements.{All-cons, All-head, All-nil, All-tail}
 use Rattle.std.proofs.lemmas.Str.{encodes-chars}
 use Rattle.lbk_rules.specs.declared.Break.{Break}
 use Rattle.lbk_rules.specs.declared.Cell.{Cell}
@@ -11,6 +11,8 @@ use Rattle.lbk_values.specs.declared.profile.Profile.{Profile}
 use Rattle.lbk_rules.specs.declared.Verdict.{Verdict}
 use Rattle.lbk_rules.specs.Verdict.{verdict_between_in}
 use Rattle.lbk_rules.proofs.EndLemmas.{must_at_end}
+use Rattle.lbk_bytes.specs.declared.raw_break.RawBreak.{RawBreak}
+use Rattle.lbk_bytes.specs.Shown.{shown}
 use Rattle.lbk_passage.specs.declared.passage.Segment.{Segment}
 use Rattle.lbk_passage.specs.Breaks.{break_by, breaks, breaks_from, is_no}
 use Rattle.lbk_passage.specs.Cuts.{cut_at, ending_by}
@@ -161,3 +163,10 @@ breaks-within limit profile cell text utf8 below =
     let same : length (encode_utf8_all (scalars_of all)) ≡ length text =
     ap (λ cs. length (encode_utf8_all cs)) (scalars-behind profile cell [] (chars text)) ∙ ap length (encodes-chars text utf8) in
     breaks-below limit 0 all (omega arith)
+
+-- so do those that stand for them as numbers
+pub raw-within : (limit : ℕ) (raw : List RawBreak) → All (λ one. one.at < limit) (map shown raw) → All (λ one. one.at < limit) raw
+raw-within limit [] below = All-nil (λ one. one.at < limit)
+raw-within limit (r ∷ rs) below =
+    All-cons (λ one. one.at < limit) r rs (All-head (λ one. one.at < limit) (shown r) (map shown rs) below)
+    (raw-within limit rs (All-tail (λ one. one.at < limit) (shown r) (map shown rs) below))

@@ -19,4 +19,4 @@ pub mod Flags
 pub mod Room
 pub mod Gathering
 pub mod Cuts
-pub mod Onward
+pub mod Found

@@ -5,9 +5,12 @@ ghost use Rattle.std.specs.Iterator.{YieldsFirst, item_count};
 ghost use Rattle.std.specs.Str.{chars};
 ghost use Rattle.lbk_rules.specs.Breaks.{breaks};
 
-use crate::walk::fill;
-use lbk_rules::{Break, CellSource, Kind, Profile, RowMachine, Rule};
+use crate::found::{NO_BREAK, Progress, START, break_of, find, put_breaks};
+use lbk_rules::{Break, CellSource, Profile};
 use std::marker::Model;
+
+/// How many breaks are found at a time.
+const BLOCK: usize = 64;
 
 /// The breaks of a text: its positions after the first where a line may or must end (UAX #14, section 3), the last
 /// being its end; an empty text has none. The text is one, whatever its paragraphs. No memory is taken, and time grows
@@ -25,13 +28,7 @@ pub struct Breaks<'a, C: CellSource> {
     cells: &'a C,
     profile: Profile,
     text: &'a str,
-    /// How many bytes of the text were taken.
-    taken: usize,
-    machine: RowMachine<'a, C>,
-    /// How many were given.
-    given: usize,
-    /// Whether the end was given.
-    ended: bool,
+    progress: Progress,
 }
 
 // Its value is the list of the breaks that are left.
@@ -39,15 +36,14 @@ impl<'a, C: CellSource> Model for Breaks<'a, C> {
     ghost use Rattle.std.specs.Prelude.{List, drop};
     ghost use Rattle.std.specs.Str.{chars};
     ghost use Rattle.lbk_rules.specs.declared.Break.{Break};
-    ghost use Rattle.lbk_rules.specs.RowMachineFits.{RowMachineFits};
     ghost use Rattle.lbk_rules.specs.Breaks.{breaks};
-    ghost use Rattle.lbk_passage.specs.Onward.{IsKept};
+    ghost use Rattle.lbk_passage.specs.Found.{IsFound};
 
     ghost Value = { List Break };
 
-    ghost view = { λ b. drop b.given (breaks b.profile (C.cell_of b.cells.now) (chars b.text.now)) };
+    ghost view = { λ b. drop b.progress.found (breaks b.profile (C.cell_of b.cells.now) (chars b.text.now)) };
 
-    ghost invariant = { λ b. IsKept (RowMachineFits C.cell_of b.machine) b.profile (C.cell_of b.cells.now) b.text.now b.taken b.given b.ended };
+    ghost invariant = { λ b. IsFound b.profile (C.cell_of b.cells.now) b.text.now b.progress };
 }
 
 impl<'a, C: CellSource> Breaks<'a, C> {
@@ -59,10 +55,7 @@ impl<'a, C: CellSource> Breaks<'a, C> {
             cells,
             profile,
             text,
-            taken: 0,
-            machine: RowMachine::start(cells, profile),
-            given: 0,
-            ended: false,
+            progress: START,
         }
     }
 
@@ -73,14 +66,23 @@ impl<'a, C: CellSource> Breaks<'a, C> {
         ensures front { take result block.new ≡ take result self.old }
         ensures rest { self.new ≡ drop result self.old }
     {
-        if self.ended {
-            return 0;
+        let cells = self.cells;
+        let profile = self.profile;
+        let text = self.text;
+        let mut raw = [NO_BREAK; BLOCK];
+        let mut here = self.progress;
+        let mut count = 0;
+        while count < block.len() && !here.ended {
+            let room = BLOCK.min(block.len() - count);
+            let out = &mut raw[..room];
+            let next = find::<true, C>(cells, profile, text, here, out);
+            let some = next.found - here.found;
+            put_breaks(out, some, block, count);
+            count += some;
+            here = next;
         }
-        let filling = fill(&mut self.machine, self.text, self.taken, block);
-        self.taken = filling.at;
-        self.ended = filling.ended;
-        self.given += filling.count;
-        filling.count
+        self.progress = here;
+        count
     }
 }
 
@@ -93,14 +95,13 @@ impl<'a, C: CellSource> Iterator for Breaks<'a, C> {
 
     /// The next break, or none at the end. Many are found faster by `fill`.
     fn next(&mut self) -> Option<Break> {
-        let mut block = [Break {
-            at: 0,
-            kind: Kind::No,
-            rule: Rule::Lb31,
-        }];
-        if self.fill(&mut block) == 0 {
+        let mut one = [NO_BREAK; 1];
+        let before = self.progress.found;
+        let next = find::<false, C>(self.cells, self.profile, self.text, self.progress, &mut one);
+        self.progress = next;
+        if next.found == before {
             return None;
         }
-        Some(block[0])
+        Some(break_of(one[0]))
     }
 }

@@ -10,17 +10,16 @@ mod breaks;
 mod ends;
 mod faults;
 mod flags;
+mod found;
 mod known;
 pub mod laws;
 mod paragraph;
 mod passage;
 mod pieces;
-mod putting;
 mod reach;
 mod room;
 mod segmenter;
 mod segments;
-mod walk;
 
 pub use breaks::Breaks;
 pub use faults::PassageFault;

@@ -13,8 +13,9 @@ use crate::paragraph::Paragraph;
 use crate::passage::{Passage, PassageText, Piece, Segment};
 use crate::pieces::{ENDS, cut_words};
 use crate::segments::{BLOCK, NO_BREAKS, cut_lines};
+use lbk_bytes::RawBreak;
 use lbk_feed::{LIMIT_MAX, Source};
-use lbk_rules::{Break, CellSource, Profile, Verdict};
+use lbk_rules::{CellSource, Profile, Verdict};
 use std::alloc::{AllocError, Global};
 
 /// Cuts a text of any length into passages, and holds one at a time.
@@ -35,7 +36,7 @@ pub struct Segmenter<'a, C: CellSource> {
     profile: Profile,
     paragraph: Paragraph,
     /// Where breaks are found into.
-    block: [Break; BLOCK],
+    block: [RawBreak; BLOCK],
     /// Where the ends of pieces are found into.
     ends: [usize; ENDS],
     segments: Vec<Segment>,
@@ -149,8 +150,7 @@ impl<'a, C: CellSource> Segmenter<'a, C> {
     }
 
     /// Passes over the next passage, without finding its segments and words, and returns the byte of the text after
-    /// it, or
-    /// `None` at the end of the text. Reads and faults are those of `next`, and so is what later calls give.
+    /// it, or `None` at the end of the text. Reads and faults are those of `next`, and so is what later calls give.
     pub fn pass<R: Source>(&mut self, reader: &mut R) -> Result<Option<u64>, PassageFault>
         ensures passes { PassesOver (state_of C.cell_of self.old) (state_of C.cell_of self.new) (R.unread reader.old)
             (R.unread reader.new)

@@ -1,19 +1,22 @@
 //! The segments of a passage.
 
-ghost use Rattle.std.specs.Prelude.{◌≡◌, ◌+◌, ◌*◌, ◌<◌, ◌≤◌, ◌^◌, ◌++◌, List, false, length, max, vec_len};
+ghost use Rattle.std.specs.Prelude.{◌≡◌, ◌+◌, ◌*◌, ◌<◌, ◌≤◌, ◌^◌, ◌++◌, List, false, length, map, max, vec_len};
 ghost use Rattle.std.specs.Prelude.{All, IfOk, OnOk, OnErr, vec_capacity};
 ghost use Rattle.std.specs.Str.{chars};
 ghost use Rattle.lbk_rules.specs.declared.Break.{Break};
+ghost use Rattle.lbk_bytes.specs.Order.{AreBreaks};
+ghost use Rattle.lbk_bytes.specs.Shown.{shown};
 ghost use Rattle.lbk_passage.specs.Breaks.{breaks, is_no};
 ghost use Rattle.lbk_passage.specs.Cuts.{cut_at, ending_by};
 ghost use Rattle.lbk_passage.specs.Marks.{marks, ended};
 ghost use Rattle.lbk_passage.specs.Room.{Grows};
 ghost use Rattle.lbk_passage.specs.Segments.{segments_of};
 
-use crate::breaks::Breaks;
+use crate::found::{NO_BREAK, START, break_of, find};
 use crate::passage::Segment;
 use crate::room::make_room;
-use lbk_rules::{Break, CellSource, Kind, Profile, Rule, Verdict};
+use lbk_bytes::RawBreak;
+use lbk_rules::{CellSource, Kind, Profile, Verdict};
 use std::alloc::AllocError;
 
 /// How many breaks are found at a time.
@@ -21,11 +24,7 @@ pub(crate) const BLOCK: usize = 64;
 
 /// A block that nothing was found into. It is filled again and again, since to make one costs as much as some breaks
 /// do.
-pub(crate) const NO_BREAKS: [Break; BLOCK] = [Break {
-    at: 0,
-    kind: Kind::No,
-    rule: Rule::Lb31,
-}; BLOCK];
+pub(crate) const NO_BREAKS: [RawBreak; BLOCK] = [NO_BREAK; BLOCK];
 
 /// Writes the segments of a passage in place of what the list held: those of its text by itself, the last with the
 /// verdict `end` (UAX #14, section 6). What the block held does not matter, and what it holds then is unspecified.
@@ -35,7 +34,7 @@ pub fn cut_lines<C: CellSource>(
     profile: Profile,
     text: &str,
     end: Verdict,
-    block: &mut [Break; BLOCK],
+    block: &mut [RawBreak; BLOCK],
     segments: &mut Vec<Segment>,
 ) -> Result<(), AllocError>
     requires { length text.now < 2 ^ 32 }
@@ -76,7 +75,7 @@ fn cut_alone<C: CellSource>(
     cells: &C,
     profile: Profile,
     text: &str,
-    block: &mut [Break; BLOCK],
+    block: &mut [RawBreak; BLOCK],
     segments: &mut Vec<Segment>,
 ) -> Result<(), AllocError>
     requires { length text.now < 2 ^ 32 }
@@ -88,24 +87,27 @@ fn cut_alone<C: CellSource>(
     ensures full { OnErr result (vec_capacity segments.old
         < vec_len segments.old + length (breaks profile (C.cell_of cells.now) (chars text.now))) }
 {
-    let mut breaks = Breaks::new(cells, text, profile);
+    let mut here = START;
     let mut start = 0;
     loop {
-        let count = breaks.fill(block);
+        let next = find::<true, C>(cells, profile, text, here, block);
+        let count = next.found - here.found;
         start = cut_block(&block[..count], start, segments)?;
-        if count < BLOCK {
+        if next.ended {
             return Ok(());
         }
+        here = next;
     }
 }
 
 /// Puts the segments that end at these breaks after those in the list, the first from `start` on, and returns where
 /// the next begins.
 #[inline(never)]
-fn cut_block(block: &[Break], start: u32, segments: &mut Vec<Segment>) -> Result<u32, AllocError>
-    requires { All (λ one. one.at < 2 ^ 32) block.now }
+fn cut_block(block: &[RawBreak], start: u32, segments: &mut Vec<Segment>) -> Result<u32, AllocError>
+    requires breaks { AreBreaks block.now (length block.now) }
+    requires few { All (λ one. one.at < 2 ^ 32) block.now }
     ensures cut { IfOk result (λ next. (more : List Break)
-        → segments.new.items ++ cut_at next more ≡ segments.old.items ++ cut_at start (block.now ++ more)) }
+        → segments.new.items ++ cut_at next more ≡ segments.old.items ++ cut_at start (map shown block.now ++ more)) }
     ensures count { OnOk result (vec_len segments.new ≡ vec_len segments.old + length block.now) }
     ensures grows { Grows segments.old segments.new }
     ensures full { OnErr result (vec_capacity segments.old < vec_len segments.old + length block.now) }
@@ -113,12 +115,13 @@ fn cut_block(block: &[Break], start: u32, segments: &mut Vec<Segment>) -> Result
     make_room(segments, block.len())?;
     let mut start = start;
     for one in block {
+        let found = break_of(*one);
         let end = one.at as u32;
         segments.push_reserved(Segment {
             start,
             end,
-            kind: one.kind,
-            rule: one.rule,
+            kind: found.kind,
+            rule: found.rule,
         });
         start = end;
     }

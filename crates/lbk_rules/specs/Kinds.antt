@@ -1,5 +1,6 @@
 -- A number for each normal cell, its kind: its place among 42, and 42 more for an unassigned pictograph.
-use Rattle.std.specs.Prelude.{◌≡◌, ℕ, ◌+◌, ◌*◌, ◌%◌, ◌<◌, ◌==◌, ◌&&◌, ◌||◌, Bool, false, List, if◌then◌else◌, length}
+use Rattle.std.specs.Prelude.{◌≡◌, ℕ, ◌+◌, ◌*◌, ◌%◌, ◌<◌, ◌==◌, ◌&&◌, ◌||◌, Bool, false, List, if◌then◌else◌, length, map}
+use Rattle.std.specs.List.{range_with_len}
 use Rattle.std.specs.Prelude.{nat_le, slice_index, slice_index_or}
 use Rattle.std.specs.Char.{IsScalar}
 use Rattle.std.specs.Int.{from_bool}
@@ -51,3 +52,7 @@ slot_cell slot pict_cn = record {
 -- the cell that has this kind
 unfoldable pub kind_cell : ℕ → Cell
 kind_cell kind = slot_cell (kind % 42) (nat_le 42 kind)
+
+-- the kinds of the cells of all codes
+unfoldable pub kinds_of_cells : (ℕ → Cell) → List ℕ
+kinds_of_cells cell = map (λ code. kind_of (cell code)) (range_with_len 0 0x11_0000)

@@ -5,18 +5,18 @@ ghost use Rattle.std.specs.Char.{IsScalar};
 ghost use Rattle.lbk_rules.specs.Kinds.{AreKindsOf, kind_of};
 
 use crate::kind_source::KindSource;
-use crate::neighbours::{NO_NEIGHBOURS, Neighbours};
+use crate::neighbours::Neighbours;
 use crate::source::CellSource;
 
-/// What a [`FlatTable`](crate::FlatTable) is, over the cells of a source and in less than a kilobyte: it asks the
-/// source for the kind of each scalar.
+/// What a [`FlatTable`](crate::FlatTable) is, over the cells of a source: it asks the source for the kind of each scalar
+/// but the first ones, and keeps nothing itself.
 #[derive(Drop)]
 pub struct CellTable<'a, C: CellSource> {
     cells: &'a C,
     /// The kinds of the first codes, kept here so that a loop reads them without asking the source where they are.
     kinds: &'a [u8],
     /// What the steps tell of bytes side by side.
-    pairs: Neighbours,
+    pairs: &'a Neighbours,
     ghost same: { AreKindsOf (C.cell_of cells.now) kinds.now },
 }
 
@@ -25,25 +25,16 @@ impl<'a, C: CellSource> CellTable<'a, C> {
     ghost use Rattle.lbk_rules.specs.CellTable.{cell_in, kinds_in, pairs_in};
 
     /// The table of these cells.
+    #[inline(always)]
     pub fn new(cells: &'a C) -> CellTable<'a, C>
         ensures cells { cell_in C.cell_of result ≡ C.cell_of cells.now }
         ensures table { IsFlatBy (kinds_in C.cell_of result) (pairs_in result) (C.cell_of cells.now) }
     {
-        let mut table = CellTable {
+        CellTable {
             cells,
             kinds: cells.kinds(),
-            pairs: NO_NEIGHBOURS,
-        };
-        table.pairs = Neighbours::of_kinds(&table);
-        table
-    }
-
-    /// The source of the cells.
-    #[inline(always)]
-    pub fn cells(&self) -> &'a C
-        ensures { C.cell_of result.now ≡ cell_in C.cell_of self.now }
-    {
-        self.cells
+            pairs: cells.neighbours(),
+        }
     }
 }
 
@@ -64,7 +55,7 @@ impl<'a, C: CellSource> KindSource for CellTable<'a, C> {
 
     #[inline(always)]
     fn pairs(&self) -> &Neighbours {
-        &self.pairs
+        self.pairs
     }
 }
 

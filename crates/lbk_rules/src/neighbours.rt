@@ -17,6 +17,7 @@ use crate::kinds::KINDS;
 use crate::steps::step_in;
 use lbk_masks::ByteSets;
 use lbk_uax14::Profile;
+use std::fmt;
 
 /// The kind of a letter.
 const LETTER: u8 = 0;
@@ -64,7 +65,7 @@ pub struct Neighbours {
 }
 
 /// Neighbours of which nothing is known.
-pub(crate) const NO_NEIGHBOURS: Neighbours = Neighbours {
+pub(crate) static NO_NEIGHBOURS: Neighbours = Neighbours {
     sets: ByteSets {
         classes: [[0; 16]; 8],
         left: [0; 16],
@@ -72,6 +73,12 @@ pub(crate) const NO_NEIGHBOURS: Neighbours = Neighbours {
     },
     rows: [NO_ROW; 256],
 };
+
+impl fmt::Debug for Neighbours {
+    fn fmt<W: fmt::Write>(&self, f: &mut fmt::Formatter<W>) -> fmt::Result {
+        f.write_str("Neighbours")
+    }
+}
 
 impl Neighbours {
     /// What the steps tell of neighbours, where codes have these kinds.

@@ -1,16 +1,21 @@
 //! The cells of all scalar values, in pages of 256 that are kept once where they are equal.
 
-ghost use Rattle.std.specs.Prelude.{◌≡◌, ℕ, ◌+◌, ◌*◌, ◌<◌, ◌≤◌, length, slice_index, IfOk};
+ghost use Rattle.std.specs.Prelude.{◌≡◌, ℕ, ◌+◌, ◌*◌, ◌<◌, ◌≤◌, length, slice_index, IfOk, Some};
 ghost use Rattle.std.specs.Char.{IsScalar};
 ghost use Rattle.lbk_rules.specs.Pages.{AreDistinct, IsPageOf, cell_in, digest_of};
 ghost use Rattle.lbk_rules.specs.FirstBytes.{AreQuiet};
 ghost use Rattle.lbk_rules.specs.KindTable.{kind_at};
 ghost use Rattle.lbk_rules.specs.Kinds.{kind_of};
+ghost use Rattle.lbk_rules.specs.Kinds.{kinds_of_cells};
+ghost use Rattle.lbk_rules.specs.Neighbours.{AreNeighboursOf};
+ghost use Rattle.lbk_rules.specs.declared.neighbours.Neighbours.{Neighbours};
 
 mod kept;
 
+use crate::cell_table::CellTable;
 use crate::kind_table::KindTable;
 use crate::kinds::kind_of;
+use crate::neighbours::{NO_NEIGHBOURS, Neighbours};
 use crate::runs::CellRuns;
 use crate::source::CellSource;
 use crate::walk::Walk;
@@ -41,12 +46,16 @@ pub struct CellPages {
     kinds: KindTable,
     /// For each byte whether a line must end after no scalar that begins with it.
     quiet_first_bytes: [bool; 256],
+    /// What the steps tell of bytes side by side, once it was found.
+    neighbours: Option<Neighbours>,
     ghost complete: { length numbers.items ≡ 4352 },
     ghost numbered: { (k : ℕ) → k < 4352 → slice_index numbers.items k < length pages.items },
     ghost distinct: { AreDistinct pages.items },
     ghost same: { (code : ℕ) → IsScalar code → code < length kinds.kinds.items
         → kind_at kinds code ≡ kind_of (cell_in numbers.items pages.items code) },
     ghost quiet: { AreQuiet (cell_in numbers.items pages.items) quiet_first_bytes },
+    ghost told: { (found : Neighbours) → neighbours ≡ Some found
+        → AreNeighboursOf (kinds_of_cells (cell_in numbers.items pages.items)) found },
 }
 
 impl CellPages {
@@ -59,7 +68,17 @@ impl CellPages {
         ensures { IfOk result (λ pages. (code : ℕ) → IsScalar code
             → page_cell pages code ≡ cell_of_tables tables.now code) }
     {
-        CellPages::build_over(alloc, tables)
+        let mut pages = CellPages::build_over(alloc, tables)?;
+        pages.find_neighbours();
+        Ok(pages)
+    }
+
+    /// Finds what the steps tell of bytes side by side, and keeps it.
+    fn find_neighbours(&mut self)
+        ensures { page_cell self.new ≡ page_cell self.old }
+    {
+        let found = Neighbours::of_kinds(&CellTable::new(&*self));
+        self.neighbours = Some(found);
     }
 
     /// The pages of any source.
@@ -87,6 +106,7 @@ impl CellPages {
             pages: kept.into_pages(),
             kinds: walk.kinds,
             quiet_first_bytes: walk.quiet_first_bytes,
+            neighbours: None,
         })
     }
 }
@@ -116,6 +136,14 @@ impl CellSource for CellPages {
     #[tactic(auto, unfolding(crate::specs::CellPages::page_cell, crate::specs::KindTable::kind_at))]
     fn kinds(&self) -> &[u8] {
         &self.kinds.kinds
+    }
+
+    #[inline(always)]
+    fn neighbours(&self) -> &Neighbours {
+        match &self.neighbours {
+            Some(found) => found,
+            None => &NO_NEIGHBOURS,
+        }
     }
 
     #[tactic(auto, unfolding(crate::specs::CellPages::page_cell))]

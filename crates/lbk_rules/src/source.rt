@@ -3,6 +3,7 @@
 ghost use Rattle.std.specs.Prelude.{◌≡◌, ℕ};
 
 use crate::kinds::kind_of;
+use crate::neighbours::{NO_NEIGHBOURS, Neighbours};
 use lbk_uax14::{Cell, resolve};
 use lbk_ucd::Tables;
 
@@ -10,7 +11,11 @@ use lbk_ucd::Tables;
 pub trait CellSource {
     ghost use Rattle.lbk_uax14.specs.declared.cells.Cell.{Cell};
     ghost use Rattle.lbk_rules.specs.FirstBytes.{AreQuiet};
+    ghost use Rattle.lbk_rules.specs.Kinds.{kinds_of_cells};
     ghost use Rattle.lbk_rules.specs.Kinds.{AreKindsOf, kind_of};
+    ghost use Rattle.lbk_rules.specs.Neighbours.{AreTold};
+    ghost use Rattle.lbk_rules.specs.Rows.{steps_in};
+    ghost use Rattle.lbk_values.specs.declared.profile.Profile.{Profile};
 
     ghost cell_of: { Self → ℕ → Cell };
 
@@ -33,6 +38,15 @@ pub trait CellSource {
         ensures { AreKindsOf (cell_of self.now) result.now }
     {
         &[]
+    }
+
+    /// What the steps tell of bytes side by side, where the source keeps it: by that breaks are found many bytes at a
+    /// time.
+    #[inline]
+    fn neighbours(&self) -> &Neighbours
+        ensures { (profile : Profile) → AreTold (steps_in profile) (kinds_of_cells (cell_of self.now)) result.now }
+    {
+        &NO_NEIGHBOURS
     }
 
     /// For each byte whether it is known that a line must end after no scalar that begins with it (UAX #14, rules LB4

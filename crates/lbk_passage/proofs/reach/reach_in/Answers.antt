@@ -2,7 +2,7 @@ use Rattle.std.proofs.Common.{◌≡◌, ◌+◌, ◌++◌, ◌<◌, false, true
 use Rattle.std.proofs.lemmas.Bool.{cases_lt}
 use Rattle.std.proofs.lemmas.List.{nil_from_length}
 use Rattle.std.proofs.lemmas.Str.{chars-nil}
-use Rattle.lbk_passage.proofs.FillingLemmas.{reads}
+use Rattle.lbk_passage.proofs.ReadLemmas.{reads}
 use Rattle.lbk_passage.specs.Stays.{ends_at}
 use Rattle.lbk_passage.proofs.Passing.{Passes-none, Passes-more, Passes-stops}
 use Rattle.lbk_passage.proofs.reach.reach_in.Goals as goal

@@ -1,53 +1,116 @@
-use Rattle.std.proofs.Common.{◌<◌, ◌≤◌, [], ◌+◌, ◌*◌, ◌++◌, All, length, vec_capacity, vec_len, take, append-nil, sym, ap, subst, ◌∙◌, arith}
-use Rattle.std.proofs.Math.Nat.{le-max_left}
-use Rattle.std.proofs.lemmas.List.{take_all}
+use Rattle.std.proofs.Common.{◌≡◌, ◌<◌, ◌-◌, ◌++◌, All, length, take, append-nil, refl, sym, ap, subst, ◌∙◌, arith}
+use Rattle.std.proofs.lemmas.List.Elements.{All-drop, All-take}
+use Rattle.std.proofs.lemmas.Result.{err_from_is_err_and}
 use Rattle.lbk_rules.specs.declared.Break.{Break}
 use Rattle.lbk_passage.specs.Cuts.{cut_at}
-use Rattle.lbk_passage.proofs.SegmentLemmas.{breaks-within}
-use Rattle.lbk_passage.proofs.RoomLemmas.{room-on}
+use Rattle.lbk_passage.specs.Found.{left_after}
+use Rattle.lbk_passage.proofs.FoundLemmas.{IsFound-start, left-many, left-on, rest-on, taken-breaks, taken-many}
+use Rattle.lbk_passage.proofs.SegmentLemmas.{breaks-within, raw-within}
+use Rattle.lbk_passage.proofs.RoomLemmas.{Grows-none, Grows-on}
 use Rattle.lbk_passage.proofs.segments.cut_alone.Goals as goal
 
 pub loop-start-init : goal.loop-start-init
 loop-start-init g c =
     let cell = g.C.CellSource.cell_of c.args.cells.now in
-    let same = c.new-breaks.ensures in record {
-      cut = ap (λ to_come. c.args.segments.now.items ++ cut_at 0 to_come) same;
-      within = subst (All (λ (one : Break). one.at < 4294967296)) (sym same) (breaks-within 4294967296 c.args.profile cell c.args.text.now c.utf8.text c.requires);
-      count = ap (λ to_come. vec_len c.args.segments.now + length to_come) same;
-      room = omega arith;
-      most = le-max_left (vec_capacity c.args.segments.now) (2 * vec_len c.args.segments.now);
-      grows = omega arith;
+    record {
+      found = IsFound-start c.args.profile cell c.args.text.now c.utf8.text;
+      cut = refl;
+      within = breaks-within 4294967296 c.args.profile cell c.args.text.now c.utf8.text c.requires;
+      count = refl;
+      grows = Grows-none c.args.segments.now c.args.segments.now refl refl;
     }
 
-pub returns-then-count-lt-BLOCK-clause-cut : goal.returns-then-count-lt-BLOCK-clause-cut
-returns-then-count-lt-BLOCK-clause-cut g c =
-    let to_come = c.loop-start.breaks in
-    let count = c.fill-count.result in
-    let all : length to_come ≤ count = omega (arith, c.fill-count.ensures.count, c.if-count-lt-BLOCK.true) in
-    let held = c.loop-start.segments.items in
-    sym (append-nil c.cut_block.new.segments.items)
-    ∙ c.in_ok-start.ensures.cut []
-    ∙ ap (λ bs. held ++ cut_at c.loop-start.start bs) (append-nil (take count c.fill-count.new.block) ∙ c.fill-count.ensures.front ∙ take_all count to_come all)
-    ∙ c.loop-start.invariant.cut
+pub loop-start-preserved : goal.loop-start-preserved
+loop-start-preserved g c =
+    let cell = g.C.CellSource.cell_of c.args.cells.now in
+    let l = c.loop-start in
+    let n = c.find-next.result.found - l.here.found in
+    let left = left_after c.args.profile cell c.args.text.now l.here in
+    let behind = left_after c.args.profile cell c.args.text.now c.find-next.result in
+    let cut : c.cut_block.new.segments.items ++ cut_at c.in_ok-start.start behind ≡ l.segments.items ++ cut_at l.start left =
+    c.in_ok-start.ensures.cut behind
+    ∙ ap (λ bs. l.segments.items ++ cut_at l.start bs) (rest-on c.args.profile cell c.args.text.now c.loop-start.here c.find-next.result (length c.loop-start.block) c.find-next.new.out c.find-next.ensures) in
+    record {
+      found = c.find-next.ensures.found;
+      cut = cut ∙ l.invariant.cut;
+      within = subst (All (λ (one : Break). one.at < 4294967296)) (sym (left-on c.args.profile cell c.args.text.now c.loop-start.here c.find-next.result (length c.loop-start.block) c.find-next.new.out c.find-next.ensures)) (All-drop (λ (one : Break). one.at < 4294967296) n left l.invariant.within);
+      count = omega (
+        arith,
+        c.in_ok-start.ensures.count,
+        taken-many c.args.profile cell c.args.text.now c.loop-start.here c.find-next.result (length c.loop-start.block) c.find-next.new.out c.find-next.ensures,
+        left-many c.args.profile cell c.args.text.now c.loop-start.here c.find-next.result (length c.loop-start.block) c.find-next.new.out c.find-next.ensures,
+        l.invariant.count,
+      );
+      grows = Grows-on c.args.segments.now l.segments c.cut_block.new.segments l.invariant.grows c.cut_block.ensures.grows;
+    }
+
+pub loop-start-smaller : goal.loop-start-smaller
+loop-start-smaller g c =
+    let cell = g.C.CellSource.cell_of c.args.cells.now in
+    omega (arith, left-many c.args.profile cell c.args.text.now c.loop-start.here c.find-next.result (length c.loop-start.block) c.find-next.new.out c.find-next.ensures, c.find-next.ensures.full c.if-next.false)
+
+pub cut_block-requires-clause-breaks : goal.cut_block-requires-clause-breaks
+cut_block-requires-clause-breaks g c =
+    let cell = g.C.CellSource.cell_of c.args.cells.now in
+    (taken-breaks c.args.profile cell c.args.text.now c.loop-start.here c.find-next.result (length c.loop-start.block) c.find-next.new.out c.find-next.ensures)
+
+pub cut_block-requires-clause-few : goal.cut_block-requires-clause-few
+cut_block-requires-clause-few g c =
+    let cell = g.C.CellSource.cell_of c.args.cells.now in
+    let l = c.loop-start in
+    let n = c.find-next.result.found - l.here.found in
+    let left = left_after c.args.profile cell c.args.text.now l.here in
+    raw-within 4294967296 (take n c.find-next.new.out)
+    (subst (All (λ (one : Break). one.at < 4294967296)) (sym c.find-next.ensures.front)
+    (All-take (λ (one : Break). one.at < 4294967296) n left l.invariant.within))
 
 pub returns-in_err-start-clause-grows : goal.returns-in_err-start-clause-grows
 returns-in_err-start-clause-grows g c =
-    let l = c.loop-start in
-    let cut = c.cut_block.ensures.grows in
-    record {
-      room = omega (arith, l.invariant.room, cut.room);
-      most = room-on (vec_capacity c.args.segments.now) (vec_capacity l.segments) (vec_capacity c.cut_block.new.segments) (vec_len l.segments) (vec_len c.cut_block.new.segments)
-          l.invariant.most cut.most cut.onward;
-      onward = omega (arith, l.invariant.grows, cut.onward);
-    }
+    Grows-on c.args.segments.now c.loop-start.segments c.cut_block.new.segments c.loop-start.invariant.grows c.cut_block.ensures.grows
 
-pub returns-then-count-lt-BLOCK-clause-grows : goal.returns-then-count-lt-BLOCK-clause-grows
-returns-then-count-lt-BLOCK-clause-grows g c =
+pub returns-in_err-start-clause-full : goal.returns-in_err-start-clause-full
+returns-in_err-start-clause-full g c =
+    let cell = g.C.CellSource.cell_of c.args.cells.now in
+    let p = err_from_is_err_and c.from_residual.result c.from_residual.ensures.1 in
+    let full = c.in_err-start.ensures.full in
     let l = c.loop-start in
-    let cut = c.cut_block.ensures.grows in
-    record {
-      room = omega (arith, l.invariant.room, cut.room);
-      most = room-on (vec_capacity c.args.segments.now) (vec_capacity l.segments) (vec_capacity c.cut_block.new.segments) (vec_len l.segments) (vec_len c.cut_block.new.segments)
-          l.invariant.most cut.most cut.onward;
-      onward = omega (arith, l.invariant.grows, cut.onward);
-    }
+    rw p.1 (omega (
+      arith,
+      full,
+      taken-many c.args.profile cell c.args.text.now c.loop-start.here c.find-next.result (length c.loop-start.block) c.find-next.new.out c.find-next.ensures,
+      left-many c.args.profile cell c.args.text.now c.loop-start.here c.find-next.result (length c.loop-start.block) c.find-next.new.out c.find-next.ensures,
+      l.invariant.count,
+      l.invariant.grows.room,
+    ))
+
+pub returns-then-next-clause-cut : goal.returns-then-next-clause-cut
+returns-then-next-clause-cut g c =
+    let cell = g.C.CellSource.cell_of c.args.cells.now in
+    let l = c.loop-start in
+    let n = c.find-next.result.found - l.here.found in
+    let left = left_after c.args.profile cell c.args.text.now l.here in
+    let behind = left_after c.args.profile cell c.args.text.now c.find-next.result in
+    let cut : c.cut_block.new.segments.items ++ cut_at c.in_ok-start.start behind ≡ l.segments.items ++ cut_at l.start left =
+    c.in_ok-start.ensures.cut behind
+    ∙ ap (λ bs. l.segments.items ++ cut_at l.start bs) (rest-on c.args.profile cell c.args.text.now c.loop-start.here c.find-next.result (length c.loop-start.block) c.find-next.new.out c.find-next.ensures) in
+    let held = c.cut_block.new.segments.items in
+    sym (append-nil held)
+    ∙ ap (λ bs. held ++ cut_at c.in_ok-start.start bs) (sym (c.find-next.ensures.found.none_left c.if-next.true))
+    ∙ cut ∙ l.invariant.cut
+
+pub returns-then-next-clause-count : goal.returns-then-next-clause-count
+returns-then-next-clause-count g c =
+    let cell = g.C.CellSource.cell_of c.args.cells.now in
+    let l = c.loop-start in
+    omega (
+      arith,
+      c.in_ok-start.ensures.count,
+      taken-many c.args.profile cell c.args.text.now c.loop-start.here c.find-next.result (length c.loop-start.block) c.find-next.new.out c.find-next.ensures,
+      left-many c.args.profile cell c.args.text.now c.loop-start.here c.find-next.result (length c.loop-start.block) c.find-next.new.out c.find-next.ensures,
+      ap length (c.find-next.ensures.found.none_left c.if-next.true),
+      l.invariant.count,
+    )
+
+pub returns-then-next-clause-grows : goal.returns-then-next-clause-grows
+returns-then-next-clause-grows g c =
+    Grows-on c.args.segments.now c.loop-start.segments c.cut_block.new.segments c.loop-start.invariant.grows c.cut_block.ensures.grows

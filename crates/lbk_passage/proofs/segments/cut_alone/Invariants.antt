@@ -1,20 +1,23 @@
-use Rattle.std.proofs.Common.{◌≡◌, ◌+◌, ◌*◌, ◌<◌, ◌≤◌, ◌^◌, ◌++◌, All, length, max, vec_capacity, vec_len}
+use Rattle.std.proofs.Common.{◌≡◌, ◌+◌, ◌<◌, ◌^◌, ◌++◌, All, length, vec_len}
 use Rattle.std.specs.Str.{chars}
 use Rattle.lbk_passage.specs.Breaks.{breaks}
 use Rattle.lbk_passage.specs.Cuts.{cut_at}
+use Rattle.lbk_passage.specs.Found.{IsFound, left_after}
+use Rattle.lbk_passage.specs.Room.{Grows}
 use Rattle.lbk_passage.proofs.segments.cut_alone.Given as goal
 
 abbrev pub invariant-loop-start : goal.invariant-loop-start
 invariant-loop-start g l =
-    let all = breaks l.fn.profile (g.C.CellSource.cell_of l.cells) (chars l.text) in
+    let cell = g.C.CellSource.cell_of l.cells in
+    let all = breaks l.fn.profile cell (chars l.text) in
+    let left = left_after l.fn.profile cell l.text l.here in
     record {
-      cut : l.segments.items ++ cut_at l.start l.breaks ≡ l.fn.segments.items ++ cut_at 0 all;
-      within : All (λ one. one.at < 2 ^ 32) l.breaks;
-      count : vec_len l.segments + length l.breaks ≡ vec_len l.fn.segments + length all;
-      room : vec_capacity l.fn.segments ≤ vec_capacity l.segments;
-      most : vec_capacity l.segments ≤ max (vec_capacity l.fn.segments) (2 * vec_len l.segments);
-      grows : vec_len l.fn.segments ≤ vec_len l.segments;
+      found : IsFound l.fn.profile cell l.text l.here;
+      cut : l.segments.items ++ cut_at l.start left ≡ l.fn.segments.items ++ cut_at 0 all;
+      within : All (λ one. one.at < 2 ^ 32) left;
+      count : vec_len l.segments + length left ≡ vec_len l.fn.segments + length all;
+      grows : Grows l.fn.segments l.segments;
     }
 
 abbrev pub decreases-loop-start : goal.decreases-loop-start
-decreases-loop-start g l = length l.breaks
+decreases-loop-start g l = length (left_after l.fn.profile (g.C.CellSource.cell_of l.cells) l.text l.here)

@@ -1,42 +1,63 @@
-use Rattle.std.proofs.Common.{length, take, sym, subst, ◌∙◌, arith}
-use Rattle.std.proofs.lemmas.List.{length-take-le}
-use Rattle.lbk_rules.specs.RowMachineFits.{RowMachineFits}
-use Rattle.lbk_passage.specs.Onward.{IsKept}
-use Rattle.lbk_passage.proofs.ComingLemmas.{IsKept-next, fills-gives}
+use Rattle.std.proofs.Common.{◌≡◌, ◌-◌, ◌+◌, ◌<◌, ◌≤◌, ◌++◌, List, length, drop, not, take, refl, sym, ap, subst, ◌∙◌, arith}
+use Rattle.std.specs.Int.{from_bool}
+use Rattle.std.proofs.Math.Seq.{drop-drop, take-add}
+use Rattle.std.proofs.lemmas.List.{length-drop, length-take}
+use Rattle.lbk_rules.specs.declared.Break.{Break}
+use Rattle.lbk_bytes.specs.Shown.{given_in}
+use Rattle.lbk_passage.specs.Found.{left_after}
+use Rattle.lbk_passage.proofs.FoundLemmas.{fill-smaller, is-ended, left-on}
 use Rattle.lbk_passage.proofs.breaks.Breaks.fill.Goals as goal
+use Rattle.lbk_passage.proofs.breaks.Breaks.fill.Goals.{then-loop-count-test+else-not-here, else-loop-count-test}
 
-pub invariant_of-self : goal.invariant_of-self
-invariant_of-self g c =
+pub loop-count-init : goal.loop-count-init
+loop-count-init g c = record { within = omega arith; found = c.self.invariant; front = refl; rest = refl }
+
+pub loop-count-preserved : goal.loop-count-preserved
+loop-count-preserved g c =
     let i = c.self.inside in
-    let filling = c.fill-filling in
-    let see = g.C.CellSource.cell_of in
-    let cell = see i.cells.now in
-    let old = RowMachineFits see i.machine in
-    let comes = c.self.invariant.comes c.if-self.false in
-    let kept = subst (λ (b : _). IsKept old i.profile cell i.text.now i.taken i.given b) c.if-self.false c.self.invariant in
-    let many = length-take-le filling.result.count filling.new.block (omega (arith, filling.ensures.within)) in
-    IsKept-next filling.result.ended old (RowMachineFits see filling.new.machine) i.profile cell i.text.now i.taken filling.result.at i.given
-    filling.result.count (take filling.result.count filling.new.block) kept filling.ensures.place comes
-    (filling.ensures.filled i.profile cell comes.taken comes.fits) many
+    let cell = g.C.CellSource.cell_of i.cells.now in
+    let l = c.loop-count in
+    let f = c.find-next.ensures in
+    let out = c.find-next.new.out in
+    let n = c.find-next.result.found - l.here.found in
+    let whole = left_after i.profile cell i.text.now i.progress in
+    record {
+      within = omega (arith, f.count, l.invariant.within, length-take c.min-room.result l.raw);
+      found = f.found;
+      front =
+          c.put_breaks.ensures
+          ∙ ap (λ (taken : List Break). taken ++ given_in out n) l.invariant.front
+          ∙ ap (λ (more : List Break). take l.count whole ++ more) (f.front ∙ ap (take n) l.invariant.rest)
+          ∙ sym (take-add l.count n whole);
+      rest =
+          left-on i.profile cell i.text.now l.here c.find-next.result _ out f
+          ∙ ap (drop n) l.invariant.rest
+          ∙ drop-drop n l.count whole;
+    }
+
+pub loop-count-smaller : goal.loop-count-smaller
+loop-count-smaller g c =
+    let l = c.loop-count in
+    let f = c.find-next.ensures in
+    let some = c.find-next.result.found - l.here.found in
+    let long = length-take c.min-room.result l.raw in
+    let same : length c.put_breaks.new.block ≡ length l.block = omega arith in
+    subst (λ b. (length c.put_breaks.new.block - (l.count + some)) + from_bool (not c.find-next.result.ended) < (length l.block - l.count) + from_bool b) (sym c.if-not-here.true)
+    (subst (λ n. (n - (l.count + some)) + from_bool (not c.find-next.result.ended) < (length l.block - l.count) + 1) (sym same)
+    (fill-smaller c.find-next.result.ended some (length (take c.min-room.result l.raw)) l.count (length l.block)
+    (λ goes_on. let all = f.full goes_on in omega (arith, all)) (omega (arith, long)) (omega arith)))
 
 pub returns-clause-count : goal.returns-clause-count
 returns-clause-count g c =
     let i = c.self.inside in
-    let filling = c.fill-filling in
+    let l = c.loop-count in
     let cell = g.C.CellSource.cell_of i.cells.now in
-    let comes = c.self.invariant.comes c.if-self.false in
-    let many = length-take-le filling.result.count filling.new.block (omega (arith, filling.ensures.within)) in
-    (fills-gives filling.result.ended (RowMachineFits g.C.CellSource.cell_of filling.new.machine i.profile cell) i.profile cell i.text.now comes.taken i.taken filling.result.at
-    c.args.self.now (take filling.result.count filling.new.block) filling.result.count (length c.args.block.now)
-    (sym c.self.view_is ∙ comes.to_come) (filling.ensures.filled i.profile cell comes.taken comes.fits) many filling.ensures.within filling.ensures.full).counted
-
-pub returns-clause-front : goal.returns-clause-front
-returns-clause-front g c =
-    let i = c.self.inside in
-    let filling = c.fill-filling in
-    let cell = g.C.CellSource.cell_of i.cells.now in
-    let comes = c.self.invariant.comes c.if-self.false in
-    let many = length-take-le filling.result.count filling.new.block (omega (arith, filling.ensures.within)) in
-    (fills-gives filling.result.ended (RowMachineFits g.C.CellSource.cell_of filling.new.machine i.profile cell) i.profile cell i.text.now comes.taken i.taken filling.result.at
-    c.args.self.now (take filling.result.count filling.new.block) filling.result.count (length c.args.block.now)
-    (sym c.self.view_is ∙ comes.to_come) (filling.ensures.filled i.profile cell comes.taken comes.fits) many filling.ensures.within filling.ensures.full).same
+    let whole = left_after i.profile cell i.text.now i.progress in
+    let all = ap length c.self.view_is in
+    let left = ap length l.invariant.rest ∙ length-drop l.count whole in
+    let given : l.count ≤ length whole =
+    omega (arith, ap length l.invariant.front, length-take l.count l.block, length-take l.count whole, l.invariant.within) in
+    elim c.loop-count-test.branch [
+      | then-loop-count-test+else-not-here w ↦ (let none = ap length (l.invariant.found.none_left (is-ended l.here.ended w.if-not-here.false)) in omega (arith, all, left, none, given, l.invariant.within))
+      | else-loop-count-test w ↦ omega (arith, all, given, l.invariant.within)
+    ]

@@ -4,10 +4,12 @@ use Rattle.lbk_passage.specs.State.{new_state}
 use Rattle.lbk_passage.proofs.segmenter.Segmenter.new.Goals as goal
 
 pub invariant_of-result : goal.invariant_of-result
-invariant_of-result g c = record { whole = λ held. absurd (false≢true (
-    sym (ap (λ s. s.is_settled) (c.in-Ok.ensures.state (g.C.CellSource.cell_of c.args.cells.now) c.args.profile))
-    ∙ ap (λ b. b || c.in-Ok.paragraph.is_spent) held
-    )) }
+invariant_of-result g c = record {
+  whole = λ held. absurd (false≢true (
+      sym (ap (λ s. s.is_settled) (c.in-Ok.ensures.state (g.C.CellSource.cell_of c.args.cells.now) c.args.profile))
+      ∙ ap (λ b. b || c.in-Ok.paragraph.is_spent) held
+      ));
+}
 
 pub returns-clause-state : goal.returns-clause-state
 returns-clause-state g c =

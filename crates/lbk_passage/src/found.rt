@@ -1,0 +1,101 @@
+//! The breaks of a text, found a block at a time by the engine for bytes.
+
+ghost use Rattle.std.specs.Prelude.{◌≡◌, ◌+◌, ◌≤◌, ◌++◌, length, take};
+ghost use Rattle.lbk_rules.specs.declared.Break.{Break};
+ghost use Rattle.lbk_bytes.specs.Order.{AreBreaks};
+ghost use Rattle.lbk_bytes.specs.Shown.{given_in, raw_of};
+ghost use Rattle.lbk_passage.specs.Found.{FindsNext, IsFound};
+
+use lbk_bytes::{FillState, RawBreak, fill, put_end};
+use lbk_rules::{Break, CellSource, CellTable, Profile, verdict_of};
+
+/// How far the breaks of a text were found.
+#[derive(Clone, Copy)]
+pub(crate) struct Progress {
+    /// The place of the row of steps that knows of what was taken.
+    pub(crate) row: usize,
+    /// How many bytes of the text were taken.
+    pub(crate) at: usize,
+    /// How many breaks were found.
+    pub(crate) found: usize,
+    /// Whether the end was found.
+    pub(crate) ended: bool,
+}
+
+/// Before the first break.
+pub(crate) const START: Progress = Progress {
+    row: 0,
+    at: 0,
+    found: 0,
+    ended: false,
+};
+
+/// A break that stands where a block has none.
+pub(crate) const NO_BREAK: RawBreak = RawBreak {
+    at: 0,
+    kind: 0,
+    rule: 0,
+};
+
+/// Writes the next breaks of a text into the front of a block, as many as it holds or all that are left, and returns
+/// how far they were found. With masks blocks of bytes are taken at once: it pays where many breaks are asked for.
+pub(crate) fn find<const MASKS: bool, C: CellSource>(
+    cells: &C,
+    profile: Profile,
+    text: &str,
+    from: Progress,
+    out: &mut [RawBreak],
+) -> Progress
+    requires { IsFound profile (C.cell_of cells.now) text.now from }
+    ensures { FindsNext profile (C.cell_of cells.now) text.now from result (length out.old) out.new }
+{
+    if from.ended {
+        return from;
+    }
+    let table = CellTable::new(cells);
+    let start = FillState {
+        count: 0,
+        row: from.row,
+        at: from.at,
+    };
+    let here = fill::<MASKS, CellTable<'_, C>>(&table, profile, start, text.as_bytes(), out);
+    if here.count == out.len() {
+        return Progress {
+            row: here.row,
+            at: here.at,
+            found: from.found + here.count,
+            ended: false,
+        };
+    }
+    let count = put_end(false, here.row, out, here.count, text.len());
+    Progress {
+        row: here.row,
+        at: here.at,
+        found: from.found + count,
+        ended: true,
+    }
+}
+
+/// A break by its numbers.
+#[inline(always)]
+pub(crate) fn break_of(raw: RawBreak) -> Break
+    ensures { (found : Break) → raw ≡ raw_of found → result ≡ found }
+{
+    let verdict = verdict_of(256 * u16::from(raw.rule) + u16::from(raw.kind));
+    Break {
+        at: raw.at,
+        kind: verdict.kind,
+        rule: verdict.rule,
+    }
+}
+
+/// Writes the breaks in the front of a block of numbers after those in the front of another block.
+pub(crate) fn put_breaks(raw: &[RawBreak], some: usize, block: &mut [Break], count: usize)
+    requires room { (some ≤ length raw.now) × (count + some ≤ length block.old) }
+    requires breaks { AreBreaks raw.now some }
+    ensures { take (count + some) block.new ≡ take count block.old ++ given_in raw.now some }
+{
+    for k in 0..some {
+        block[count + k] = break_of(raw[k]);
+    }
+}
