@@ -31,7 +31,8 @@ pub fn cut_words<C: CellSource>(
     ensures cut { OnOk result (pieces.new.items ≡ pieces_of (C.cell_of known.now.cells.now) text.now) }
     ensures room { vec_capacity pieces.old ≤ vec_capacity pieces.new }
     ensures most { vec_capacity pieces.new ≤ max (vec_capacity pieces.old) (2 * vec_len pieces.new) }
-    ensures full { OnErr result (vec_capacity pieces.old < length (pieces_of (C.cell_of known.now.cells.now) text.now)) }
+    ensures full { OnErr result (vec_capacity pieces.old
+        < length (pieces_of (C.cell_of known.now.cells.now) text.now)) }
 {
     pieces.clear();
     let bytes = text.as_bytes();
@@ -59,7 +60,8 @@ fn cut_block<C: CellSource>(
     requires parts { (to : ℕ) × AreParts text.now start to ends.now }
     ensures cut { IfOk result (λ next. pieces.new.items ++ pieces_on (C.cell_of known.now.cells.now) text.now next
         ≡ pieces.old.items ++ pieces_on (C.cell_of known.now.cells.now) text.now start) }
-    ensures count { IfOk result (λ next. vec_len pieces.new + length (pieces_on (C.cell_of known.now.cells.now) text.now next)
+    ensures count { IfOk result (λ next. vec_len pieces.new
+        + length (pieces_on (C.cell_of known.now.cells.now) text.now next)
         ≡ vec_len pieces.old + length (pieces_on (C.cell_of known.now.cells.now) text.now start)) }
     ensures utf8 { IfOk result (λ next. IsUtf8 (drop next text.now)) }
     ensures within { IfOk result (λ next. next ≤ length text.now) }

@@ -8,8 +8,8 @@ use crate::kind_source::KindSource;
 use crate::neighbours::Neighbours;
 use crate::source::CellSource;
 
-/// What a [`FlatTable`](crate::FlatTable) is, over the cells of a source: it asks the source for the kind of each scalar
-/// but the first ones, and keeps nothing itself.
+/// What a [`FlatTable`](crate::FlatTable) is, over the cells of a source: it asks the source for the kind of each
+/// scalar but the first ones, and keeps nothing itself.
 #[derive(Drop)]
 pub struct CellTable<'a, C: CellSource> {
     cells: &'a C,
