@@ -4,7 +4,6 @@ use Rattle.lbk_uax14.specs.declared.cells.Cell.{Cell}
 use Rattle.lbk_rules.specs.declared.row_machine.RowMachine.{RowMachine}
 use Rattle.lbk_values.specs.declared.profile.Profile.{Profile}
 use Rattle.lbk_uax14.specs.Facts.{facts}
-use Rattle.lbk_rules.specs.Kinds.{AreKindsOf}
 use Rattle.lbk_rules.specs.Rows.{left_at}
 pub use Rattle.lbk_uax14.specs.Normal.{normals}
 
@@ -12,6 +11,5 @@ pub use Rattle.lbk_uax14.specs.Normal.{normals}
 pub record RowMachineFits {C : Type 0} (cell_of : C → ℕ → Cell) (machine : RowMachine C) (profile : Profile) (cell : ℕ
     → Cell) (taken : List ℕ) : Type 0 where
   pub cell_same : cell ≡ cell_of machine.cells.now
-  pub kinds_same : AreKindsOf (cell_of machine.cells.now) machine.kinds.now
   pub profile_same : machine.row.profile ≡ profile
   pub row_same : facts (reverse (normals cell taken)) ≡ left_at machine.row.place

@@ -9,7 +9,6 @@
 //! `lbk_passage` finds the breaks of a text in memory, and is faster still.
 #![tactic(auto)]
 
-mod ahead;
 mod cell_table;
 mod class_labels;
 mod first_bytes;
@@ -47,7 +46,6 @@ pub use kind_source::KindSource;
 pub use kinds::KINDS;
 pub use lbk_uax14::{Before, Left, is_second, unless_held};
 pub use neighbours::Neighbours;
-pub use row_machine::RowMachine;
 pub use steps::{
     HELD, Rows, Step, WIDTH, each_side_has_a_row, number_at, place_by, rows_of, shown_by,
     shows_break, step_at, step_in, steps_decide, verdict_of,

@@ -1,11 +1,8 @@
 //! The machine that steps by the rows of steps.
 
-ghost use Rattle.std.specs.Prelude.{◌≡◌, ◌+◌, ◌<◌, ℕ, List, [], ◌∷◌, ◌++◌, length, map, reverse, true, false, ⊤};
-ghost use Rattle.std.specs.Prelude.{IfNone, IfSome};
-ghost use Rattle.lbk_rules.specs.Kinds.{kind_of};
+ghost use Rattle.std.specs.Prelude.{◌≡◌, ◌+◌, ◌<◌, ℕ, List, [], ◌∷◌, ◌++◌, length, map, reverse, false, ⊤};
 ghost use Rattle.lbk_rules.specs.Rows.{IsPlace, steps_in};
 
-use crate::ahead::closes_in;
 use crate::kinds::cell_of_kind;
 use crate::source::CellSource;
 use crate::steps::{Rows, Step, knows_some, left_of, rows_of, step_at, verdict_of};
@@ -31,11 +28,9 @@ struct Row {
 }
 
 /// Decides the positions of a text one after another by the rows of steps: two reads a scalar (UAX #14, section 6). It
-/// is what hot loops step by. It holds no position: where rule 15b may decide, the caller looks ahead or waits.
-pub struct RowMachine<'a, C: CellSource> {
+/// holds no position: where rule 15b may decide, the caller waits.
+pub(crate) struct RowMachine<'a, C: CellSource> {
     cells: &'a C,
-    /// The kinds of the first codes, kept here so that a loop reads them without asking the source where they are.
-    kinds: &'a [u8],
     /// The row that knows what the rules ask of the cells taken.
     row: Row,
 }
@@ -61,16 +56,14 @@ impl<'a, C: CellSource> RowMachine<'a, C> {
     ghost use Rattle.lbk_uax14.specs.Normal.{normal};
     ghost use Rattle.lbk_rules.specs.Rows.{left_at, shown_of};
     ghost use Rattle.lbk_rules.specs.RowMachineFits.{RowMachineFits, normals};
-    ghost use Rattle.lbk_uax14.specs.Verdict.{verdict_between_in, verdict_in};
-    ghost use Rattle.std.specs.Str.{chars};
+    ghost use Rattle.lbk_uax14.specs.Verdict.{verdict_in};
 
     /// A machine of this profile that has taken no scalar.
-    pub fn start(cells: &'a C, profile: Profile) -> RowMachine<'a, C>
+    pub(crate) fn start(cells: &'a C, profile: Profile) -> RowMachine<'a, C>
         ensures { RowMachineFits C.cell_of result profile (C.cell_of cells.now) [] }
     {
         RowMachine {
             cells,
-            kinds: cells.kinds(),
             row: Row {
                 profile,
                 steps: rows_of(profile),
@@ -82,7 +75,7 @@ impl<'a, C: CellSource> RowMachine<'a, C> {
     /// Takes the next scalar: the verdict of the position before it, whatever follows, unless it is by rule 15b.
     /// Exactly then the position is held, and what follows decides it.
     #[inline]
-    pub fn step(&mut self, c: char) -> Verdict
+    pub(crate) fn step(&mut self, c: char) -> Verdict
         ensures held { (profile : Profile) (cell : ℕ → Cell) (taken : List ℕ) (more : List Cell)
             → RowMachineFits C.cell_of self.old profile cell taken
             → is_held profile (map cell taken) (cell c ∷ more) ≡ is_15b result.rule }
@@ -98,30 +91,6 @@ impl<'a, C: CellSource> RowMachine<'a, C> {
         verdict_of(step.shown)
     }
 
-    /// Takes the next scalar and returns the verdict before it. Returns `None`, and does not take the scalar, if that
-    /// position is held.
-    #[inline(always)]
-    pub fn step_unless_held(&mut self, c: char) -> Option<Verdict>
-        ensures decides { (profile : Profile) (cell : ℕ → Cell) (taken : List ℕ) (more : List Cell)
-            → RowMachineFits C.cell_of self.old profile cell taken
-            → IfSome result (λ verdict. verdict ≡ verdict_in profile (map cell taken ++ cell c ∷ more) (length taken)) }
-        ensures fits { (profile : Profile) (cell : ℕ → Cell) (taken : List ℕ)
-            → RowMachineFits C.cell_of self.old profile cell taken
-            → IfSome result (λ _. RowMachineFits C.cell_of self.new profile cell (taken ++ c ∷ [])) }
-        ensures held { (profile : Profile) (cell : ℕ → Cell) (taken : List ℕ) (more : List Cell)
-            → RowMachineFits C.cell_of self.old profile cell taken
-            → IfNone result (is_held profile (map cell taken) (cell c ∷ more) ≡ true) }
-        ensures stays { IfNone result (self.new ≡ self.old) }
-    {
-        let step = self.step_by(c);
-        let verdict = verdict_of(step.shown);
-        if verdict.rule.is_15b() {
-            return None;
-        }
-        self.row.place = usize::from(step.next);
-        Some(verdict)
-    }
-
     /// The step by `c`, with the number of the verdict where nothing follows.
     #[inline(always)]
     fn step_by(&self, c: char) -> Step
@@ -133,20 +102,7 @@ impl<'a, C: CellSource> RowMachine<'a, C> {
             → RowMachineFits C.cell_of self.now profile cell taken
             → result.shown ≡ shown_of (from_cells profile (reverse (map cell taken)) (cell c ∷ [])) }
     {
-        *step_at(self.row.steps, self.row.place, self.kind(c))
-    }
-
-    /// The kind of `c`.
-    #[inline(always)]
-    fn kind(&self, c: char) -> u8
-        ensures { (profile : Profile) (cell : ℕ → Cell) (taken : List ℕ)
-            → RowMachineFits C.cell_of self.now profile cell taken
-            → result ≡ kind_of (cell c) }
-    {
-        match self.kinds.get(c as usize) {
-            Some(kind) => *kind,
-            None => kind_in(self.cells, c),
-        }
+        *step_at(self.row.steps, self.row.place, self.cells.kind(c))
     }
 
     /// What it knows of the cells that it has taken.
@@ -176,25 +132,8 @@ impl<'a, C: CellSource> RowMachine<'a, C> {
         self.row.profile
     }
 
-    /// The verdict of the position before `c`, where `rest` is the text after it, up to its end: also where the
-    /// position is held.
-    pub fn look_ahead(&self, c: char, rest: &str) -> Verdict
-        ensures { (profile : Profile) (cell : ℕ → Cell) (taken : List ℕ)
-            → RowMachineFits C.cell_of self.now profile cell taken
-            → result ≡ verdict_between_in profile (map cell taken) (cell c ∷ map cell (chars rest.now)) }
-    {
-        let mut machine = *self;
-        if let Some(verdict) = machine.step_unless_held(c) {
-            return verdict;
-        }
-        let profile = self.profile();
-        let cell = self.cell(c);
-        let closes = closes_in(profile, self.cells, cell.class, rest);
-        self.left().verdict(profile, cell, closes)
-    }
-
     /// The verdict of the position after all scalars taken, where the text ends.
-    pub fn finish(&self) -> Verdict
+    pub(crate) fn finish(&self) -> Verdict
         ensures { (profile : Profile) (cell : ℕ → Cell) (taken : List ℕ)
             → RowMachineFits C.cell_of self.now profile cell taken
             → result ≡ verdict_in profile (map cell taken) (length taken) }
@@ -204,13 +143,4 @@ impl<'a, C: CellSource> RowMachine<'a, C> {
         }
         self.left().verdict_at_end()
     }
-}
-
-/// The kind of `c` by the source itself, out of the way of a loop that reads kinds.
-#[cold]
-#[inline(never)]
-fn kind_in<C: CellSource>(cells: &C, c: char) -> u8
-    ensures { result ≡ kind_of (C.cell_of cells.now c) }
-{
-    cells.kind(c)
 }

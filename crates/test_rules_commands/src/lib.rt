@@ -31,7 +31,6 @@ mod guide;
 #[cfg(test)]
 mod laws;
 #[cfg(test)]
-mod looking_ahead;
 #[cfg(test)]
 mod owned_passages;
 #[cfg(test)]

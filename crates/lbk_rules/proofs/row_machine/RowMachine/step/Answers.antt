@@ -17,7 +17,6 @@ returns-clause-decides g c = λ profile cell taken more fits.
 pub returns-clause-fits : goal.returns-clause-fits
 returns-clause-fits g c = λ profile cell taken fits. record {
   cell_same = fits.cell_same;
-  kinds_same = fits.kinds_same;
   profile_same = fits.profile_same;
   row_same = c.step_by-step.ensures.leads profile cell taken fits ∙ ap left_at (sym c.from-self.ensures);
 }
