@@ -2,13 +2,14 @@
 use Rattle.std.proofs.Common.{◌≡◌, ◌≤◌, ◌∙◌, ℕ, Bool, true, false, List, [], ◌∷◌, ◌++◌, Option, Some, None, inl, inr}
 use Rattle.std.proofs.Common.{refl, sym, ap, ap₂, subst, codes, arith}
 use Rattle.std.proofs.lemmas.Bool.{le-leb}
-use Rattle.std.specs.Prelude.{◌==◌, ◌/◌, ◌⊎◌, if◌then◌else◌, option_and_then, option_map}
+use Rattle.std.specs.Prelude.{◌==◌, ◌/◌, ◌⊎◌, if◌then◌else◌, is_some, option_and_then, option_map, ⊤}
 use Rattle.std.specs.Fmt.{decimal}
 use Rattle.std.specs.Str.{chars}
-use Rattle.clap.specs.Faults.{fault_of}
+use Rattle.clap.specs.Faults.{check_fault, defaults_fault, entered_fault, fault_of, level_fault, settle_fault, turn_fault}
 use Rattle.clap.specs.Kinds.{Kinds, or_else, value_kinds}
-use Rattle.clap.specs.Simple.{Shape, built, built_leaf, filled, inherited, marked_built, with_index, with_leaf_noted}
-use Rattle.clap.specs.Walk.{Held, Row, Rule, Text, Walk, finished, idle, nothing_held, reading_by}
+use Rattle.clap.specs.Simple.{Shape, built, built_leaf, entered, filled, inherited, marked_built, with_index, with_leaf_noted}
+use Rattle.clap.specs.Walk.{Held, Row, Rule, Text, Waiting, Walk, arg_by_id, finished, idle, nothing_held, option}
+use Rattle.clap.specs.Walk.{option_word, reading_by, rows_after, settled, walked}
 use Rattle.clap.specs.declared.builder.value_parser.ValueParser.TheVariants.{Unsigned}
 use Rattle.clap.specs.declared.error.kind.ErrorKind.TheVariants.{ValueValidation}
 use Rattle.clap.specs.declared.parser.matches.ValueSource.TheVariants.{CommandLine}
@@ -24,11 +25,11 @@ use Rattle.lbk_feed.specs.Text.{greatest_limit}
 use Rattle.lbk_args.specs.Command.{chunk_app, default_limit, default_limit_text, flag_rule, lbk_app, limited_app}
 use Rattle.lbk_args.specs.Command.{mark_app, number_rule, profile_rule, replay_app, size_rule, texts_flag_rule}
 use Rattle.lbk_args.specs.Command.{value_rule}
-use Rattle.lbk_args.specs.PlainWords.{AreEngineWords, AreFlagWords, AreFolderWords, AreFourWords, AreKindsWords}
-use Rattle.lbk_args.specs.PlainWords.{AreLimitWords, AreProfileWords, IsPlainFor, IsPlainName, folder_files}
+use Rattle.lbk_args.specs.PlainWords.{AreEngineWords, AreFlagWords, AreFolderWords, AreFourWords}
+use Rattle.lbk_args.specs.PlainWords.{AreProfileWords, IsPlainFor, IsPlainName, folder_files}
 use Rattle.lbk_args.specs.PlainWords.{given_files, name_of_engine, profile_word, sizes_of}
-use Rattle.lbk_args.specs.Task.{NamedFiles, Task, files_in, limit_in, number_or, names_in, part_in, profile_in, sign_in}
-use Rattle.lbk_args.specs.Task.{task_by, task_in, texts_in}
+use Rattle.lbk_args.specs.Task.{NamedFiles, Task, files_in, kinds_in, limit_in, number_or, names_in, part_in, profile_in, sign_in}
+use Rattle.lbk_args.specs.Task.{sizes_in, task_by, task_in, texts_in, with_texts_in}
 use Rattle.lbk_args.specs.Sign.{default_sign}
 use Rattle.lbk_args.proofs.Numerals.{limit_plain, limit_read, limit_taken}
 use Rattle.lbk_args.proofs.Steps.{Enters, Takes, Walks, between, done, entered_clean, entered_rows, pair, step, taken}
@@ -140,88 +141,57 @@ performs words task clean asks fits = record {
   asks = asks;
 }
 
-enters_mark : Enters (built lbk_app) (codes "mark")
-unfolding clap_on_literals
-enters_mark = record { walks = refl; clean = refl; defaults = refl }
+-- ---- the subcommands
 
-enters_show : Enters (built lbk_app) (codes "show")
-unfolding clap_on_literals
-enters_show = record { walks = refl; clean = refl; defaults = refl }
-
-enters_segment : Enters (built lbk_app) (codes "segment")
-unfolding clap_on_literals
-enters_segment = record { walks = refl; clean = refl; defaults = refl }
-
-enters_chunk : Enters (built lbk_app) (codes "chunk")
-unfolding clap_on_literals
-enters_chunk = record { walks = refl; clean = refl; defaults = refl }
-
-enters_replay : Enters (built lbk_app) (codes "replay")
-unfolding clap_on_literals
-enters_replay = record { walks = refl; clean = refl; defaults = refl }
-
--- the subcommands over texts: `mark`, and those without a sign
+-- those over texts are one but for `mark`, which has a sign
 data Sub : Type 0 where
   marks : Sub
   limits : Text → Sub
+  chunks : Sub
+  replays : Sub
 
-abbrev limited_shape : Sub → Shape
-limited_shape marks = sub mark_app.top
-limited_shape (limits name) = sub (limited_app name).top
+abbrev shape_of : Sub → Shape
+shape_of marks = sub mark_app.top
+shape_of (limits name) = sub (limited_app name).top
+shape_of chunks = sub chunk_app.top
+shape_of replays = sub replay_app.top
 
-abbrev chunk_shape : Shape
-chunk_shape = sub chunk_app.top
+-- the program leaves the words behind a name to the subcommand
+record Leaves (name : Text) (s : Shape) : Type 0 where
+  enters : Enters (built lbk_app) name
+  clean : (words : List Text) → entered_fault (built lbk_app) (Some (name, words))
+      ≡ level_fault s [] nothing_held words false []
+  checks : (words : List Text) → check_fault (built lbk_app).top (finished (built lbk_app).top.rules nothing_held)
+      (is_some (entered (built lbk_app) (Some (name, words)))) ≡ []
+  rows : (words : List Text) → entered (built lbk_app) (Some (name, words)) ≡ Some (name, rows_after s.rules [] words)
 
-abbrev replay_shape : Shape
-replay_shape = sub replay_app.top
+leaves_mark : Leaves (codes "mark") (shape_of marks)
+unfolding clap_on_literals
+leaves_mark = record { enters = record { walks = refl; clean = refl; defaults = refl }; clean = λ w. refl; checks = λ w. refl; rows = λ w. refl }
 
-mark_performs : (words : List Text) (rows : List Row) (task : Task) → Takes (limited_shape marks) words rows
-    → task_in (codes "mark", rows) ≡ Some task → task_fault (Some task) ≡ [] → Performs (codes "mark" ∷ words) task
-mark_performs words rows task takes same fits =
-    performs (codes "mark" ∷ words) task (entered_clean (built lbk_app) (codes "mark") words enters_mark takes.clean
-    refl)
-    (ap (option_and_then task_in)
-    (entered_rows (built lbk_app) (codes "mark") words enters_mark
-    ∙ ap (λ (r : List Row). Some (codes "mark", r)) takes.rows_are) ∙ same) fits
+leaves_show : Leaves (codes "show") (shape_of (limits (codes "show")))
+unfolding clap_on_literals
+leaves_show = record { enters = record { walks = refl; clean = refl; defaults = refl }; clean = λ w. refl; checks = λ w. refl; rows = λ w. refl }
 
-show_performs : (words : List Text) (rows : List Row) (task : Task)
-    → Takes (limited_shape (limits (codes "show"))) words rows
-    → task_in (codes "show", rows) ≡ Some task → task_fault (Some task) ≡ [] → Performs (codes "show" ∷ words) task
-show_performs words rows task takes same fits =
-    performs (codes "show" ∷ words) task (entered_clean (built lbk_app) (codes "show") words enters_show takes.clean
-    refl)
-    (ap (option_and_then task_in)
-    (entered_rows (built lbk_app) (codes "show") words enters_show
-    ∙ ap (λ (r : List Row). Some (codes "show", r)) takes.rows_are) ∙ same) fits
+leaves_segment : Leaves (codes "segment") (shape_of (limits (codes "segment")))
+unfolding clap_on_literals
+leaves_segment = record { enters = record { walks = refl; clean = refl; defaults = refl }; clean = λ w. refl; checks = λ w. refl; rows = λ w. refl }
 
-segment_performs : (words : List Text) (rows : List Row) (task : Task)
-    → Takes (limited_shape (limits (codes "segment"))) words rows
-    → task_in (codes "segment", rows) ≡ Some task → task_fault (Some task) ≡ []
-    → Performs (codes "segment" ∷ words) task
-segment_performs words rows task takes same fits =
-    performs (codes "segment" ∷ words) task (entered_clean (built lbk_app) (codes "segment") words enters_segment
-    takes.clean refl)
-    (ap (option_and_then task_in)
-    (entered_rows (built lbk_app) (codes "segment") words enters_segment
-    ∙ ap (λ (r : List Row). Some (codes "segment", r)) takes.rows_are) ∙ same) fits
+leaves_chunk : Leaves (codes "chunk") (shape_of chunks)
+unfolding clap_on_literals
+leaves_chunk = record { enters = record { walks = refl; clean = refl; defaults = refl }; clean = λ w. refl; checks = λ w. refl; rows = λ w. refl }
 
-chunk_performs : (words : List Text) (rows : List Row) (task : Task) → Takes chunk_shape words rows
-    → task_in (codes "chunk", rows) ≡ Some task → task_fault (Some task) ≡ [] → Performs (codes "chunk" ∷ words) task
-chunk_performs words rows task takes same fits =
-    performs (codes "chunk" ∷ words) task (entered_clean (built lbk_app) (codes "chunk") words enters_chunk takes.clean
-    refl)
-    (ap (option_and_then task_in)
-    (entered_rows (built lbk_app) (codes "chunk") words enters_chunk
-    ∙ ap (λ (r : List Row). Some (codes "chunk", r)) takes.rows_are) ∙ same) fits
+leaves_replay : Leaves (codes "replay") (shape_of replays)
+unfolding clap_on_literals
+leaves_replay = record { enters = record { walks = refl; clean = refl; defaults = refl }; clean = λ w. refl; checks = λ w. refl; rows = λ w. refl }
 
-replay_performs : (words : List Text) (rows : List Row) (task : Task) → Takes replay_shape words rows
-    → task_in (codes "replay", rows) ≡ Some task → task_fault (Some task) ≡ [] → Performs (codes "replay" ∷ words) task
-replay_performs words rows task takes same fits =
-    performs (codes "replay" ∷ words) task (entered_clean (built lbk_app) (codes "replay") words enters_replay
-    takes.clean refl)
-    (ap (option_and_then task_in)
-    (entered_rows (built lbk_app) (codes "replay") words enters_replay
-    ∙ ap (λ (r : List Row). Some (codes "replay", r)) takes.rows_are) ∙ same) fits
+sub_performs : (name : Text) (s : Shape) (words : List Text) (rows : List Row) (task : Task) → Leaves name s → Takes s words rows
+    → task_in (name, rows) ≡ Some task → task_fault (Some task) ≡ [] → Performs (name ∷ words) task
+sub_performs name s words rows task leaves takes same fits =
+    performs (name ∷ words) task
+    (entered_clean (built lbk_app) name words leaves.enters (leaves.clean words ∙ takes.clean) (leaves.checks words))
+    (ap (option_and_then task_in) (entered_rows (built lbk_app) name words leaves.enters ∙ leaves.rows words
+    ∙ ap (λ (r : List Row). Some (name, r)) takes.rows_are) ∙ same) fits
 
 -- ---- the words behind the files
 
@@ -266,18 +236,15 @@ profile_read Second = refl
 abbrev settled_held : List Row → Held
 settled_held rows = record { rows = rows; pending = None; skip = 0 }
 
--- what is held behind `--limit`, `--most`, `--text`, `--profile` and `--kinds`
-abbrev behind_limit : Files → Text → Held
-behind_limit fs d = pending (file_rows fs) (codes "limit") (d ∷ [])
-
-abbrev behind_most : Files → Text → Held
-behind_most fs d = pending (file_rows fs) (codes "most") (d ∷ [])
-
+-- the rows behind `--limit`, `--most`, `--text` and `--kinds`, and what is held at `--profile` and behind it
 abbrev most_rows : Files → Text → List Row
 most_rows fs d = file_rows fs ++ found most_rule d ∷ []
 
 abbrev text_rows : Files → Text → List Row
 text_rows fs d = file_rows fs ++ found most_rule d ∷ found built_texts_rule (codes "true") ∷ []
+
+abbrev behind_profile_word : List Row → Held
+behind_profile_word rows = pending rows (codes "profile") []
 
 abbrev behind_profile : List Row → Text → Held
 behind_profile rows p = pending rows (codes "profile") (p ∷ [])
@@ -288,333 +255,186 @@ limit_rows fs d = file_rows fs ++ found limit_rule d ∷ []
 abbrev kinds_rows : Files → List Row
 kinds_rows fs = file_rows fs ++ found kinds_rule (codes "true") ∷ []
 
-limited_alone : (which : Sub) (fs : Files) → ArePlain fs
-    → Takes (limited_shape which) (words_before fs []) (finished (limited_shape which).rules (behind fs))
+-- the words of a subcommand's own options: of a limit, or none; of the greatest size, or of it and `--text`; `--kinds`, or
+-- none
+data Own : Type 0 where
+  fewer : Text → Own
+  fuller : Text → Own
+
+abbrev own_words : Sub → Own → List Text → List Text
+own_words marks (fuller d) rest = codes "--limit" ∷ d ∷ rest
+own_words (limits name) (fuller d) rest = codes "--limit" ∷ d ∷ rest
+own_words chunks (fewer d) rest = codes "--most" ∷ d ∷ rest
+own_words chunks (fuller d) rest = codes "--most" ∷ d ∷ codes "--text" ∷ rest
+own_words replays (fuller d) rest = codes "--kinds" ∷ rest
+own_words _ _ rest = rest
+
+-- a number that the option takes
+abbrev IsOwn : Sub → Own → Type 0
+IsOwn marks (fuller d) = IsPlainName d × IsLimitText d
+IsOwn (limits name) (fuller d) = IsPlainName d × IsLimitText d
+IsOwn chunks (fewer d) = IsPlainName d × IsLimitText d
+IsOwn chunks (fuller d) = IsPlainName d × IsLimitText d
+IsOwn _ _ = ⊤
+
+-- what is held behind them, and the rows once it is settled
+abbrev own_held : Sub → Own → Files → Held
+own_held marks (fuller d) fs = pending (file_rows fs) (codes "limit") (d ∷ [])
+own_held (limits name) (fuller d) fs = pending (file_rows fs) (codes "limit") (d ∷ [])
+own_held chunks (fewer d) fs = pending (file_rows fs) (codes "most") (d ∷ [])
+own_held chunks (fuller d) fs = settled_held (text_rows fs d)
+own_held replays (fuller d) fs = settled_held (kinds_rows fs)
+own_held _ _ fs = behind fs
+
+abbrev own_rows : Sub → Own → Files → List Row
+own_rows marks (fuller d) fs = limit_rows fs d
+own_rows (limits name) (fuller d) fs = limit_rows fs d
+own_rows chunks (fewer d) fs = most_rows fs d
+own_rows chunks (fuller d) fs = text_rows fs d
+own_rows replays (fuller d) fs = kinds_rows fs
+own_rows _ _ fs = file_rows fs
+
+-- `--profile` settles what is held, and takes the next word
+record Opens (s : Shape) (h : Held) (rows : List Row) : Type 0 where
+  walks : walked s.rules [] (between h idle) (codes "--profile") ≡ between (behind_profile_word rows) (option (codes "profile"))
+  clean : turn_fault s [] (between h idle) (codes "--profile") ≡ []
+  takes : (p : Text) → ◌≡◌ {A = Held × Waiting} (option_word (arg_by_id s.rules (codes "profile")) (codes "profile") p (behind_profile_word rows))
+      (behind_profile rows p, idle)
+
+-- the words may end where this is held
+record Ends (s : Shape) (h : Held) : Type 0 where
+  settles : settle_fault s.rules s.args_override_self h ≡ []
+  defaults : defaults_fault (settled s.rules h).rows s.rules ≡ []
+  checks : check_fault s (finished s.rules h) false ≡ []
+
+own_walk : (which : Sub) (own : Own) (fs : Files) (rest : List Text) (end : Walk) → IsOwn which own
+    → Walks (shape_of which) (between (own_held which own fs) idle) rest end
+    → Walks (shape_of which) (between (behind fs) idle) (own_words which own rest) end
 unfolding clap_on_literals
-limited_alone marks (folder u) plain =
-    taken (limited_shape marks) (words_before (folder u) []) (between (behind (folder u)) idle)
-    (walked_files (limited_shape marks) _ (folder u) [] _ plain (done (limited_shape marks) _)) refl refl refl
-limited_alone (limits name) (folder u) plain =
-    taken (limited_shape (limits name)) (words_before (folder u) []) (between (behind (folder u)) idle)
-    (walked_files (limited_shape (limits name)) _ (folder u) [] _ plain (done (limited_shape (limits name)) _)) refl
-    refl refl
-limited_alone marks (four l e c m) plain =
-    taken (limited_shape marks) (words_before (four l e c m) []) (between (behind (four l e c m)) idle)
-    (walked_files (limited_shape marks) _ (four l e c m) [] _ plain (done (limited_shape marks) _)) refl refl refl
-limited_alone (limits name) (four l e c m) plain =
-    taken (limited_shape (limits name)) (words_before (four l e c m) []) (between (behind (four l e c m)) idle)
-    (walked_files (limited_shape (limits name)) _ (four l e c m) [] _ plain (done (limited_shape (limits name)) _)) refl
-    refl refl
+own_walk marks (fewer d) (folder u) rest end fits further = further
+own_walk marks (fewer d) (four l e c m) rest end fits further = further
+own_walk marks (fuller d) (folder u) rest end fits further =
+    pair (shape_of marks) (behind (folder u)) (pending (file_rows (folder u)) (codes "limit") []) (pending (file_rows (folder u)) (codes "limit") (d ∷ []))
+    (codes "limit") (codes "--limit") d rest end refl refl fits.0 refl further
+own_walk marks (fuller d) (four l e c m) rest end fits further =
+    pair (shape_of marks) (behind (four l e c m)) (pending (file_rows (four l e c m)) (codes "limit") []) (pending (file_rows (four l e c m)) (codes "limit") (d ∷ []))
+    (codes "limit") (codes "--limit") d rest end refl refl fits.0 refl further
+own_walk (limits name) (fewer d) (folder u) rest end fits further = further
+own_walk (limits name) (fewer d) (four l e c m) rest end fits further = further
+own_walk (limits name) (fuller d) (folder u) rest end fits further =
+    pair (shape_of (limits name)) (behind (folder u)) (pending (file_rows (folder u)) (codes "limit") []) (pending (file_rows (folder u)) (codes "limit") (d ∷ []))
+    (codes "limit") (codes "--limit") d rest end refl refl fits.0 refl further
+own_walk (limits name) (fuller d) (four l e c m) rest end fits further =
+    pair (shape_of (limits name)) (behind (four l e c m)) (pending (file_rows (four l e c m)) (codes "limit") []) (pending (file_rows (four l e c m)) (codes "limit") (d ∷ []))
+    (codes "limit") (codes "--limit") d rest end refl refl fits.0 refl further
+own_walk chunks (fewer d) (folder u) rest end fits further =
+    pair (shape_of chunks) (behind (folder u)) (pending (file_rows (folder u)) (codes "most") []) (pending (file_rows (folder u)) (codes "most") (d ∷ []))
+    (codes "most") (codes "--most") d rest end refl refl fits.0 refl further
+own_walk chunks (fewer d) (four l e c m) rest end fits further =
+    pair (shape_of chunks) (behind (four l e c m)) (pending (file_rows (four l e c m)) (codes "most") []) (pending (file_rows (four l e c m)) (codes "most") (d ∷ []))
+    (codes "most") (codes "--most") d rest end refl refl fits.0 refl further
+own_walk chunks (fuller d) (folder u) rest end fits further =
+    pair (shape_of chunks) (behind (folder u)) (pending (file_rows (folder u)) (codes "most") []) (pending (file_rows (folder u)) (codes "most") (d ∷ []))
+    (codes "most") (codes "--most") d (codes "--text" ∷ rest) end refl refl fits.0 refl
+    (step (shape_of chunks) (between (pending (file_rows (folder u)) (codes "most") (d ∷ [])) idle) (between (settled_held (text_rows (folder u) d)) idle) end
+    (codes "--text") rest refl (ap (λ (ks : Kinds). or_else (or_else (or_else ks []) []) []) fits.1) further)
+own_walk chunks (fuller d) (four l e c m) rest end fits further =
+    pair (shape_of chunks) (behind (four l e c m)) (pending (file_rows (four l e c m)) (codes "most") []) (pending (file_rows (four l e c m)) (codes "most") (d ∷ []))
+    (codes "most") (codes "--most") d (codes "--text" ∷ rest) end refl refl fits.0 refl
+    (step (shape_of chunks) (between (pending (file_rows (four l e c m)) (codes "most") (d ∷ [])) idle) (between (settled_held (text_rows (four l e c m) d)) idle) end
+    (codes "--text") rest refl (ap (λ (ks : Kinds). or_else (or_else (or_else ks []) []) []) fits.1) further)
+own_walk replays (fewer d) (folder u) rest end fits further = further
+own_walk replays (fewer d) (four l e c m) rest end fits further = further
+own_walk replays (fuller d) (folder u) rest end fits further =
+    step (shape_of replays) (between (behind (folder u)) idle) (between (settled_held (kinds_rows (folder u))) idle) end (codes "--kinds") rest refl refl further
+own_walk replays (fuller d) (four l e c m) rest end fits further =
+    step (shape_of replays) (between (behind (four l e c m)) idle) (between (settled_held (kinds_rows (four l e c m))) idle) end (codes "--kinds") rest refl refl further
 
-limited_profile : (which : Sub) (fs : Files) (p : Text) → ArePlain fs → IsPlainName p → IsProfileText p
-    → Takes (limited_shape which) (words_before fs (codes "--profile" ∷ p ∷ []))
-    (finished (limited_shape which).rules (behind_profile (file_rows fs) p))
+own_opens : (which : Sub) (own : Own) (fs : Files) → IsOwn which own → Opens (shape_of which) (own_held which own fs) (own_rows which own fs)
 unfolding clap_on_literals
-limited_profile marks (folder u) p plain pp good =
-    let s = limited_shape marks in
-    taken s (words_before (folder u) (codes "--profile" ∷ p ∷ []))
-    (between (behind_profile (file_rows (folder u)) p) idle)
-    (walked_files s _ (folder u) _ _ plain
-    (pair s (behind (folder u)) (pending (file_rows (folder u)) (codes "profile") [])
-    (behind_profile (file_rows (folder u)) p) (codes "profile") (codes "--profile")
-    p [] _ refl refl pp refl (done s _))) (ap (λ (ks : Kinds). or_else ks []) good) refl refl
-limited_profile (limits name) (folder u) p plain pp good =
-    let s = limited_shape (limits name) in
-    taken s (words_before (folder u) (codes "--profile" ∷ p ∷ []))
-    (between (behind_profile (file_rows (folder u)) p) idle)
-    (walked_files s _ (folder u) _ _ plain
-    (pair s (behind (folder u)) (pending (file_rows (folder u)) (codes "profile") [])
-    (behind_profile (file_rows (folder u)) p) (codes "profile") (codes "--profile")
-    p [] _ refl refl pp refl (done s _))) (ap (λ (ks : Kinds). or_else ks []) good) refl refl
-limited_profile marks (four l e c m) p plain pp good =
-    let s = limited_shape marks in
-    taken s (words_before (four l e c m) (codes "--profile" ∷ p ∷ []))
-    (between (behind_profile (file_rows (four l e c m)) p) idle)
-    (walked_files s _ (four l e c m) _ _ plain
-    (pair s (behind (four l e c m)) (pending (file_rows (four l e c m)) (codes "profile") [])
-    (behind_profile (file_rows (four l e c m)) p) (codes "profile") (codes "--profile")
-    p [] _ refl refl pp refl (done s _))) (ap (λ (ks : Kinds). or_else ks []) good) refl refl
-limited_profile (limits name) (four l e c m) p plain pp good =
-    let s = limited_shape (limits name) in
-    taken s (words_before (four l e c m) (codes "--profile" ∷ p ∷ []))
-    (between (behind_profile (file_rows (four l e c m)) p) idle)
-    (walked_files s _ (four l e c m) _ _ plain
-    (pair s (behind (four l e c m)) (pending (file_rows (four l e c m)) (codes "profile") [])
-    (behind_profile (file_rows (four l e c m)) p) (codes "profile") (codes "--profile")
-    p [] _ refl refl pp refl (done s _))) (ap (λ (ks : Kinds). or_else ks []) good) refl refl
+own_opens marks (fewer d) (folder u) fits = record { walks = refl; clean = refl; takes = λ p. refl }
+own_opens marks (fewer d) (four l e c m) fits = record { walks = refl; clean = refl; takes = λ p. refl }
+own_opens marks (fuller d) (folder u) fits = record { walks = refl; clean = ap (λ (ks : Kinds). or_else (or_else ks []) []) fits.1; takes = λ p. refl }
+own_opens marks (fuller d) (four l e c m) fits = record { walks = refl; clean = ap (λ (ks : Kinds). or_else (or_else ks []) []) fits.1; takes = λ p. refl }
+own_opens (limits name) (fewer d) (folder u) fits = record { walks = refl; clean = refl; takes = λ p. refl }
+own_opens (limits name) (fewer d) (four l e c m) fits = record { walks = refl; clean = refl; takes = λ p. refl }
+own_opens (limits name) (fuller d) (folder u) fits = record { walks = refl; clean = ap (λ (ks : Kinds). or_else (or_else ks []) []) fits.1; takes = λ p. refl }
+own_opens (limits name) (fuller d) (four l e c m) fits = record { walks = refl; clean = ap (λ (ks : Kinds). or_else (or_else ks []) []) fits.1; takes = λ p. refl }
+own_opens chunks (fewer d) (folder u) fits = record { walks = refl; clean = ap (λ (ks : Kinds). or_else (or_else ks []) []) fits.1; takes = λ p. refl }
+own_opens chunks (fewer d) (four l e c m) fits = record { walks = refl; clean = ap (λ (ks : Kinds). or_else (or_else ks []) []) fits.1; takes = λ p. refl }
+own_opens chunks (fuller d) (folder u) fits = record { walks = refl; clean = refl; takes = λ p. refl }
+own_opens chunks (fuller d) (four l e c m) fits = record { walks = refl; clean = refl; takes = λ p. refl }
+own_opens replays (fewer d) (folder u) fits = record { walks = refl; clean = refl; takes = λ p. refl }
+own_opens replays (fewer d) (four l e c m) fits = record { walks = refl; clean = refl; takes = λ p. refl }
+own_opens replays (fuller d) (folder u) fits = record { walks = refl; clean = refl; takes = λ p. refl }
+own_opens replays (fuller d) (four l e c m) fits = record { walks = refl; clean = refl; takes = λ p. refl }
 
-limited_limit : (which : Sub) (fs : Files) (d : Text) → ArePlain fs → IsPlainName d → IsLimitText d
-    → Takes (limited_shape which) (words_before fs (codes "--limit" ∷ d ∷ []))
-    (finished (limited_shape which).rules (behind_limit fs d))
+own_ends : (which : Sub) (own : Own) (fs : Files) → IsOwn which own → Ends (shape_of which) (own_held which own fs)
 unfolding clap_on_literals
-limited_limit marks (folder u) d plain pd good =
-    let s = limited_shape marks in
-    taken s (words_before (folder u) (codes "--limit" ∷ d ∷ [])) (between (behind_limit (folder u) d) idle)
-    (walked_files s _ (folder u) _ _ plain
-    (pair s (behind (folder u)) (pending (file_rows (folder u)) (codes "limit") []) (behind_limit (folder u) d)
-    (codes "limit") (codes "--limit")
-    d [] _ refl refl pd refl (done s _))) (ap (λ (ks : Kinds). or_else ks []) good) refl refl
-limited_limit (limits name) (folder u) d plain pd good =
-    let s = limited_shape (limits name) in
-    taken s (words_before (folder u) (codes "--limit" ∷ d ∷ [])) (between (behind_limit (folder u) d) idle)
-    (walked_files s _ (folder u) _ _ plain
-    (pair s (behind (folder u)) (pending (file_rows (folder u)) (codes "limit") []) (behind_limit (folder u) d)
-    (codes "limit") (codes "--limit")
-    d [] _ refl refl pd refl (done s _))) (ap (λ (ks : Kinds). or_else ks []) good) refl refl
-limited_limit marks (four l e c m) d plain pd good =
-    let s = limited_shape marks in
-    taken s (words_before (four l e c m) (codes "--limit" ∷ d ∷ [])) (between (behind_limit (four l e c m) d) idle)
-    (walked_files s _ (four l e c m) _ _ plain
-    (pair s (behind (four l e c m)) (pending (file_rows (four l e c m)) (codes "limit") [])
-    (behind_limit (four l e c m) d) (codes "limit") (codes "--limit")
-    d [] _ refl refl pd refl (done s _))) (ap (λ (ks : Kinds). or_else ks []) good) refl refl
-limited_limit (limits name) (four l e c m) d plain pd good =
-    let s = limited_shape (limits name) in
-    taken s (words_before (four l e c m) (codes "--limit" ∷ d ∷ [])) (between (behind_limit (four l e c m) d) idle)
-    (walked_files s _ (four l e c m) _ _ plain
-    (pair s (behind (four l e c m)) (pending (file_rows (four l e c m)) (codes "limit") [])
-    (behind_limit (four l e c m) d) (codes "limit") (codes "--limit")
-    d [] _ refl refl pd refl (done s _))) (ap (λ (ks : Kinds). or_else ks []) good) refl refl
+own_ends marks (fewer d) (folder u) fits = record { settles = refl; defaults = refl; checks = refl }
+own_ends marks (fewer d) (four l e c m) fits = record { settles = refl; defaults = refl; checks = refl }
+own_ends marks (fuller d) (folder u) fits = record { settles = ap (λ (ks : Kinds). or_else ks []) fits.1; defaults = refl; checks = refl }
+own_ends marks (fuller d) (four l e c m) fits = record { settles = ap (λ (ks : Kinds). or_else ks []) fits.1; defaults = refl; checks = refl }
+own_ends (limits name) (fewer d) (folder u) fits = record { settles = refl; defaults = refl; checks = refl }
+own_ends (limits name) (fewer d) (four l e c m) fits = record { settles = refl; defaults = refl; checks = refl }
+own_ends (limits name) (fuller d) (folder u) fits = record { settles = ap (λ (ks : Kinds). or_else ks []) fits.1; defaults = refl; checks = refl }
+own_ends (limits name) (fuller d) (four l e c m) fits = record { settles = ap (λ (ks : Kinds). or_else ks []) fits.1; defaults = refl; checks = refl }
+own_ends chunks (fewer d) (folder u) fits = record { settles = ap (λ (ks : Kinds). or_else ks []) fits.1; defaults = refl; checks = refl }
+own_ends chunks (fewer d) (four l e c m) fits = record { settles = ap (λ (ks : Kinds). or_else ks []) fits.1; defaults = refl; checks = refl }
+own_ends chunks (fuller d) (folder u) fits = record { settles = refl; defaults = refl; checks = refl }
+own_ends chunks (fuller d) (four l e c m) fits = record { settles = refl; defaults = refl; checks = refl }
+own_ends replays (fewer d) (folder u) fits = record { settles = refl; defaults = refl; checks = refl }
+own_ends replays (fewer d) (four l e c m) fits = record { settles = refl; defaults = refl; checks = refl }
+own_ends replays (fuller d) (folder u) fits = record { settles = refl; defaults = refl; checks = refl }
+own_ends replays (fuller d) (four l e c m) fits = record { settles = refl; defaults = refl; checks = refl }
 
-limited_both : (which : Sub) (fs : Files) (d p : Text) → ArePlain fs → IsPlainName d → IsLimitText d → IsPlainName p
-    → IsProfileText p
-    → Takes (limited_shape which) (words_before fs (codes "--limit" ∷ d ∷ codes "--profile" ∷ p ∷ []))
-    (finished (limited_shape which).rules (behind_profile (limit_rows fs d) p))
+profile_ends : (which : Sub) (own : Own) (fs : Files) (p : Text) → IsProfileText p → Ends (shape_of which) (behind_profile (own_rows which own fs) p)
 unfolding clap_on_literals
-limited_both marks (folder u) d p plain pd good pp fits =
-    let s = limited_shape marks in
-    taken s (words_before (folder u) (codes "--limit" ∷ d ∷ codes "--profile" ∷ p ∷ []))
-    (between (behind_profile (limit_rows (folder u) d) p) idle)
-    (walked_files s _ (folder u) _ _ plain
-    (pair s (behind (folder u)) (pending (file_rows (folder u)) (codes "limit") []) (behind_limit (folder u) d)
-    (codes "limit") (codes "--limit")
-    d _ _ refl refl pd refl
-    (pair s (behind_limit (folder u) d) (pending (limit_rows (folder u) d) (codes "profile") [])
-    (behind_profile (limit_rows (folder u) d) p) (codes "profile") (codes "--profile")
-    p [] _ refl (ap (λ (ks : Kinds). or_else (or_else ks []) []) good) pp refl (done s _))))
-    (ap (λ (ks : Kinds). or_else ks []) fits) refl refl
-limited_both (limits name) (folder u) d p plain pd good pp fits =
-    let s = limited_shape (limits name) in
-    taken s (words_before (folder u) (codes "--limit" ∷ d ∷ codes "--profile" ∷ p ∷ []))
-    (between (behind_profile (limit_rows (folder u) d) p) idle)
-    (walked_files s _ (folder u) _ _ plain
-    (pair s (behind (folder u)) (pending (file_rows (folder u)) (codes "limit") []) (behind_limit (folder u) d)
-    (codes "limit") (codes "--limit")
-    d _ _ refl refl pd refl
-    (pair s (behind_limit (folder u) d) (pending (limit_rows (folder u) d) (codes "profile") [])
-    (behind_profile (limit_rows (folder u) d) p) (codes "profile") (codes "--profile")
-    p [] _ refl (ap (λ (ks : Kinds). or_else (or_else ks []) []) good) pp refl (done s _))))
-    (ap (λ (ks : Kinds). or_else ks []) fits) refl refl
-limited_both marks (four l e c m) d p plain pd good pp fits =
-    let s = limited_shape marks in
-    taken s (words_before (four l e c m) (codes "--limit" ∷ d ∷ codes "--profile" ∷ p ∷ []))
-    (between (behind_profile (limit_rows (four l e c m) d) p) idle)
-    (walked_files s _ (four l e c m) _ _ plain
-    (pair s (behind (four l e c m)) (pending (file_rows (four l e c m)) (codes "limit") [])
-    (behind_limit (four l e c m) d) (codes "limit") (codes "--limit")
-    d _ _ refl refl pd refl
-    (pair s (behind_limit (four l e c m) d) (pending (limit_rows (four l e c m) d) (codes "profile") [])
-    (behind_profile (limit_rows (four l e c m) d) p) (codes "profile") (codes "--profile")
-    p [] _ refl (ap (λ (ks : Kinds). or_else (or_else ks []) []) good) pp refl (done s _))))
-    (ap (λ (ks : Kinds). or_else ks []) fits) refl refl
-limited_both (limits name) (four l e c m) d p plain pd good pp fits =
-    let s = limited_shape (limits name) in
-    taken s (words_before (four l e c m) (codes "--limit" ∷ d ∷ codes "--profile" ∷ p ∷ []))
-    (between (behind_profile (limit_rows (four l e c m) d) p) idle)
-    (walked_files s _ (four l e c m) _ _ plain
-    (pair s (behind (four l e c m)) (pending (file_rows (four l e c m)) (codes "limit") [])
-    (behind_limit (four l e c m) d) (codes "limit") (codes "--limit")
-    d _ _ refl refl pd refl
-    (pair s (behind_limit (four l e c m) d) (pending (limit_rows (four l e c m) d) (codes "profile") [])
-    (behind_profile (limit_rows (four l e c m) d) p) (codes "profile") (codes "--profile")
-    p [] _ refl (ap (λ (ks : Kinds). or_else (or_else ks []) []) good) pp refl (done s _))))
-    (ap (λ (ks : Kinds). or_else ks []) fits) refl refl
+profile_ends marks (fewer d) (folder u) p good = record { settles = ap (λ (ks : Kinds). or_else ks []) good; defaults = refl; checks = refl }
+profile_ends marks (fewer d) (four l e c m) p good = record { settles = ap (λ (ks : Kinds). or_else ks []) good; defaults = refl; checks = refl }
+profile_ends marks (fuller d) (folder u) p good = record { settles = ap (λ (ks : Kinds). or_else ks []) good; defaults = refl; checks = refl }
+profile_ends marks (fuller d) (four l e c m) p good = record { settles = ap (λ (ks : Kinds). or_else ks []) good; defaults = refl; checks = refl }
+profile_ends (limits name) (fewer d) (folder u) p good = record { settles = ap (λ (ks : Kinds). or_else ks []) good; defaults = refl; checks = refl }
+profile_ends (limits name) (fewer d) (four l e c m) p good = record { settles = ap (λ (ks : Kinds). or_else ks []) good; defaults = refl; checks = refl }
+profile_ends (limits name) (fuller d) (folder u) p good = record { settles = ap (λ (ks : Kinds). or_else ks []) good; defaults = refl; checks = refl }
+profile_ends (limits name) (fuller d) (four l e c m) p good = record { settles = ap (λ (ks : Kinds). or_else ks []) good; defaults = refl; checks = refl }
+profile_ends chunks (fewer d) (folder u) p good = record { settles = ap (λ (ks : Kinds). or_else ks []) good; defaults = refl; checks = refl }
+profile_ends chunks (fewer d) (four l e c m) p good = record { settles = ap (λ (ks : Kinds). or_else ks []) good; defaults = refl; checks = refl }
+profile_ends chunks (fuller d) (folder u) p good = record { settles = ap (λ (ks : Kinds). or_else ks []) good; defaults = refl; checks = refl }
+profile_ends chunks (fuller d) (four l e c m) p good = record { settles = ap (λ (ks : Kinds). or_else ks []) good; defaults = refl; checks = refl }
+profile_ends replays (fewer d) (folder u) p good = record { settles = ap (λ (ks : Kinds). or_else ks []) good; defaults = refl; checks = refl }
+profile_ends replays (fewer d) (four l e c m) p good = record { settles = ap (λ (ks : Kinds). or_else ks []) good; defaults = refl; checks = refl }
+profile_ends replays (fuller d) (folder u) p good = record { settles = ap (λ (ks : Kinds). or_else ks []) good; defaults = refl; checks = refl }
+profile_ends replays (fuller d) (four l e c m) p good = record { settles = ap (λ (ks : Kinds). or_else ks []) good; defaults = refl; checks = refl }
 
--- ---- `chunk`
+files_walk : (which : Sub) (fs : Files) (rest : List Text) (end : Walk) → ArePlain fs
+    → Walks (shape_of which) (between (behind fs) idle) rest end
+    → Walks (shape_of which) (between nothing_held idle) (words_before fs rest) end
+files_walk marks fs = walked_files (shape_of marks) _ fs
+files_walk (limits name) fs = walked_files (shape_of (limits name)) _ fs
+files_walk chunks fs = walked_files (shape_of chunks) _ fs
+files_walk replays fs = walked_files (shape_of replays) _ fs
 
-chunk_most : (fs : Files) (d : Text) → ArePlain fs → IsPlainName d → IsLimitText d
-    → Takes chunk_shape (words_before fs (codes "--most" ∷ d ∷ [])) (finished chunk_shape.rules (behind_most fs d))
-unfolding clap_on_literals
-chunk_most (folder u) d plain pd good =
-    let s = chunk_shape in
-    taken s (words_before (folder u) (codes "--most" ∷ d ∷ [])) (between (behind_most (folder u) d) idle)
-    (walked_files s _ (folder u) _ _ plain
-    (pair s (behind (folder u)) (pending (file_rows (folder u)) (codes "most") []) (behind_most (folder u) d)
-    (codes "most") (codes "--most")
-    d [] _ refl refl pd refl (done s _))) (ap (λ (ks : Kinds). or_else ks []) good) refl refl
-chunk_most (four l e c m) d plain pd good =
-    let s = chunk_shape in
-    taken s (words_before (four l e c m) (codes "--most" ∷ d ∷ [])) (between (behind_most (four l e c m) d) idle)
-    (walked_files s _ (four l e c m) _ _ plain
-    (pair s (behind (four l e c m)) (pending (file_rows (four l e c m)) (codes "most") [])
-    (behind_most (four l e c m) d) (codes "most") (codes "--most")
-    d [] _ refl refl pd refl (done s _))) (ap (λ (ks : Kinds). or_else ks []) good) refl refl
+own_taken : (which : Sub) (own : Own) (fs : Files) → ArePlain fs → IsOwn which own
+    → Takes (shape_of which) (words_before fs (own_words which own [])) (finished (shape_of which).rules (own_held which own fs))
+own_taken which own fs plain fits =
+    let s = shape_of which in
+    let ends = own_ends which own fs fits in
+    taken s (words_before fs (own_words which own [])) (between (own_held which own fs) idle)
+    (files_walk which fs _ _ plain (own_walk which own fs [] _ fits (done s _))) ends.settles ends.defaults ends.checks
 
-chunk_both : (fs : Files) (d p : Text) → ArePlain fs → IsPlainName d → IsLimitText d → IsPlainName p → IsProfileText p
-    → Takes chunk_shape (words_before fs (codes "--most" ∷ d ∷ codes "--profile" ∷ p ∷ []))
-    (finished chunk_shape.rules (behind_profile (most_rows fs d) p))
-unfolding clap_on_literals
-chunk_both (folder u) d p plain pd good pp fits =
-    let s = chunk_shape in
-    taken s (words_before (folder u) (codes "--most" ∷ d ∷ codes "--profile" ∷ p ∷ []))
-    (between (behind_profile (most_rows (folder u) d) p) idle)
-    (walked_files s _ (folder u) _ _ plain
-    (pair s (behind (folder u)) (pending (file_rows (folder u)) (codes "most") []) (behind_most (folder u) d)
-    (codes "most") (codes "--most")
-    d _ _ refl refl pd refl
-    (pair s (behind_most (folder u) d) (pending (most_rows (folder u) d) (codes "profile") [])
-    (behind_profile (most_rows (folder u) d) p) (codes "profile") (codes "--profile")
-    p [] _ refl (ap (λ (ks : Kinds). or_else (or_else ks []) []) good) pp refl (done s _))))
-    (ap (λ (ks : Kinds). or_else ks []) fits) refl refl
-chunk_both (four l e c m) d p plain pd good pp fits =
-    let s = chunk_shape in
-    taken s (words_before (four l e c m) (codes "--most" ∷ d ∷ codes "--profile" ∷ p ∷ []))
-    (between (behind_profile (most_rows (four l e c m) d) p) idle)
-    (walked_files s _ (four l e c m) _ _ plain
-    (pair s (behind (four l e c m)) (pending (file_rows (four l e c m)) (codes "most") [])
-    (behind_most (four l e c m) d) (codes "most") (codes "--most")
-    d _ _ refl refl pd refl
-    (pair s (behind_most (four l e c m) d) (pending (most_rows (four l e c m) d) (codes "profile") [])
-    (behind_profile (most_rows (four l e c m) d) p) (codes "profile") (codes "--profile")
-    p [] _ refl (ap (λ (ks : Kinds). or_else (or_else ks []) []) good) pp refl (done s _))))
-    (ap (λ (ks : Kinds). or_else ks []) fits) refl refl
-
-chunk_text : (fs : Files) (d : Text) → ArePlain fs → IsPlainName d → IsLimitText d
-    → Takes chunk_shape (words_before fs (codes "--most" ∷ d ∷ codes "--text" ∷ []))
-    (finished chunk_shape.rules (settled_held (text_rows fs d)))
-unfolding clap_on_literals
-chunk_text (folder u) d plain pd good =
-    let s = chunk_shape in
-    taken s (words_before (folder u) (codes "--most" ∷ d ∷ codes "--text" ∷ []))
-    (between (settled_held (text_rows (folder u) d)) idle)
-    (walked_files s _ (folder u) _ _ plain
-    (pair s (behind (folder u)) (pending (file_rows (folder u)) (codes "most") []) (behind_most (folder u) d)
-    (codes "most") (codes "--most")
-    d _ _ refl refl pd refl
-    (step s (between (behind_most (folder u) d) idle) (between (settled_held (text_rows (folder u) d)) idle) _
-    (codes "--text") [] refl
-    (ap (λ (ks : Kinds). or_else (or_else (or_else ks []) []) []) good) (done s _)))) refl refl refl
-chunk_text (four l e c m) d plain pd good =
-    let s = chunk_shape in
-    taken s (words_before (four l e c m) (codes "--most" ∷ d ∷ codes "--text" ∷ []))
-    (between (settled_held (text_rows (four l e c m) d)) idle)
-    (walked_files s _ (four l e c m) _ _ plain
-    (pair s (behind (four l e c m)) (pending (file_rows (four l e c m)) (codes "most") [])
-    (behind_most (four l e c m) d) (codes "most") (codes "--most")
-    d _ _ refl refl pd refl
-    (step s (between (behind_most (four l e c m) d) idle) (between (settled_held (text_rows (four l e c m) d)) idle) _
-    (codes "--text") [] refl
-    (ap (λ (ks : Kinds). or_else (or_else (or_else ks []) []) []) good) (done s _)))) refl refl refl
-
-chunk_text_both : (fs : Files) (d p : Text) → ArePlain fs → IsPlainName d → IsLimitText d → IsPlainName p
-    → IsProfileText p
-    → Takes chunk_shape (words_before fs (codes "--most" ∷ d ∷ codes "--text" ∷ codes "--profile" ∷ p ∷ []))
-    (finished chunk_shape.rules (behind_profile (text_rows fs d) p))
-unfolding clap_on_literals
-chunk_text_both (folder u) d p plain pd good pp fits =
-    let s = chunk_shape in
-    taken s (words_before (folder u) (codes "--most" ∷ d ∷ codes "--text" ∷ codes "--profile" ∷ p ∷ []))
-    (between (behind_profile (text_rows (folder u) d) p) idle)
-    (walked_files s _ (folder u) _ _ plain
-    (pair s (behind (folder u)) (pending (file_rows (folder u)) (codes "most") []) (behind_most (folder u) d)
-    (codes "most") (codes "--most")
-    d _ _ refl refl pd refl
-    (step s (between (behind_most (folder u) d) idle) (between (settled_held (text_rows (folder u) d)) idle) _
-    (codes "--text") _ refl
-    (ap (λ (ks : Kinds). or_else (or_else (or_else ks []) []) []) good)
-    (pair s (settled_held (text_rows (folder u) d)) (pending (text_rows (folder u) d) (codes "profile") [])
-    (behind_profile (text_rows (folder u) d) p) (codes "profile") (codes "--profile")
-    p [] _ refl refl pp refl (done s _))))) (ap (λ (ks : Kinds). or_else ks []) fits) refl refl
-chunk_text_both (four l e c m) d p plain pd good pp fits =
-    let s = chunk_shape in
-    taken s (words_before (four l e c m) (codes "--most" ∷ d ∷ codes "--text" ∷ codes "--profile" ∷ p ∷ []))
-    (between (behind_profile (text_rows (four l e c m) d) p) idle)
-    (walked_files s _ (four l e c m) _ _ plain
-    (pair s (behind (four l e c m)) (pending (file_rows (four l e c m)) (codes "most") [])
-    (behind_most (four l e c m) d) (codes "most") (codes "--most")
-    d _ _ refl refl pd refl
-    (step s (between (behind_most (four l e c m) d) idle) (between (settled_held (text_rows (four l e c m) d)) idle) _
-    (codes "--text") _ refl
-    (ap (λ (ks : Kinds). or_else (or_else (or_else ks []) []) []) good)
-    (pair s (settled_held (text_rows (four l e c m) d)) (pending (text_rows (four l e c m) d) (codes "profile") [])
-    (behind_profile (text_rows (four l e c m) d) p) (codes "profile") (codes "--profile")
-    p [] _ refl refl pp refl (done s _))))) (ap (λ (ks : Kinds). or_else ks []) fits) refl refl
-
--- ---- `replay`
-
-replay_alone : (fs : Files) → ArePlain fs
-    → Takes replay_shape (words_before fs []) (finished replay_shape.rules (behind fs))
-unfolding clap_on_literals
-replay_alone (folder u) plain =
-    taken replay_shape (words_before (folder u) []) (between (behind (folder u)) idle)
-    (walked_files replay_shape _ (folder u) [] _ plain (done replay_shape _)) refl refl refl
-replay_alone (four l e c m) plain =
-    taken replay_shape (words_before (four l e c m) []) (between (behind (four l e c m)) idle)
-    (walked_files replay_shape _ (four l e c m) [] _ plain (done replay_shape _)) refl refl refl
-
-replay_kinds : (fs : Files) → ArePlain fs
-    → Takes replay_shape (words_before fs (codes "--kinds" ∷ []))
-    (finished replay_shape.rules (settled_held (kinds_rows fs)))
-unfolding clap_on_literals
-replay_kinds (folder u) plain =
-    let s = replay_shape in
-    taken s (words_before (folder u) (codes "--kinds" ∷ [])) (between (settled_held (kinds_rows (folder u))) idle)
-    (walked_files s _ (folder u) _ _ plain
-    (step s (between (behind (folder u)) idle) (between (settled_held (kinds_rows (folder u))) idle) _ (codes "--kinds")
-    [] refl refl (done s _))) refl refl refl
-replay_kinds (four l e c m) plain =
-    let s = replay_shape in
-    taken s (words_before (four l e c m) (codes "--kinds" ∷ []))
-    (between (settled_held (kinds_rows (four l e c m))) idle)
-    (walked_files s _ (four l e c m) _ _ plain
-    (step s (between (behind (four l e c m)) idle) (between (settled_held (kinds_rows (four l e c m))) idle) _
-    (codes "--kinds") [] refl refl (done s _))) refl refl refl
-
-replay_profile : (fs : Files) (p : Text) → ArePlain fs → IsPlainName p → IsProfileText p
-    → Takes replay_shape (words_before fs (codes "--profile" ∷ p ∷ []))
-    (finished replay_shape.rules (behind_profile (file_rows fs) p))
-unfolding clap_on_literals
-replay_profile (folder u) p plain pp good =
-    let s = replay_shape in
-    taken s (words_before (folder u) (codes "--profile" ∷ p ∷ []))
-    (between (behind_profile (file_rows (folder u)) p) idle)
-    (walked_files s _ (folder u) _ _ plain
-    (pair s (behind (folder u)) (pending (file_rows (folder u)) (codes "profile") [])
-    (behind_profile (file_rows (folder u)) p) (codes "profile") (codes "--profile")
-    p [] _ refl refl pp refl (done s _))) (ap (λ (ks : Kinds). or_else ks []) good) refl refl
-replay_profile (four l e c m) p plain pp good =
-    let s = replay_shape in
-    taken s (words_before (four l e c m) (codes "--profile" ∷ p ∷ []))
-    (between (behind_profile (file_rows (four l e c m)) p) idle)
-    (walked_files s _ (four l e c m) _ _ plain
-    (pair s (behind (four l e c m)) (pending (file_rows (four l e c m)) (codes "profile") [])
-    (behind_profile (file_rows (four l e c m)) p) (codes "profile") (codes "--profile")
-    p [] _ refl refl pp refl (done s _))) (ap (λ (ks : Kinds). or_else ks []) good) refl refl
-
-replay_both : (fs : Files) (p : Text) → ArePlain fs → IsPlainName p → IsProfileText p
-    → Takes replay_shape (words_before fs (codes "--kinds" ∷ codes "--profile" ∷ p ∷ []))
-    (finished replay_shape.rules (behind_profile (kinds_rows fs) p))
-unfolding clap_on_literals
-replay_both (folder u) p plain pp good =
-    let s = replay_shape in
-    taken s (words_before (folder u) (codes "--kinds" ∷ codes "--profile" ∷ p ∷ []))
-    (between (behind_profile (kinds_rows (folder u)) p) idle)
-    (walked_files s _ (folder u) _ _ plain
-    (step s (between (behind (folder u)) idle) (between (settled_held (kinds_rows (folder u))) idle) _ (codes "--kinds")
-    _ refl refl
-    (pair s (settled_held (kinds_rows (folder u))) (pending (kinds_rows (folder u)) (codes "profile") [])
-    (behind_profile (kinds_rows (folder u)) p) (codes "profile") (codes "--profile")
-    p [] _ refl refl pp refl (done s _)))) (ap (λ (ks : Kinds). or_else ks []) good) refl refl
-replay_both (four l e c m) p plain pp good =
-    let s = replay_shape in
-    taken s (words_before (four l e c m) (codes "--kinds" ∷ codes "--profile" ∷ p ∷ []))
-    (between (behind_profile (kinds_rows (four l e c m)) p) idle)
-    (walked_files s _ (four l e c m) _ _ plain
-    (step s (between (behind (four l e c m)) idle) (between (settled_held (kinds_rows (four l e c m))) idle) _
-    (codes "--kinds") _ refl refl
-    (pair s (settled_held (kinds_rows (four l e c m))) (pending (kinds_rows (four l e c m)) (codes "profile") [])
-    (behind_profile (kinds_rows (four l e c m)) p) (codes "profile") (codes "--profile")
-    p [] _ refl refl pp refl (done s _)))) (ap (λ (ks : Kinds). or_else ks []) good) refl refl
+profile_given : (which : Sub) (own : Own) (fs : Files) (p : Text) → ArePlain fs → IsOwn which own → IsPlainName p → IsProfileText p
+    → Takes (shape_of which) (words_before fs (own_words which own (codes "--profile" ∷ p ∷ [])))
+    (finished (shape_of which).rules (behind_profile (own_rows which own fs) p))
+profile_given which own fs p plain fits named good =
+    let s = shape_of which in
+    let opens = own_opens which own fs fits in
+    let ends = profile_ends which own fs p good in
+    taken s (words_before fs (own_words which own (codes "--profile" ∷ p ∷ []))) (between (behind_profile (own_rows which own fs) p) idle)
+    (files_walk which fs _ _ plain (own_walk which own fs _ _ fits
+    (pair s (own_held which own fs) (behind_profile_word (own_rows which own fs)) (behind_profile (own_rows which own fs) p)
+    (codes "profile") (codes "--profile") p [] _ opens.walks opens.clean named (opens.takes p) (done s _)))) ends.settles ends.defaults
+    ends.checks
 
 -- ---- all plain words
 
@@ -636,10 +456,16 @@ nothing_wrong : (engine : Engine) (fs : Files) (profile : Profile) → are_sizes
 unfolding chars
 nothing_wrong engine fs profile fits = ap (λ (b : Bool). if b then [] else ValueValidation ∷ []) fits
 
--- what `mark`, `show` or `segment` finds behind its name
-abbrev task_found : (ℕ → Engine) → List Row → Option Task
+-- what a subcommand finds behind its name
+abbrev read_engine : Sub → (ℕ → Engine) → List Row → Engine
+read_engine marks engine rows = engine (limit_in rows)
+read_engine (limits name) engine rows = engine (limit_in rows)
+read_engine chunks engine rows = Chunk (limit_in rows) (sizes_in rows) (with_texts_in rows)
+read_engine replays engine rows = Replay (kinds_in rows)
+
+abbrev task_found : (List Row → Engine) → List Row → Option Task
 task_found engine rows = option_map (λ files. record {
-  engine = engine (limit_in rows);
+  engine = engine rows;
   files = files;
   profile = profile_in rows;
   part = part_in rows;
@@ -648,170 +474,89 @@ task_found engine rows = option_map (λ files. record {
   texts = texts_in rows;
 }) (files_in rows)
 
-record Finds (which : Sub) (words : List Text) (fs : Files) (limit : ℕ) (profile : Profile) : Type 0 where
-  rows : List Row
-  takes : Takes (limited_shape which) words rows
-  asks : (engine : ℕ → Engine) → task_found engine rows ≡ Some (task_with (engine limit) fs profile)
+-- what its own words mean
+abbrev own_engine : Sub → (ℕ → Engine) → Own → Engine
+own_engine marks engine (fewer d) = engine default_limit
+own_engine marks engine (fuller d) = engine (number_or default_limit (Some d))
+own_engine (limits name) engine (fewer d) = engine default_limit
+own_engine (limits name) engine (fuller d) = engine (number_or default_limit (Some d))
+own_engine chunks engine (fewer d) = Chunk default_limit (sizes_of (number_or 1 (Some d))) false
+own_engine chunks engine (fuller d) = Chunk default_limit (sizes_of (number_or 1 (Some d))) true
+own_engine replays engine (fewer d) = Replay false
+own_engine replays engine (fuller d) = Replay true
 
-limited_plain : (which : Sub) (fs : Files) (limit : ℕ) (profile : Profile) (own last : List Text) → ArePlain fs
-    → AreLimitWords limit own → AreProfileWords profile last
-    → Finds which (words_before fs (own ++ last)) fs limit profile
+own_asks : (which : Sub) (own : Own) (fs : Files) → ArePlain fs → (engine : ℕ → Engine)
+    → task_found (read_engine which engine) (finished (shape_of which).rules (own_held which own fs)) ≡ Some (task_with (own_engine which engine own) fs First)
 unfolding clap_on_literals
-limited_plain marks (folder []) limit profile own last plain given more = absurd plain
-limited_plain marks (folder (u ∷ us)) limit profile own last plain (inl none) (inl first) =
-    rw (none.0, first.0, none.1, first.1)
-    (record { rows = _; takes = limited_alone marks (folder (u ∷ us)) plain; asks = λ engine. refl })
-limited_plain marks (folder (u ∷ us)) limit profile own last plain (inl none) (inr given) =
-    rw (none.0, given, none.1) (record {
-      rows = _;
-      takes = limited_profile marks (folder (u ∷ us)) (profile_word profile) plain (profile_plain profile)
-          (profile_taken profile);
-      asks = λ engine. ap (λ (p : Profile). Some (task_with (engine default_limit) (folder (u ∷ us)) p))
-          (profile_read profile);
-    })
-limited_plain marks (folder (u ∷ us)) limit profile own last plain (inr number) (inl first) =
-    rw (number.0, first.0, first.1) (record {
-      rows = _;
-      takes = limited_limit marks (folder (u ∷ us)) (decimal limit) plain (limit_plain limit number.2)
-          (limit_taken limit number.1 number.2);
-      asks = λ engine. ap (λ (n : ℕ). Some (task_with (engine n) (folder (u ∷ us)) First))
-          (sym (limit_read default_limit limit number.2));
-    })
-limited_plain marks (folder (u ∷ us)) limit profile own last plain (inr number) (inr given) =
-    rw (number.0, given) (record {
-      rows = _;
-      takes = limited_both marks (folder (u ∷ us)) (decimal limit) (profile_word profile) plain
-          (limit_plain limit number.2)
-          (limit_taken limit number.1 number.2)
-          (profile_plain profile) (profile_taken profile);
-      asks = λ engine. ap₂ (λ (n : ℕ) (p : Profile). Some (task_with (engine n) (folder (u ∷ us)) p))
-          (sym (limit_read default_limit limit number.2)) (profile_read profile);
-    })
-limited_plain marks (four l e c m) limit profile own last plain (inl none) (inl first) =
-    rw (none.0, first.0, none.1, first.1)
-    (record { rows = _; takes = limited_alone marks (four l e c m) plain; asks = λ engine. refl })
-limited_plain marks (four l e c m) limit profile own last plain (inl none) (inr given) =
-    rw (none.0, given, none.1) (record {
-      rows = _;
-      takes = limited_profile marks (four l e c m) (profile_word profile) plain (profile_plain profile)
-          (profile_taken profile);
-      asks = λ engine. ap (λ (p : Profile). Some (task_with (engine default_limit) (four l e c m) p))
-          (profile_read profile);
-    })
-limited_plain marks (four l e c m) limit profile own last plain (inr number) (inl first) =
-    rw (number.0, first.0, first.1) (record {
-      rows = _;
-      takes = limited_limit marks (four l e c m) (decimal limit) plain (limit_plain limit number.2)
-          (limit_taken limit number.1 number.2);
-      asks = λ engine. ap (λ (n : ℕ). Some (task_with (engine n) (four l e c m) First))
-          (sym (limit_read default_limit limit number.2));
-    })
-limited_plain marks (four l e c m) limit profile own last plain (inr number) (inr given) =
-    rw (number.0, given) (record {
-      rows = _;
-      takes = limited_both marks (four l e c m) (decimal limit) (profile_word profile) plain
-          (limit_plain limit number.2)
-          (limit_taken limit number.1 number.2)
-          (profile_plain profile) (profile_taken profile);
-      asks = λ engine. ap₂ (λ (n : ℕ) (p : Profile). Some (task_with (engine n) (four l e c m) p))
-          (sym (limit_read default_limit limit number.2)) (profile_read profile);
-    })
-limited_plain (limits name) (folder []) limit profile own last plain given more = absurd plain
-limited_plain (limits name) (folder (u ∷ us)) limit profile own last plain (inl none) (inl first) =
-    rw (none.0, first.0, none.1, first.1)
-    (record { rows = _; takes = limited_alone (limits name) (folder (u ∷ us)) plain; asks = λ engine. refl })
-limited_plain (limits name) (folder (u ∷ us)) limit profile own last plain (inl none) (inr given) =
-    rw (none.0, given, none.1) (record {
-      rows = _;
-      takes = limited_profile (limits name) (folder (u ∷ us)) (profile_word profile) plain (profile_plain profile)
-          (profile_taken profile);
-      asks = λ engine. ap (λ (p : Profile). Some (task_with (engine default_limit) (folder (u ∷ us)) p))
-          (profile_read profile);
-    })
-limited_plain (limits name) (folder (u ∷ us)) limit profile own last plain (inr number) (inl first) =
-    rw (number.0, first.0, first.1) (record {
-      rows = _;
-      takes = limited_limit (limits name) (folder (u ∷ us)) (decimal limit) plain (limit_plain limit number.2)
-          (limit_taken limit number.1 number.2);
-      asks = λ engine. ap (λ (n : ℕ). Some (task_with (engine n) (folder (u ∷ us)) First))
-          (sym (limit_read default_limit limit number.2));
-    })
-limited_plain (limits name) (folder (u ∷ us)) limit profile own last plain (inr number) (inr given) =
-    rw (number.0, given) (record {
-      rows = _;
-      takes = limited_both (limits name) (folder (u ∷ us)) (decimal limit) (profile_word profile) plain
-          (limit_plain limit number.2) (limit_taken limit number.1 number.2)
-          (profile_plain profile) (profile_taken profile);
-      asks = λ engine. ap₂ (λ (n : ℕ) (p : Profile). Some (task_with (engine n) (folder (u ∷ us)) p))
-          (sym (limit_read default_limit limit number.2)) (profile_read profile);
-    })
-limited_plain (limits name) (four l e c m) limit profile own last plain (inl none) (inl first) =
-    rw (none.0, first.0, none.1, first.1)
-    (record { rows = _; takes = limited_alone (limits name) (four l e c m) plain; asks = λ engine. refl })
-limited_plain (limits name) (four l e c m) limit profile own last plain (inl none) (inr given) =
-    rw (none.0, given, none.1) (record {
-      rows = _;
-      takes = limited_profile (limits name) (four l e c m) (profile_word profile) plain (profile_plain profile)
-          (profile_taken profile);
-      asks = λ engine. ap (λ (p : Profile). Some (task_with (engine default_limit) (four l e c m) p))
-          (profile_read profile);
-    })
-limited_plain (limits name) (four l e c m) limit profile own last plain (inr number) (inl first) =
-    rw (number.0, first.0, first.1) (record {
-      rows = _;
-      takes = limited_limit (limits name) (four l e c m) (decimal limit) plain (limit_plain limit number.2)
-          (limit_taken limit number.1 number.2);
-      asks = λ engine. ap (λ (n : ℕ). Some (task_with (engine n) (four l e c m) First))
-          (sym (limit_read default_limit limit number.2));
-    })
-limited_plain (limits name) (four l e c m) limit profile own last plain (inr number) (inr given) =
-    rw (number.0, given) (record {
-      rows = _;
-      takes = limited_both (limits name) (four l e c m) (decimal limit) (profile_word profile) plain
-          (limit_plain limit number.2) (limit_taken limit number.1 number.2)
-          (profile_plain profile) (profile_taken profile);
-      asks = λ engine. ap₂ (λ (n : ℕ) (p : Profile). Some (task_with (engine n) (four l e c m) p))
-          (sym (limit_read default_limit limit number.2)) (profile_read profile);
-    })
+own_asks marks (fewer d) (folder []) plain engine = absurd plain
+own_asks marks (fewer d) (folder (u ∷ us)) plain engine = refl
+own_asks marks (fewer d) (four l e c m) plain engine = refl
+own_asks marks (fuller d) (folder []) plain engine = absurd plain
+own_asks marks (fuller d) (folder (u ∷ us)) plain engine = refl
+own_asks marks (fuller d) (four l e c m) plain engine = refl
+own_asks (limits name) (fewer d) (folder []) plain engine = absurd plain
+own_asks (limits name) (fewer d) (folder (u ∷ us)) plain engine = refl
+own_asks (limits name) (fewer d) (four l e c m) plain engine = refl
+own_asks (limits name) (fuller d) (folder []) plain engine = absurd plain
+own_asks (limits name) (fuller d) (folder (u ∷ us)) plain engine = refl
+own_asks (limits name) (fuller d) (four l e c m) plain engine = refl
+own_asks chunks (fewer d) (folder []) plain engine = absurd plain
+own_asks chunks (fewer d) (folder (u ∷ us)) plain engine = refl
+own_asks chunks (fewer d) (four l e c m) plain engine = refl
+own_asks chunks (fuller d) (folder []) plain engine = absurd plain
+own_asks chunks (fuller d) (folder (u ∷ us)) plain engine = refl
+own_asks chunks (fuller d) (four l e c m) plain engine = refl
+own_asks replays (fewer d) (folder []) plain engine = absurd plain
+own_asks replays (fewer d) (folder (u ∷ us)) plain engine = refl
+own_asks replays (fewer d) (four l e c m) plain engine = refl
+own_asks replays (fuller d) (folder []) plain engine = absurd plain
+own_asks replays (fuller d) (folder (u ∷ us)) plain engine = refl
+own_asks replays (fuller d) (four l e c m) plain engine = refl
 
-replay_plain : (fs : Files) (kinds : Bool) (profile : Profile) (own last : List Text) → ArePlain fs
-    → AreKindsWords kinds own
-    → AreProfileWords profile last → Performs (codes "replay" ∷ words_before fs (own ++ last))
-    (task_with (Replay kinds) fs profile)
+profile_asks : (which : Sub) (own : Own) (fs : Files) (p : Text) → ArePlain fs → (engine : ℕ → Engine)
+    → task_found (read_engine which engine) (finished (shape_of which).rules (behind_profile (own_rows which own fs) p))
+    ≡ Some (task_with (own_engine which engine own) fs (if number_or 1 (Some p) == 2 then Second else First))
 unfolding clap_on_literals
-replay_plain (folder []) kinds profile own last plain given more = absurd plain
-replay_plain (folder (u ∷ us)) kinds profile own last plain (inl none) (inl first) =
-    rw (none.0, first.0, none.1, first.1) (replay_performs _ _ _ (replay_alone (folder (u ∷ us)) plain) refl
-    (nothing_wrong (Replay false) (folder (u ∷ us)) First refl))
-replay_plain (folder (u ∷ us)) kinds profile own last plain (inl none) (inr given) =
-    rw (none.0, given, none.1) (replay_performs _ _ _
-    (replay_profile (folder (u ∷ us)) (profile_word profile) plain (profile_plain profile) (profile_taken profile))
-    (ap (λ (p : Profile). Some (task_with (Replay false) (folder (u ∷ us)) p)) (profile_read profile))
-    (nothing_wrong (Replay false) (folder (u ∷ us)) profile refl))
-replay_plain (folder (u ∷ us)) kinds profile own last plain (inr flag) (inl first) =
-    rw (flag.0, first.0, flag.1, first.1) (replay_performs _ _ _ (replay_kinds (folder (u ∷ us)) plain) refl
-    (nothing_wrong (Replay true) (folder (u ∷ us)) First refl))
-replay_plain (folder (u ∷ us)) kinds profile own last plain (inr flag) (inr given) =
-    rw (flag.0, given, flag.1) (replay_performs _ _ _
-    (replay_both (folder (u ∷ us)) (profile_word profile) plain (profile_plain profile) (profile_taken profile))
-    (ap (λ (p : Profile). Some (task_with (Replay true) (folder (u ∷ us)) p)) (profile_read profile))
-    (nothing_wrong (Replay true) (folder (u ∷ us)) profile refl))
-replay_plain (four l e c m) kinds profile own last plain (inl none) (inl first) =
-    rw (none.0, first.0, none.1, first.1) (replay_performs _ _ _ (replay_alone (four l e c m) plain) refl
-    (nothing_wrong (Replay false) (four l e c m) First refl))
-replay_plain (four l e c m) kinds profile own last plain (inl none) (inr given) =
-    rw (none.0, given, none.1) (replay_performs _ _ _
-    (replay_profile (four l e c m) (profile_word profile) plain (profile_plain profile) (profile_taken profile))
-    (ap (λ (p : Profile). Some (task_with (Replay false) (four l e c m) p)) (profile_read profile))
-    (nothing_wrong (Replay false) (four l e c m) profile refl))
-replay_plain (four l e c m) kinds profile own last plain (inr flag) (inl first) =
-    rw (flag.0, first.0, flag.1, first.1) (replay_performs _ _ _ (replay_kinds (four l e c m) plain) refl
-    (nothing_wrong (Replay true) (four l e c m) First refl))
-replay_plain (four l e c m) kinds profile own last plain (inr flag) (inr given) =
-    rw (flag.0, given, flag.1) (replay_performs _ _ _
-    (replay_both (four l e c m) (profile_word profile) plain (profile_plain profile) (profile_taken profile))
-    (ap (λ (p : Profile). Some (task_with (Replay true) (four l e c m) p)) (profile_read profile))
-    (nothing_wrong (Replay true) (four l e c m) profile refl))
+profile_asks marks (fewer d) (folder []) p plain engine = absurd plain
+profile_asks marks (fewer d) (folder (u ∷ us)) p plain engine = refl
+profile_asks marks (fewer d) (four l e c m) p plain engine = refl
+profile_asks marks (fuller d) (folder []) p plain engine = absurd plain
+profile_asks marks (fuller d) (folder (u ∷ us)) p plain engine = refl
+profile_asks marks (fuller d) (four l e c m) p plain engine = refl
+profile_asks (limits name) (fewer d) (folder []) p plain engine = absurd plain
+profile_asks (limits name) (fewer d) (folder (u ∷ us)) p plain engine = refl
+profile_asks (limits name) (fewer d) (four l e c m) p plain engine = refl
+profile_asks (limits name) (fuller d) (folder []) p plain engine = absurd plain
+profile_asks (limits name) (fuller d) (folder (u ∷ us)) p plain engine = refl
+profile_asks (limits name) (fuller d) (four l e c m) p plain engine = refl
+profile_asks chunks (fewer d) (folder []) p plain engine = absurd plain
+profile_asks chunks (fewer d) (folder (u ∷ us)) p plain engine = refl
+profile_asks chunks (fewer d) (four l e c m) p plain engine = refl
+profile_asks chunks (fuller d) (folder []) p plain engine = absurd plain
+profile_asks chunks (fuller d) (folder (u ∷ us)) p plain engine = refl
+profile_asks chunks (fuller d) (four l e c m) p plain engine = refl
+profile_asks replays (fewer d) (folder []) p plain engine = absurd plain
+profile_asks replays (fewer d) (folder (u ∷ us)) p plain engine = refl
+profile_asks replays (fewer d) (four l e c m) p plain engine = refl
+profile_asks replays (fuller d) (folder []) p plain engine = absurd plain
+profile_asks replays (fuller d) (folder (u ∷ us)) p plain engine = refl
+profile_asks replays (fuller d) (four l e c m) p plain engine = refl
+
+sub_plain : (which : Sub) (name : Text) (make : ℕ → Engine) (own : Own) (engine : Engine) (fs : Files) (profile : Profile) (last : List Text)
+    → Leaves name (shape_of which) → ((rows : List Row) → task_in (name, rows) ≡ task_found (read_engine which make) rows)
+    → ArePlain fs → IsOwn which own → own_engine which make own ≡ engine → are_sizes engine ≡ true → AreProfileWords profile last
+    → Performs (name ∷ words_before fs (own_words which own last)) (task_with engine fs profile)
+sub_plain which name make own engine fs profile last leaves reads plain fits means sized (inl first) =
+    rw (first.0, first.1) (sub_performs name (shape_of which) _ _ (task_with engine fs First) leaves (own_taken which own fs plain fits)
+    (reads (finished (shape_of which).rules (own_held which own fs)) ∙ own_asks which own fs plain make ∙ ap (λ (e : Engine). Some (task_with e fs First)) means)
+    (nothing_wrong engine fs First sized))
+sub_plain which name make own engine fs profile last leaves reads plain fits means sized (inr given) =
+    rw given (sub_performs name (shape_of which) _ _ (task_with engine fs profile) leaves
+    (profile_given which own fs (profile_word profile) plain fits (profile_plain profile) (profile_taken profile))
+    (reads (finished (shape_of which).rules (behind_profile (own_rows which own fs) (profile_word profile)))
+    ∙ profile_asks which own fs (profile_word profile) plain make
+    ∙ ap₂ (λ (e : Engine) (p : Profile). Some (task_with e fs p)) means (profile_read profile))
+    (nothing_wrong engine fs profile sized))
 
 -- chunks with room for half of their bytes
 sizes_fit : (limit most : ℕ) (texts : Bool) → are_sizes (Chunk limit (sizes_of most) texts) ≡ true
@@ -824,104 +569,44 @@ chunk_plain : (fs : Files) (limit : ℕ) (sizes : Sizes) (texts : Bool) (profile
     → AreFlagWords (codes "--text") texts text_words → AreProfileWords profile last
     → Performs (codes "chunk" ∷ words_before fs (own ++ last)) (task_with (Chunk limit sizes texts) fs profile)
 unfolding clap_on_literals
-chunk_plain (folder []) limit sizes texts profile most own text_words last plain some few words limit_is sizes_are given
-    more = absurd plain
-chunk_plain (folder (u ∷ us)) limit sizes texts profile most own text_words last plain some few words limit_is sizes_are
-    (inl none) (inl first) =
-    rw (words, none.0, first.0, limit_is, sizes_are, none.1, first.1)
-    (chunk_performs _ _ _ (chunk_most (folder (u ∷ us)) (decimal most) plain (limit_plain most few)
-    (limit_taken most some few))
-    (ap (λ (n : ℕ). Some (task_with (Chunk default_limit (sizes_of n) false) (folder (u ∷ us)) First))
-    (sym (limit_read 1 most few)))
-    (nothing_wrong (Chunk default_limit (sizes_of most) false) (folder (u ∷ us)) First
-    (sizes_fit default_limit most false)))
-chunk_plain (folder (u ∷ us)) limit sizes texts profile most own text_words last plain some few words limit_is sizes_are
-    (inl none) (inr second) =
-    rw (words, none.0, second, limit_is, sizes_are, none.1)
-    (chunk_performs _ _ _ (chunk_both (folder (u ∷ us)) (decimal most) (profile_word profile) plain
-    (limit_plain most few)
-    (limit_taken most some few) (profile_plain profile) (profile_taken profile))
-    (ap₂ (λ (n : ℕ) (p : Profile). Some (task_with (Chunk default_limit (sizes_of n) false) (folder (u ∷ us)) p))
-    (sym (limit_read 1 most few)) (profile_read profile))
-    (nothing_wrong (Chunk default_limit (sizes_of most) false) (folder (u ∷ us)) profile
-    (sizes_fit default_limit most false)))
-chunk_plain (folder (u ∷ us)) limit sizes texts profile most own text_words last plain some few words limit_is sizes_are
-    (inr flag) (inl first) =
-    rw (words, flag.0, first.0, limit_is, sizes_are, flag.1, first.1)
-    (chunk_performs _ _ _ (chunk_text (folder (u ∷ us)) (decimal most) plain (limit_plain most few)
-    (limit_taken most some few))
-    (ap (λ (n : ℕ). Some (task_with (Chunk default_limit (sizes_of n) true) (folder (u ∷ us)) First))
-    (sym (limit_read 1 most few)))
-    (nothing_wrong (Chunk default_limit (sizes_of most) true) (folder (u ∷ us)) First
-    (sizes_fit default_limit most true)))
-chunk_plain (folder (u ∷ us)) limit sizes texts profile most own text_words last plain some few words limit_is sizes_are
-    (inr flag) (inr second) =
-    rw (words, flag.0, second, limit_is, sizes_are, flag.1)
-    (chunk_performs _ _ _ (chunk_text_both (folder (u ∷ us)) (decimal most) (profile_word profile) plain
-    (limit_plain most few)
-    (limit_taken most some few) (profile_plain profile) (profile_taken profile))
-    (ap₂ (λ (n : ℕ) (p : Profile). Some (task_with (Chunk default_limit (sizes_of n) true) (folder (u ∷ us)) p))
-    (sym (limit_read 1 most few)) (profile_read profile))
-    (nothing_wrong (Chunk default_limit (sizes_of most) true) (folder (u ∷ us)) profile
-    (sizes_fit default_limit most true)))
-chunk_plain (four l e c m) limit sizes texts profile most own text_words last plain some few words limit_is sizes_are
-    (inl none) (inl first) =
-    rw (words, none.0, first.0, limit_is, sizes_are, none.1, first.1)
-    (chunk_performs _ _ _ (chunk_most (four l e c m) (decimal most) plain (limit_plain most few)
-    (limit_taken most some few))
-    (ap (λ (n : ℕ). Some (task_with (Chunk default_limit (sizes_of n) false) (four l e c m) First))
-    (sym (limit_read 1 most few)))
-    (nothing_wrong (Chunk default_limit (sizes_of most) false) (four l e c m) First
-    (sizes_fit default_limit most false)))
-chunk_plain (four l e c m) limit sizes texts profile most own text_words last plain some few words limit_is sizes_are
-    (inl none) (inr second) =
-    rw (words, none.0, second, limit_is, sizes_are, none.1)
-    (chunk_performs _ _ _ (chunk_both (four l e c m) (decimal most) (profile_word profile) plain (limit_plain most few)
-    (limit_taken most some few) (profile_plain profile) (profile_taken profile))
-    (ap₂ (λ (n : ℕ) (p : Profile). Some (task_with (Chunk default_limit (sizes_of n) false) (four l e c m) p))
-    (sym (limit_read 1 most few)) (profile_read profile))
-    (nothing_wrong (Chunk default_limit (sizes_of most) false) (four l e c m) profile
-    (sizes_fit default_limit most false)))
-chunk_plain (four l e c m) limit sizes texts profile most own text_words last plain some few words limit_is sizes_are
-    (inr flag) (inl first) =
-    rw (words, flag.0, first.0, limit_is, sizes_are, flag.1, first.1)
-    (chunk_performs _ _ _ (chunk_text (four l e c m) (decimal most) plain (limit_plain most few)
-    (limit_taken most some few))
-    (ap (λ (n : ℕ). Some (task_with (Chunk default_limit (sizes_of n) true) (four l e c m) First))
-    (sym (limit_read 1 most few)))
-    (nothing_wrong (Chunk default_limit (sizes_of most) true) (four l e c m) First (sizes_fit default_limit most true)))
-chunk_plain (four l e c m) limit sizes texts profile most own text_words last plain some few words limit_is sizes_are
-    (inr flag) (inr second) =
-    rw (words, flag.0, second, limit_is, sizes_are, flag.1)
-    (chunk_performs _ _ _ (chunk_text_both (four l e c m) (decimal most) (profile_word profile) plain
-    (limit_plain most few)
-    (limit_taken most some few) (profile_plain profile) (profile_taken profile))
-    (ap₂ (λ (n : ℕ) (p : Profile). Some (task_with (Chunk default_limit (sizes_of n) true) (four l e c m) p))
-    (sym (limit_read 1 most few)) (profile_read profile))
-    (nothing_wrong (Chunk default_limit (sizes_of most) true) (four l e c m) profile
-    (sizes_fit default_limit most true)))
+chunk_plain fs limit sizes texts profile most own text_words last plain some few words limit_is sizes_are (inl none) more_words =
+    rw (words, none.0, limit_is, sizes_are, none.1) (sub_plain chunks (codes "chunk") Mark (fewer (decimal most))
+    (Chunk default_limit (sizes_of most) false) fs profile last leaves_chunk (λ rows. refl) plain
+    (limit_plain most few, limit_taken most some few)
+    (ap (λ (n : ℕ). Chunk default_limit (sizes_of n) false) (sym (limit_read 1 most few))) (sizes_fit default_limit most false) more_words)
+chunk_plain fs limit sizes texts profile most own text_words last plain some few words limit_is sizes_are (inr flag) more_words =
+    rw (words, flag.0, limit_is, sizes_are, flag.1) (sub_plain chunks (codes "chunk") Mark (fuller (decimal most))
+    (Chunk default_limit (sizes_of most) true) fs profile last leaves_chunk (λ rows. refl) plain
+    (limit_plain most few, limit_taken most some few)
+    (ap (λ (n : ℕ). Chunk default_limit (sizes_of n) true) (sym (limit_read 1 most few))) (sizes_fit default_limit most true) more_words)
 
 engine_plain : (fs : Files) (engine : Engine) (profile : Profile) (own last : List Text) → ArePlain fs
     → AreEngineWords engine own
     → AreProfileWords profile last → Performs (name_of_engine engine ∷ words_before fs (own ++ last))
     (task_with engine fs profile)
-engine_plain fs (Mark limit) profile own last plain given more =
-    let f = limited_plain marks fs limit profile own last plain given more in
-    mark_performs (words_before fs (own ++ last)) f.rows (task_with (Mark limit) fs profile) f.takes (f.asks Mark)
-    (nothing_wrong (Mark limit) fs profile refl)
-engine_plain fs (Show limit) profile own last plain given more =
-    let f = limited_plain (limits (codes "show")) fs limit profile own last plain given more in
-    show_performs (words_before fs (own ++ last)) f.rows (task_with (Show limit) fs profile) f.takes (f.asks Show)
-    (nothing_wrong (Show limit) fs profile refl)
-engine_plain fs (Segment limit) profile own last plain given more =
-    let f = limited_plain (limits (codes "segment")) fs limit profile own last plain given more in
-    segment_performs (words_before fs (own ++ last)) f.rows (task_with (Segment limit) fs profile) f.takes
-    (f.asks Segment) (nothing_wrong (Segment limit) fs profile refl)
-engine_plain fs (Chunk limit sizes texts) profile own last plain given more =
+unfolding clap_on_literals
+engine_plain fs (Mark limit) profile own last plain (inl none) more =
+    rw (none.0, none.1) (sub_plain marks (codes "mark") Mark (fewer []) (Mark default_limit) fs profile last leaves_mark (λ rows. refl) plain tt refl refl more)
+engine_plain fs (Mark limit) profile own last plain (inr number) more_words =
+    rw number.0 (sub_plain marks (codes "mark") Mark (fuller (decimal limit)) (Mark limit) fs profile last leaves_mark (λ rows. refl) plain
+    (limit_plain limit number.2, limit_taken limit number.1 number.2) (ap Mark (sym (limit_read default_limit limit number.2))) refl more_words)
+engine_plain fs (Show limit) profile own last plain (inl none) more =
+    rw (none.0, none.1) (sub_plain (limits (codes "show")) (codes "show") Show (fewer []) (Show default_limit) fs profile last leaves_show (λ rows. refl) plain tt refl refl more)
+engine_plain fs (Show limit) profile own last plain (inr number) more_words =
+    rw number.0 (sub_plain (limits (codes "show")) (codes "show") Show (fuller (decimal limit)) (Show limit) fs profile last leaves_show (λ rows. refl) plain
+    (limit_plain limit number.2, limit_taken limit number.1 number.2) (ap Show (sym (limit_read default_limit limit number.2))) refl more_words)
+engine_plain fs (Segment limit) profile own last plain (inl none) more =
+    rw (none.0, none.1) (sub_plain (limits (codes "segment")) (codes "segment") Segment (fewer []) (Segment default_limit) fs profile last leaves_segment (λ rows. refl) plain tt refl refl more)
+engine_plain fs (Segment limit) profile own last plain (inr number) more_words =
+    rw number.0 (sub_plain (limits (codes "segment")) (codes "segment") Segment (fuller (decimal limit)) (Segment limit) fs profile last leaves_segment (λ rows. refl) plain
+    (limit_plain limit number.2, limit_taken limit number.1 number.2) (ap Segment (sym (limit_read default_limit limit number.2))) refl more_words)
+engine_plain fs (Chunk limit sizes texts) profile own last plain given more_words =
     chunk_plain fs limit sizes texts profile given.most own given.text_words last plain given.some given.few given.are
-    given.limit_is given.sizes_are given.texts_are more
-engine_plain fs (Replay kinds) profile own last plain given more =
-    replay_plain fs kinds profile own last plain given more
+    given.limit_is given.sizes_are given.texts_are more_words
+engine_plain fs (Replay kinds) profile own last plain (inl none) more =
+    rw (none.0, none.1) (sub_plain replays (codes "replay") Mark (fewer []) (Replay false) fs profile last leaves_replay (λ rows. refl) plain tt refl refl more)
+engine_plain fs (Replay kinds) profile own last plain (inr flag) more_words =
+    rw (flag.0, flag.1) (sub_plain replays (codes "replay") Mark (fuller []) (Replay true) fs profile last leaves_replay (λ rows. refl) plain tt refl refl more_words)
 
 -- the words of the files are those of a folder or of four names
 record Reads (files : NamedFiles) (words : List Text) : Type 0 where
