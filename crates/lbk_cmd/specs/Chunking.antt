@@ -1,5 +1,6 @@
 -- The lines of the chunks of a window.
-use Rattle.std.specs.Prelude.{◌≡◌, ℕ, ◌≤◌, Bool, true, false, List, [], ◌++◌, length, take, Option, Result, Ok, Err, OnOk, OnErr}
+use Rattle.std.specs.Prelude.{◌≡◌, ℕ, ◌≤◌, Bool, true, false, List, [], ◌++◌, length, take, Option}
+use Rattle.std.specs.Prelude.{Result, Ok, Err, OnOk, OnErr}
 use Rattle.lbk_feed.specs.Devices.{failures_after}
 use Rattle.lbk_feed.specs.declared.traits.Sink.{Ghosts as SinkMembers}
 use Rattle.std.specs.Io.KnownBytes.{Appends}

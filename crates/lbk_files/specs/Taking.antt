@@ -9,7 +9,8 @@ use Rattle.lbk_files.specs.declared.faults.CellsFault.{CellsFault}
 use Rattle.lbk_files.specs.declared.faults.CellsFault.TheVariants.{Memory}
 use Rattle.lbk_files.specs.declared.store.Store.{Ghosts as StoreMembers}
 
--- at most four loads are made, the run ends as out of memory if one of them does, and the store tells the same as before
+-- at most four loads are made, the run ends as out of memory if one of them does, and the store tells the same as
+-- before
 pub record TakesFiles {S : Type 0} (store : StoreMembers S) (old new : S) (IsOutOfMemory : Type 0) : Type 0 where
   pub refused : store.refusal_count old < store.refusal_count new → IsOutOfMemory
   pub loads : store.load_count new ≤ store.load_count old + 4
