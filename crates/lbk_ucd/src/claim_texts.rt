@@ -1,6 +1,6 @@
 //! The texts about files that are not the published ones.
 
-ghost use Rattle.std.specs.Prelude.{◌≡◌, ◌+◌, ◌≤◌, ◌++◌, decimal, length};
+ghost use Rattle.std.specs.Prelude.{◌≡◌, ◌+◌, ◌≤◌, [], ◌++◌, codes, decimal, length};
 ghost use Rattle.arrayvec.specs.ArrayString.{array_string_len};
 ghost use Rattle.lbk_ucd.specs.ClaimTexts.{claim_text, cut_text, remedy_text, three_numbers, two_numbers};
 ghost use Rattle.lbk_ucd.specs.ClaimTexts.{version_text};
@@ -57,39 +57,39 @@ fn version_text(which: Which, version: Version) -> ArrayString<95>
     match which {
         Which::Emoji => {
             if version.update == 0 {
-                with_two_numbers("this is Emoji ", version, ", and lbk needs 15.0")
+                let mut text = with_two_numbers("this is Emoji ", version);
+                text.push_str(", and lbk needs 15.0");
+                text
             } else {
-                with_three_numbers("this is Emoji ", version, ", and lbk needs 15.0.0")
+                with_three_numbers("this is Emoji ", version)
             }
         }
-        _ => with_three_numbers("this is Unicode ", version, ", and lbk needs 15.0.0"),
+        _ => with_three_numbers("this is Unicode ", version),
     }
 }
 
 /// A text with the first two numbers of a version.
-fn with_two_numbers(before: &str, version: Version, after: &str) -> ArrayString<95>
-    requires before { length before.now ≤ 19 }
-    requires after { length after.now ≤ 24 }
-    ensures bytes { result.bytes ≡ before.now ++ two_numbers version after.now }
-    ensures len { array_string_len result ≤ length before.now + 21 + length after.now }
+fn with_two_numbers(before: &str, version: Version) -> ArrayString<95>
+    requires { length before.now ≤ 74 }
+    ensures bytes { result.bytes ≡ before.now ++ two_numbers version [] }
+    ensures len { array_string_len result ≤ length before.now + 21 }
 {
     let mut text = begun(before);
     push_number(&mut text, version.major);
     text.push_str(".");
     push_number(&mut text, version.minor);
-    text.push_str(after);
     text
 }
 
-/// A text with the three numbers of a version.
-fn with_three_numbers(before: &str, version: Version, after: &str) -> ArrayString<95>
-    requires before { length before.now ≤ 19 }
-    requires after { length after.now ≤ 24 }
-    ensures { result.bytes ≡ before.now ++ three_numbers version after.now }
+/// A text with the three numbers of a version, and the version that is needed.
+fn with_three_numbers(before: &str, version: Version) -> ArrayString<95>
+    requires { length before.now ≤ 41 }
+    ensures { result.bytes ≡ before.now ++ three_numbers version (codes ", and lbk needs 15.0.0") }
 {
-    let mut text = with_two_numbers(before, version, ".");
+    let mut text = with_two_numbers(before, version);
+    text.push_str(".");
     push_number(&mut text, version.update);
-    text.push_str(after);
+    text.push_str(", and lbk needs 15.0.0");
     text
 }
 

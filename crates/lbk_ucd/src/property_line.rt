@@ -145,39 +145,23 @@ fn trimmed(bytes: &[u8]) -> &[u8]
     ensures { result.now ≡ trimmed bytes.now }
 {
     let rest = trimmed_start(bytes);
-    &rest[..end_of_text(rest)]
+    let mut end = rest.len();
+    while 0 < end && is_space(rest[end - 1]) {
+        end -= 1;
+    }
+    &rest[..end]
 }
 
 /// The text without leading white space.
 fn trimmed_start(bytes: &[u8]) -> &[u8]
     ensures { result.now ≡ trimmed_start bytes.now }
 {
-    &bytes[start_of_text(bytes)..]
-}
-
-/// The number of leading white spaces.
-fn start_of_text(bytes: &[u8]) -> usize
-    ensures within { result ≤ length bytes.now }
-    ensures start { result ≡ prefix_len is_space bytes.now }
-{
     for (place, byte) in bytes.iter().enumerate() {
         if !is_space(*byte) {
-            return place;
+            return &bytes[place..];
         }
     }
-    bytes.len()
-}
-
-/// The offset of the trailing white space.
-fn end_of_text(bytes: &[u8]) -> usize
-    ensures within { result ≤ length bytes.now }
-    ensures end { result ≡ length bytes.now - suffix_len is_space bytes.now }
-{
-    let mut end = bytes.len();
-    while 0 < end && is_space(bytes[end - 1]) {
-        end -= 1;
-    }
-    end
+    &[]
 }
 
 /// The text without a trailing carriage return.

@@ -106,7 +106,7 @@ impl<V: Copy> InOrder<'_, V> {
         ensures { result ≡ first_value code self.now.rows.now }
     {
         let rows = self.rows;
-        let at = self.first_from(code);
+        let at = self.first_near(code, 0);
         if at < rows.len() && rows[at].first <= code {
             Some(rows[at].value)
         } else {
@@ -145,24 +145,16 @@ impl<V: Copy> InOrder<'_, V> {
         }
     }
 
-    /// The index of the first row that does not end before a code point, or the number of rows.
-    fn first_from(&self, code: u32) -> usize
-        ensures { IsFirstFrom self.now.rows.now code result }
-    {
-        let rows = self.rows;
-        rows.partition_point(|row| row.last < code)
-    }
-
-    /// The same, searched from an index on; the rows before it end before the code point.
+    /// The index of the first row that does not end before a code point, or the number of rows. It is searched from the
+    /// index `near` on if the rows before that end before the code point, and else by binary search.
     fn first_near(&self, code: u32, near: usize) -> usize
         ensures { IsFirstFrom self.now.rows.now code result }
     {
         let rows = self.rows;
         if 0 < near && near <= rows.len() && rows[near - 1].last < code {
-            self.next_from(near, code)
-        } else {
-            self.first_from(code)
+            return self.next_from(near, code);
         }
+        rows.partition_point(|row| row.last < code)
     }
 
     /// The index of the first row that does not end before a code point; those before `at` do.

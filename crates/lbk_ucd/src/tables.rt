@@ -107,7 +107,6 @@ impl Tables {
     /// Line_Break of a code point, at most 10FFFF (UAX #14, section 5).
     #[tactic(auto, unfolding(crate::specs::Tables::line_break_of))]
     pub fn line_break(&self, code: u32) -> LineBreak
-        requires { code ≤ 0x10FFFF }
         ensures { result ≡ line_break_of self.now code }
     {
         self.line_break.value(code)
@@ -116,7 +115,6 @@ impl Tables {
     /// East_Asian_Width of a code point, at most 10FFFF (UAX #11).
     #[tactic(auto, unfolding(crate::specs::Tables::east_asian_of))]
     pub fn east_asian(&self, code: u32) -> EastAsian
-        requires { code ≤ 0x10FFFF }
         ensures { result ≡ east_asian_of self.now code }
     {
         self.east_asian.value(code)
@@ -125,7 +123,6 @@ impl Tables {
     /// General_Category of a code point, at most 10FFFF (Unicode Standard, section 4.5).
     #[tactic(auto, unfolding(crate::specs::Tables::category_of))]
     pub fn category(&self, code: u32) -> Category
-        requires { code ≤ 0x10FFFF }
         ensures { result ≡ category_of self.now code }
     {
         self.category.value(code)
@@ -134,7 +131,6 @@ impl Tables {
     /// Extended_Pictographic of a code point, at most 10FFFF (UTS #51, Annex A).
     #[tactic(auto, unfolding(crate::specs::Tables::is_pictographic_of))]
     pub fn is_pictographic(&self, code: u32) -> bool
-        requires { code ≤ 0x10FFFF }
         ensures { result ≡ is_pictographic_of self.now code }
     {
         self.pictographic.value(code)
