@@ -1,5 +1,5 @@
 -- Ends of parts, one behind the other in a block.
-use Rattle.std.proofs.Common.{◌≡◌, ℕ, zero, suc, ◌+◌, ◌<◌, Bool, true, false, ◌&&◌, List, [], ◌∷◌, ◌++◌, length, slice_index, slice_index_or, take, refl, sym, ap, subst, ◌∙◌, arith}
+use Rattle.std.proofs.Common.{◌≡◌, ℕ, zero, suc, ◌+◌, ◌<◌, Bool, true, false, List, [], ◌∷◌, ◌++◌, length, slice_index, slice_index_or, take, refl, sym, ap, subst, ◌∙◌, arith}
 use Rattle.std.specs.Int.{from_bool}
 use Rattle.std.proofs.Math.ListN.{set}
 use Rattle.std.proofs.lemmas.List.{take-set, take_more_set}
@@ -74,11 +74,6 @@ pub reading-taken : (text : List ℕ) (from at row count c end : ℕ) (out : Lis
     → IsReadAt text at c end → IsStep row c (value_at (significant (scalars_on text end)) 0) step
     → IsReading text from end step.next (count + from_bool step.cuts) (set out count at)
 reading-taken text from at row count c end out step r some read is = reading-by text from at row count c end out step step.cuts r some read is refl
-
--- a part that ended is counted
-pub some-ended : (cuts told : Bool) (count : ℕ) → (cuts && told) ≡ true → count < count + from_bool cuts
-some-ended true told count is = omega arith
-some-ended false told count is = absurd (let never : ⊥ = cc in never)
 
 -- the last byte of a text is a part, if it is a scalar by itself
 pub lone-part : (text : List ℕ) (at : ℕ) → length text ≡ at + 1 → slice_index text at < 128 → (is_word : Bool) × IsFirstPiece text at (at + 1) is_word

@@ -22,6 +22,13 @@ coded-read text at code size inside coded =
     let read : decoded (drop at text) ≡ good code size = ap decoded (sym (rest-of text at)) ∙ coded in
     piece-there text at code size inside (sym (ap (λ d. or_replacement d.char) read)) (sym (ap (λ d. d.size) read))
 
+-- so are ill-formed bytes, as U+FFFD
+pub any-read : (text : List ℕ) (at code size : ℕ) → at < length text → code ≡ or_replacement (decoded (take (length text - at) (drop at text))).char
+    → size ≡ (decoded (take (length text - at) (drop at text))).size → IsReadAt text at code (at + size)
+any-read text at code size inside is_char is_size =
+    let rest = rest-of text at in
+    piece-there text at code size inside (is_char ∙ ap (λ bs. or_replacement (decoded bs).char) rest) (is_size ∙ ap (λ bs. (decoded bs).size) rest)
+
 -- two bytes of a letter are read as one scalar
 pub two-read : (text : List ℕ) (at : ℕ) → at + 1 < length text → 0xC2 ≤ slice_index text at → slice_index text at < 0xE0
     → second (slice_index text at) (slice_index text (at + 1)) ≡ true

@@ -8,9 +8,10 @@ use Rattle.ucd_breaks.specs.declared.WordBreak.{WordBreak}
 use Rattle.unicode_segmentation.specs.Word.{significant, starts_with_half_flag, value_at}
 use Rattle.lbk_words.specs.declared.parts.Filling.{Filling}
 use Rattle.lbk_words.specs.declared.steps.Step.{Step}
+use Rattle.lbk_words.specs.declared.word.Filled.{Filled}
 use Rattle.lbk_words.specs.declared.word.Word.{Word}
 use Rattle.lbk_words.specs.Contexts.{context_after, context_of}
-use Rattle.lbk_words.specs.Filling.{IsFilled, IsFilling, IsInRow}
+use Rattle.lbk_words.specs.Filling.{FillsOn, FillsUpTo, IsFilled, IsFilling, IsInRow}
 use Rattle.lbk_words.specs.Letters.{is_letter_or_number}
 use Rattle.lbk_words.specs.Places.{IsFirstPiece, IsReadAt}
 use Rattle.lbk_words.specs.Rows.{IsFirstRow, IsStep, canonical, row_context, row_word, start_context}
@@ -76,6 +77,15 @@ filled-none text start out = record {
   joined = refl;
 }
 
+-- a block that is filled on, and on again
+pub fills-then : {text : List ℕ} {from mid to : Filled} {old between new : List Word} → FillsOn text from old mid between
+    → length between ≡ length old → FillsOn text mid between to new → FillsOn text from old to new
+fills-then one size two = record {
+  onward = (omega (arith, one.onward, two.onward), omega (arith, one.onward, two.onward));
+  within = (two.within.0, omega (arith, size, two.within));
+  filled = λ start filled. two.filled start (one.filled start filled);
+}
+
 -- a part is written, and counts where it is a word
 pub filled-part : (text : List ℕ) (start begin at count : ℕ) (is_word : Bool) (out : List Word) → IsFilled text start begin count out → count < length out
     → IsFirstPiece text begin at is_word
@@ -123,14 +133,30 @@ taken-by text start part out c end step false f some read is cuts = record {
   reads = row-goes-on text part.begin part.at part.row c end step f.reads read is cuts;
 }
 
-pub filling-taken : (text : List ℕ) (start : ℕ) (part : Filling) (out : List Word) (c end : ℕ) (step : Step) → IsFilling text start part out
-    → part.count < length out → IsReadAt text part.at c end → IsStep part.row c (value_at (significant (scalars_on text end)) 0) step
-    → IsFilling text start (record { count = part.count + from_bool step.counts; begin = cond step.cuts part.at part.begin; at = end; row = step.next })
+begin-between : (cuts : Bool) (begin at : ℕ) → begin < at → (begin ≤ cond cuts at begin) × (cond cuts at begin ≤ at)
+begin-between true begin at some = (omega arith, omega arith)
+begin-between false begin at some = (omega arith, omega arith)
+
+-- the same from a boundary on
+pub filling-taken : (text : List ℕ) (from : Filled) (old : List Word) (part : Filling) (out : List Word) (c end : ℕ) (step : Step)
+    → FillsUpTo text from old part out → part.count < length out → IsReadAt text part.at c end
+    → IsStep part.row c (value_at (significant (scalars_on text end)) 0) step
+    → FillsUpTo text from old (record { count = part.count + from_bool step.counts; begin = cond step.cuts part.at part.begin; at = end; row = step.next })
     (set out part.count (record { start = part.begin; end = part.at }))
-filling-taken text start part out c end step f some read is =
-    subst (λ b. IsFilling text start (record { count = part.count + from_bool b; begin = cond step.cuts part.at part.begin; at = end; row = step.next })
-    (set out part.count (record { start = part.begin; end = part.at }))) (sym is.counts)
-    (taken-by text start part out c end step step.cuts f some read is refl)
+filling-taken text from old part out c end step f some read is =
+    let few = from_bool-few step.counts in
+    let size = length-set out part.count (record { start = part.begin; end = part.at }) in
+    let begin = begin-between step.cuts part.begin part.at f.some in
+    record {
+      onward = (omega (arith, f.onward, begin), omega (arith, f.onward));
+      within = (read.within, omega (arith, few, size));
+      some = omega (arith, begin, read.grows);
+      few = is.next;
+      filling = λ start filled.
+          subst (λ b. IsFilling text start (record { count = part.count + from_bool b; begin = cond step.cuts part.at part.begin; at = end; row = step.next })
+          (set out part.count (record { start = part.begin; end = part.at }))) (sym is.counts)
+          (taken-by text start part out c end step step.cuts (f.filling start filled) some read is refl);
+    }
 
 -- the text ends with a part
 pub filling-ended : (text : List ℕ) (start : ℕ) (part : Filling) (out : List Word) → IsFilling text start part out → part.count < length out → length text ≤ part.at

@@ -3,12 +3,15 @@ use Rattle.std.specs.Prelude.{◌≡◌, ℕ, ◌+◌, ◌<◌, ◌≤◌, Bool,
 use Rattle.std.specs.Prelude.{if◌then◌else◌}
 use Rattle.bstr.specs.Utf8.{Decoded, pieces}
 use Rattle.unicode_segmentation.specs.Segments.{cut, prepend}
-use Rattle.unicode_segmentation.specs.Word.{is_word_break}
+use Rattle.unicode_segmentation.specs.Word.{is_word_break, significant, value_at}
 use Rattle.lbk_words.specs.declared.parts.Filling.{Filling}
+use Rattle.lbk_words.specs.declared.steps.NextStep.{NextStep}
+use Rattle.lbk_words.specs.declared.word.Filled.{Filled}
 use Rattle.lbk_words.specs.declared.word.Word.{Word}
 use Rattle.lbk_words.specs.Contexts.{Context, context_of}
 use Rattle.lbk_words.specs.Letters.{has_letter}
-use Rattle.lbk_words.specs.Rows.{canonical, row_context, row_word}
+use Rattle.lbk_words.specs.Places.{IsReadAt}
+use Rattle.lbk_words.specs.Rows.{IsStep, canonical, row_context, row_word}
 use Rattle.lbk_words.specs.Words.{AreRising, IsBoundary, bytes_of, parts_of, scalars_of, scalars_on, words_on}
 
 -- of a text that is taken alone from the byte `start` on, the first `count` words are in the front of a block, and
@@ -19,6 +22,12 @@ pub record IsFilled (text : List ℕ) (start at count : ℕ) (out : List Word) :
   pub boundary : IsBoundary text start at
   pub rising : AreRising start at (take count out)
   pub joined : words_on text start ≡ take count out ++ words_on text at
+
+-- a block is filled from one boundary on to another: what was filled before is filled up to that one
+pub record FillsOn (text : List ℕ) (from : Filled) (old : List Word) (to : Filled) (new : List Word) : Type 0 where
+  pub onward : (from.at ≤ to.at) × (from.count ≤ to.count)
+  pub within : (to.at ≤ length text) × (to.count ≤ length old)
+  pub filled : (start : ℕ) → IsFilled text start from.at from.count old → IsFilled text start to.at to.count new
 
 -- the scalars of a part, nearest first
 abbrev pub back : List Decoded → List ℕ
@@ -45,7 +54,21 @@ pub record IsInRow (text : List ℕ) (begin at row : ℕ) : Type 0 where
   pub like : canonical context ≡ row_context row
   pub walk : IsWalk text begin at context (row_word row)
 
+-- what the scalar at a byte makes of a part of this row
+pub record IsNextStep (text : List ℕ) (row at : ℕ) (next : NextStep) : Type 0 where
+  pub code : ℕ
+  pub read : IsReadAt text at code next.end
+  pub step : IsStep row code (value_at (significant (scalars_on text next.end)) 0) next.step
+
 -- a block is filled up to a part, of which these scalars have been read
 pub record IsFilling (text : List ℕ) (start : ℕ) (part : Filling) (out : List Word) : Type 0 where
   pub filled : IsFilled text start part.begin part.count out
   pub reads : IsInRow text part.begin part.at part.row
+
+-- from a boundary on, a block is filled up to such a part
+pub record FillsUpTo (text : List ℕ) (from : Filled) (old : List Word) (part : Filling) (new : List Word) : Type 0 where
+  pub onward : (from.at ≤ part.begin) × (from.count ≤ part.count)
+  pub within : (part.at ≤ length text) × (part.count ≤ length new)
+  pub some : part.begin < part.at
+  pub few : part.row < 43
+  pub filling : (start : ℕ) → IsFilled text start from.at from.count old → IsFilling text start part new

@@ -3,7 +3,7 @@
 ghost use Rattle.std.specs.Prelude.{◌≡◌, ◌⊎◌, ℕ, ◌+◌, ◌-◌, ◌<◌, ◌≤◌, ◌^◌, ◌&&◌, List, drop, length, nat_lt};
 ghost use Rattle.lbk_masks.specs.Sets.{is_set};
 ghost use Rattle.lbk_words.specs.Blocks.{AreEdges, AreMarks, AreWides};
-ghost use Rattle.lbk_words.specs.Filling.{IsFilled};
+ghost use Rattle.lbk_words.specs.Filling.{FillsOn, IsFilled};
 
 use crate::letter_table::{FIRSTS, SECONDS};
 use crate::parts::fill_by_scalars;
@@ -184,10 +184,7 @@ fn fill_runs(base: usize, found: Edges, here: Filled, out: &mut [Word]) -> Fille
 /// scalar by scalar.
 pub(crate) fn fill_by_marks(text: &[u8], start: Filled, out: &mut [Word]) -> Filled
     requires { (start.count < length out.old) × (start.at + 64 ≤ length text.now) }
-    ensures filled { (from : ℕ) → IsFilled text.now from start.at start.count out.old
-        → IsFilled text.now from result.at result.count out.new }
-    ensures onward { (start.at ≤ result.at) × (start.count ≤ result.count) }
-    ensures within { (result.at ≤ length text.now) × (result.count ≤ length out.old) }
+    ensures fills { FillsOn text.now start out.old result out.new }
     ensures further { result.count < length out.old → start.at < result.at }
 {
     let base = start.at;

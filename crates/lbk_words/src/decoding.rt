@@ -8,48 +8,32 @@ ghost use Rattle.bstr.specs.Utf8.{code_of_2, code_of_3, continues, decoded, good
 pub(crate) struct Coded {
     pub(crate) code: u32,
     pub(crate) size: usize,
+    ghost few: { code < 0x11_0000 },
 }
 
-/// The scalar of two bytes at the front of some bytes.
+/// The scalar of two or three bytes at the front of three bytes or more.
 #[inline(always)]
-pub(crate) fn scalar_of_two(bytes: &[u8]) -> Option<Coded>
-    requires { 1 < length bytes.now }
-    ensures reads { IfSome result (λ scalar. decoded bytes.now ≡ good scalar.code scalar.size) }
-    ensures code { IfSome result (λ scalar. scalar.code < 0x11_0000) }
+pub(crate) fn scalar_of_few(bytes: &[u8]) -> Option<Coded>
+    ensures { IfSome result (λ scalar. decoded bytes.now ≡ good scalar.code scalar.size) }
 {
+    if bytes.len() < 3 {
+        return None;
+    }
     let first = bytes[0];
-    if first < 0xC2 {
-        return None;
-    }
-    if 0xDF < first {
-        return None;
-    }
     let next = bytes[1];
     if !is_continuation(next) {
         return None;
     }
-    Some(Coded {
-        code: code_of_two(first, next),
-        size: 2,
-    })
-}
-
-/// The scalar of three bytes at the front of some bytes.
-#[inline(always)]
-pub(crate) fn scalar_of_three(bytes: &[u8]) -> Option<Coded>
-    requires { 2 < length bytes.now }
-    ensures reads { IfSome result (λ scalar. decoded bytes.now ≡ good scalar.code scalar.size) }
-    ensures code { IfSome result (λ scalar. scalar.code < 0x11_0000) }
-{
-    let first = bytes[0];
     if first < 0xE0 {
-        return None;
+        if first < 0xC2 {
+            return None;
+        }
+        return Some(Coded {
+            code: code_of_two(first, next),
+            size: 2,
+        });
     }
     if 0xEF < first {
-        return None;
-    }
-    let next = bytes[1];
-    if !is_continuation(next) {
         return None;
     }
     let last = bytes[2];

@@ -2,11 +2,11 @@
 
 ghost use Rattle.std.specs.Prelude.{◌≡◌, ℕ, ◌+◌, ◌-◌, ◌<◌, ◌≤◌, ◌^◌, ◌++◌, List, get_or, length, replicate, take};
 ghost use Rattle.lbk_masks.specs.Sets.{is_set};
-ghost use Rattle.lbk_words.specs.Ends.{AreEnds, AreParts, AreTold, is_pair};
+ghost use Rattle.lbk_words.specs.Ends.{AreEnds, AreParts, AreTold, PutsOn, is_pair};
 
 use crate::blocks::{BLOCK, marks_of, wides_of};
 use crate::scalars::scalar_at;
-use crate::steps::{first_row, step_of};
+use crate::steps::{first_row, next_step};
 use lbk_masks::{HalfSets, first_set, kept_below, kept_from, without_first};
 
 /// Fewer bytes than this are left to steps.
@@ -46,12 +46,8 @@ pub fn fill_ends(text: &[u8], start: usize, out: &mut [usize]) -> usize
 /// Puts where the next parts end after the ends in the front of the block, and returns how many ends these are now.
 #[inline(always)]
 fn fill_further(text: &[u8], start: usize, count: usize, out: &mut [usize]) -> usize
-    requires some { start < length text.now }
-    requires room { count < length out.old }
-    ensures more { count < result }
-    ensures within { result ≤ length out.old }
-    ensures parts { (from : ℕ) → AreParts text.now from start (take count out.old)
-        → (to : ℕ) × AreParts text.now from to (take result out.new) }
+    requires { (start < length text.now) × (count < length out.old) }
+    ensures { PutsOn text.now start count out.old result out.new }
 {
     // Most lines end with a part of one byte.
     if text.len() - start == 1 && text[start] < 0x80 {
@@ -68,30 +64,28 @@ fn fill_further(text: &[u8], start: usize, count: usize, out: &mut [usize]) -> u
 /// The same scalar by scalar, until the block is full, the text ends, or bits are likely to tell the next end.
 #[inline(never)]
 fn put_by_steps(text: &[u8], start: usize, count: usize, out: &mut [usize]) -> usize
-    requires some { start < length text.now }
-    requires room { count < length out.old }
-    ensures more { count < result }
-    ensures within { result ≤ length out.old }
-    ensures parts { (from : ℕ) → AreParts text.now from start (take count out.old)
-        → (to : ℕ) × AreParts text.now from to (take result out.new) }
+    requires { (start < length text.now) × (count < length out.old) }
+    ensures { PutsOn text.now start count out.old result out.new }
 {
     let first = scalar_at(text, start);
     let mut at = first.end;
-    let mut row = first_row(first.code);
+    let mut row = first_row(first);
     let mut count = count;
-    let mut told = false;
-    'scalars: while at < text.len() && count < out.len() && !told {
-        let next = scalar_at(text, at);
-        let step = step_of(row, next.code, next.end, text);
+    'scalars: while at < text.len() {
+        let next = next_step(row, text, at);
         // Written whether the part ends there or not, so that no branch depends on it.
         out[count] = at;
-        count += usize::from(step.cuts);
-        told = step.cuts & may_tell(text, at);
+        count += usize::from(next.step.cuts);
+        if count == out.len() {
+            return count;
+        }
+        if may_tell(text, at) {
+            if next.step.cuts {
+                return count;
+            }
+        }
         at = next.end;
-        row = step.next;
-    }
-    if at < text.len() || count == out.len() {
-        return count;
+        row = next.step.next;
     }
     out[count] = at;
     count + 1

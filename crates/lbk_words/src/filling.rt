@@ -1,7 +1,7 @@
 //! A block that is filled with words.
 
-ghost use Rattle.std.specs.Prelude.{◌≡◌, ℕ, ◌<◌, ◌≤◌, drop, length, min, take};
-ghost use Rattle.lbk_words.specs.Filling.{IsFilled};
+ghost use Rattle.std.specs.Prelude.{◌≡◌, ◌<◌, ◌≤◌, drop, length, min, take};
+ghost use Rattle.lbk_words.specs.Filling.{FillsOn};
 ghost use Rattle.lbk_words.specs.Words.{AreRising, IsBoundary, words_on};
 
 use crate::blocks::{BLOCK, fill_by_marks};
@@ -41,10 +41,7 @@ pub fn fill<const MASKS: bool>(text: &[u8], start: usize, out: &mut [Word]) -> F
 #[inline(always)]
 fn fill_further<const MASKS: bool>(text: &[u8], here: Filled, out: &mut [Word]) -> Filled
     requires { (here.count < length out.old) × (here.at < length text.now) }
-    ensures filled { (start : ℕ) → IsFilled text.now start here.at here.count out.old
-        → IsFilled text.now start result.at result.count out.new }
-    ensures onward { (here.at ≤ result.at) × (here.count ≤ result.count) }
-    ensures within { (result.at ≤ length text.now) × (result.count ≤ length out.old) }
+    ensures fills { FillsOn text.now here out.old result out.new }
     ensures further { result.count < length out.old → here.at < result.at }
 {
     if !MASKS || text.len() - here.at < BLOCK {

@@ -1,14 +1,14 @@
 //! Words found scalar by scalar.
 
-ghost use Rattle.std.specs.Prelude.{◌≡◌, ◌<◌, ◌≤◌, ◌+◌, ◌⊎◌, ℕ, List, length, if◌then◌else◌};
+ghost use Rattle.std.specs.Prelude.{◌≡◌, ◌<◌, ◌≤◌, ◌+◌, ℕ, List, length, if◌then◌else◌};
 ghost use Rattle.unicode_segmentation.specs.Word.{significant, value_at};
-ghost use Rattle.lbk_words.specs.Filling.{IsFilled, IsFilling};
+ghost use Rattle.lbk_words.specs.Filling.{FillsOn, FillsUpTo, IsFilled, IsFilling};
 ghost use Rattle.lbk_words.specs.Places.{IsReadAt};
 ghost use Rattle.lbk_words.specs.Rows.{IsStep};
 ghost use Rattle.lbk_words.specs.Words.{scalars_on};
 
 use crate::scalars::scalar_at;
-use crate::steps::{Step, first_row, is_word, step_of, step_of_byte};
+use crate::steps::{Step, first_row, is_word, next_step, step_of_byte};
 use crate::word::{Filled, Word};
 
 /// How far a block is filled, and the part of the text that is being read.
@@ -27,10 +27,7 @@ pub(crate) struct Filling {
 /// Goes on filling a block from a boundary, up to the first boundary from `stop` on, or as far as there is room.
 pub(crate) fn fill_by_scalars(text: &[u8], here: Filled, stop: usize, out: &mut [Word]) -> Filled
     requires { (here.count < length out.old) × (here.at < stop) × (stop ≤ length text.now) }
-    ensures filled { (start : ℕ) → IsFilled text.now start here.at here.count out.old
-        → IsFilled text.now start result.at result.count out.new }
-    ensures onward { (here.at ≤ result.at) × (here.count ≤ result.count) }
-    ensures within { (result.at ≤ length text.now) × (result.count ≤ length out.old) }
+    ensures fills { FillsOn text.now here out.old result out.new }
     ensures far { result.count < length out.old → stop ≤ result.at }
 {
     let first = scalar_at(text, here.at);
@@ -38,12 +35,11 @@ pub(crate) fn fill_by_scalars(text: &[u8], here: Filled, stop: usize, out: &mut 
         count: here.count,
         begin: here.at,
         at: first.end,
-        row: first_row(first.code),
+        row: first_row(first),
     };
     'scalars: while part.count < out.len() && part.begin < stop && part.at < text.len() {
-        let next = scalar_at(text, part.at);
-        let step = step_of(part.row, next.code, next.end, text);
-        part = taken(part, step, next.end, out);
+        let next = next_step(part.row, text, part.at);
+        part = taken(part, next.step, next.end, out);
         let from = part.at;
         'bytes: while part.count < out.len() && part.at < stop {
             let byte = text[part.at];
@@ -71,14 +67,11 @@ pub(crate) fn fill_by_scalars(text: &[u8], here: Filled, stop: usize, out: &mut 
 #[inline(always)]
 fn taken(part: Filling, step: Step, end: usize, out: &mut [Word]) -> Filling
     requires { part.count < length out.old }
-    ensures filling { (text : List ℕ) (start code : ℕ) → IsFilling text start part out.old
-        → IsReadAt text part.at code end
+    ensures fills { (text : List ℕ) (from : Filled) (old : List Word) (code : ℕ)
+        → FillsUpTo text from old part out.old → IsReadAt text part.at code end
         → IsStep part.row code (value_at (significant (scalars_on text end)) 0) step
-        → IsFilling text start result out.new }
+        → FillsUpTo text from old result out.new }
     ensures at { result.at ≡ end }
-    ensures row { result.row ≡ step.next }
-    ensures count { (part.count ≤ result.count) × (result.count ≤ part.count + 1) }
-    ensures begin { (result.begin ≡ part.begin) ⊎ (result.begin ≡ part.at) }
 {
     out[part.count] = Word {
         start: part.begin,

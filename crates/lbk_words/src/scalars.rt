@@ -1,12 +1,13 @@
 //! The scalars of a text, read from its bytes.
 
 ghost use Rattle.std.specs.Prelude.{◌≡◌, ◌<◌, length};
+ghost use Rattle.bstr.specs.Utf8.{decoded, or_replacement};
 ghost use Rattle.unicode_segmentation.specs.Word.{significant, value_at};
 ghost use Rattle.lbk_words.specs.Places.{IsReadAt};
 ghost use Rattle.lbk_words.specs.Rows.{answer_number};
 ghost use Rattle.lbk_words.specs.Words.{scalars_on};
 
-use crate::decoding::{scalar_of_three, scalar_of_two};
+use crate::decoding::{Coded, scalar_of_few};
 use crate::kinds::kind_of;
 use crate::step_table::ANSWERS;
 use bstr::decode_lossy;
@@ -18,14 +19,14 @@ pub(crate) struct Scalar {
     pub(crate) code: u32,
     /// The byte after it.
     pub(crate) end: usize,
+    ghost few: { code < 0x11_0000 },
 }
 
 /// The scalar at a byte of a text: U+FFFD for the longest piece there that begins none (Unicode Standard, section 3.9).
 #[inline(always)]
 pub(crate) fn scalar_at(text: &[u8], at: usize) -> Scalar
     requires { at < length text.now }
-    ensures read { IsReadAt text.now at result.code result.end }
-    ensures code { result.code < 0x11_0000 }
+    ensures { IsReadAt text.now at result.code result.end }
 {
     let byte = text[at];
     if byte < 0x80 {
@@ -34,20 +35,13 @@ pub(crate) fn scalar_at(text: &[u8], at: usize) -> Scalar
             end: at + 1,
         };
     }
-    if text.len() - at < 3 {
-        return any_scalar_at(text, at);
-    }
-    if byte < 0xE0 {
-        let Some(scalar) = scalar_of_two(&text[at..]) else {
-            return any_scalar_at(text, at);
-        };
+    let rest = &text[at..];
+    let Some(scalar) = scalar_of_few(rest) else {
+        let scalar = any_scalar(rest);
         return Scalar {
             code: scalar.code,
             end: at + scalar.size,
         };
-    }
-    let Some(scalar) = scalar_of_three(&text[at..]) else {
-        return any_scalar_at(text, at);
     };
     Scalar {
         code: scalar.code,
@@ -55,17 +49,17 @@ pub(crate) fn scalar_at(text: &[u8], at: usize) -> Scalar
     }
 }
 
-/// The same by a call, which serves scalars of four bytes and ill-formed text.
+/// The scalar at the front of some bytes, by a call, which serves scalars of four bytes and ill-formed text.
 #[inline(never)]
-fn any_scalar_at(text: &[u8], at: usize) -> Scalar
-    requires { at < length text.now }
-    ensures read { IsReadAt text.now at result.code result.end }
-    ensures code { result.code < 0x11_0000 }
+fn any_scalar(bytes: &[u8]) -> Coded
+    requires { 0 < length bytes.now }
+    ensures code { result.code ≡ or_replacement (decoded bytes.now).char }
+    ensures size { result.size ≡ (decoded bytes.now).size }
 {
-    let (c, size) = decode_lossy(&text[at..]);
-    Scalar {
+    let (c, size) = decode_lossy(bytes);
+    Coded {
         code: c as u32,
-        end: at + size,
+        size,
     }
 }
 

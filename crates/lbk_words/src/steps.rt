@@ -1,18 +1,19 @@
 //! What one more scalar makes of a part of a text, by tables.
 
-ghost use Rattle.std.specs.Prelude.{◌≡◌, ◌<◌, false};
+ghost use Rattle.std.specs.Prelude.{◌≡◌, ◌<◌, false, length};
 ghost use Rattle.ucd_breaks.specs.declared.WordBreak.{WordBreak};
 ghost use Rattle.unicode_segmentation.specs.Word.{significant, value_at};
+ghost use Rattle.lbk_words.specs.Filling.{IsNextStep};
 ghost use Rattle.lbk_words.specs.Rows.{IsFirstRow, IsStep, row_word, step_number, told};
 ghost use Rattle.lbk_words.specs.Words.{scalars_on};
 
 use crate::kinds::kind_of;
-use crate::scalars::answer_ahead;
+use crate::scalars::{Scalar, answer_ahead, scalar_at};
 use crate::step_table::{ARE_WORDS, FIRST_ROWS, STEPS};
 
 /// How many rows there are. A row is what the rules ask of a part so far, and whether the part has a letter or a
 /// number.
-pub(crate) const ROWS: usize = 43;
+const ROWS: usize = 43;
 
 /// What one more scalar makes of a part.
 #[derive(Clone, Copy)]
@@ -27,13 +28,19 @@ pub(crate) struct Step {
     pub(crate) asks: bool,
 }
 
+/// A step, and the byte after the scalar that makes it.
+#[derive(Clone, Copy)]
+pub(crate) struct NextStep {
+    pub(crate) step: Step,
+    pub(crate) end: usize,
+}
+
 /// The row of a part of one scalar.
 #[inline(always)]
-pub(crate) fn first_row(code: u32) -> usize
-    requires { code < 0x11_0000 }
-    ensures { IsFirstRow code result }
+pub(crate) fn first_row(first: Scalar) -> usize
+    ensures { IsFirstRow first.code result }
 {
-    FIRST_ROWS[kind_of(code) as usize] as usize
+    FIRST_ROWS[kind_of(first.code) as usize] as usize
 }
 
 /// Whether a part of this row is a word.
@@ -45,26 +52,37 @@ pub(crate) fn is_word(row: usize) -> bool
     ARE_WORDS[row]
 }
 
-/// What a scalar, which ends at a byte, makes of a part of this row.
+/// What the scalar at a byte makes of a part of this row.
 #[inline(always)]
-pub(crate) fn step_of(row: usize, code: u32, end: usize, text: &[u8]) -> Step
-    requires row { row < 43 }
-    requires code { code < 0x11_0000 }
-    ensures { IsStep row code (value_at (significant (scalars_on text.now end)) 0) result }
+pub(crate) fn next_step(row: usize, text: &[u8], at: usize) -> NextStep
+    requires { (row < 43) × (at < length text.now) }
+    ensures { IsNextStep text.now row at result }
 {
-    let kind = kind_of(code) as usize;
+    let next = scalar_at(text, at);
+    NextStep {
+        step: step_of(row, next, text),
+        end: next.end,
+    }
+}
+
+/// What the next scalar of a text makes of a part of this row.
+#[inline(always)]
+fn step_of(row: usize, next: Scalar, text: &[u8]) -> Step
+    requires { row < 43 }
+    ensures { IsStep row next.code (value_at (significant (scalars_on text.now next.end)) 0) result }
+{
+    let kind = kind_of(next.code) as usize;
     let step = step_at(0, row, kind);
     if !step.asks {
         return step;
     }
-    step_at(answer_ahead(text, end), row, kind)
+    step_at(answer_ahead(text, next.end), row, kind)
 }
 
 /// What a scalar of one byte makes of a part of this row. It is right where the step does not ask.
 #[inline(always)]
 pub(crate) fn step_of_byte(row: usize, byte: u8) -> Step
-    requires row { row < 43 }
-    requires byte { byte < 128 }
+    requires { (row < 43) × (byte < 128) }
     ensures { result.asks ≡ false → (far : WordBreak) → IsStep row byte far result }
 {
     step_at(0, row, kind_of(u32::from(byte)) as usize)

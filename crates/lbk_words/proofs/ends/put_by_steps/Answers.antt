@@ -1,9 +1,12 @@
-use Rattle.std.proofs.Common.{ℕ, ◌+◌, ◌<◌, sym, subst, arith}
+use Rattle.std.proofs.Common.{ℕ, List, ◌≡◌, ◌+◌, ◌<◌, length, sym, subst, ap, arith}
+use Rattle.std.specs.Int.{from_bool}
 use Rattle.std.proofs.Math.ListN.{length-set, set}
+use Rattle.lbk_words.specs.declared.steps.NextStep.{NextStep}
 use Rattle.lbk_words.specs.Ends.{IsReading}
+use Rattle.lbk_words.specs.Filling.{IsNextStep}
 use Rattle.lbk_words.specs.Rows.{row_word}
 use Rattle.lbk_words.proofs.FillLemmas.{from_bool-few}
-use Rattle.lbk_words.proofs.PartLemmas.{parts-written, reading-taken, some-ended}
+use Rattle.lbk_words.proofs.PartLemmas.{parts-written, reading-taken}
 use Rattle.lbk_words.proofs.StepLemmas.{first-in_row}
 use Rattle.lbk_words.proofs.WalkLemmas.{walk-end}
 use Rattle.lbk_words.proofs.ends.put_by_steps.Goals as goal
@@ -13,36 +16,69 @@ scalars-init c =
     let first = c.scalar_at-first in
     record {
       few = c.first_row-row.ensures.few;
-      within = first.ensures.read.within;
+      within = first.ensures.within;
       count = (omega arith, omega arith);
-      some = λ told. absurd (let never : ⊥ = cc in never);
       reads = λ from parts. record {
         begin = c.args.start;
         parts = parts;
-        part = first-in_row c.args.text.now c.args.start first.result.code first.result.end c.first_row-row.result first.ensures.read c.first_row-row.ensures;
+        part = first-in_row c.args.text.now c.args.start first.result.code first.result.end c.first_row-row.result first.ensures c.first_row-row.ensures;
       };
     }
+
+-- one scalar more, where so many parts ended
+taken : {text : List ℕ} {from at row count n : ℕ} {out : List ℕ} {next : NextStep} → IsNextStep text row at next → count < length out
+    → n ≡ from_bool next.step.cuts → IsReading text from at row count out → IsReading text from next.end next.step.next (count + n) (set out count at)
+taken {text} {from} {at} {row} {count} {n} {out} {next} is some few r =
+    subst (λ n. IsReading text from next.end next.step.next (count + n) (set out count at)) (sym few)
+    (reading-taken text from at row count is.code next.end out next.step r some is.read is.step)
+
+pub returns-then-count-out : goal.returns-then-count-out
+returns-then-count-out c = record {
+  more = omega (arith, c.scalars.invariant.count, length-set {A = ℕ}, c.from-count.ensures, from_bool-few);
+  within = omega (arith, length-set {A = ℕ});
+  parts = λ from parts. let r = taken c.next_step-next.ensures c.scalars.invariant.count.1 c.from-count.ensures (c.scalars.invariant.reads from parts) in (r.begin, r.parts);
+}
+
+pub returns-then-next : goal.returns-then-next
+returns-then-next c = record {
+  more = (let one = ap from_bool c.if-next.true in omega (arith, c.scalars.invariant.count, c.from-count.ensures));
+  within = omega (arith, length-set {A = ℕ}, c.scalars.invariant.count, c.from-count.ensures, from_bool-few);
+  parts = λ from parts. let r = taken c.next_step-next.ensures c.scalars.invariant.count.1 c.from-count.ensures (c.scalars.invariant.reads from parts) in (r.begin, r.parts);
+}
 
 pub scalars-preserved : goal.scalars-preserved
 scalars-preserved c =
     let l = c.scalars in
-    let next = c.scalar_at-next in
-    let step = c.step_of-step in
+    let next = c.next_step-next.ensures in
     record {
-      few = step.ensures.next;
-      within = next.ensures.read.within;
-      count = (omega (arith, l.invariant.count), omega (arith, length-set {A = ℕ}, c.from-count.ensures, from_bool-few));
-      some = λ told. subst (λ n. c.args.count < l.count + n) (sym c.from-count.ensures) (let more = some-ended step.result.cuts c.may_tell.result l.count told in omega (arith, l.invariant.count));
-      reads = λ from parts. subst (λ n. IsReading c.args.text.now from next.result.end step.result.next (l.count + n) (set l.out l.count l.at)) (sym c.from-count.ensures)
-          (reading-taken c.args.text.now from l.at l.row l.count next.result.code next.result.end l.out step.result (l.invariant.reads from parts) (omega arith) next.ensures.read step.ensures);
+      few = next.step.next;
+      within = next.read.within;
+      count = (omega (arith, l.invariant.count), omega (arith, l.invariant.count, length-set {A = ℕ}, c.from-count.ensures, from_bool-few));
+      reads = λ from parts. taken next l.invariant.count.1 c.from-count.ensures (l.invariant.reads from parts);
     }
 
-pub returns-clause-parts : goal.returns-clause-parts
-returns-clause-parts c = λ from parts.
+pub scalars-preserved-else-next : goal.scalars-preserved-else-next
+scalars-preserved-else-next c =
     let l = c.scalars in
-    let reads = l.invariant.reads from parts in
-    let part = reads.part in (
-      l.at,
-      parts-written c.args.text.now from reads.begin l.at l.count (row_word l.row) l.out reads.parts (omega arith)
-          (walk-end c.args.text.now reads.begin l.at part.context (row_word l.row) part.walk (omega arith)),
-    )
+    let next = c.next_step-next.ensures in
+    record {
+      few = next.step.next;
+      within = next.read.within;
+      count = (omega (arith, l.invariant.count), omega (arith, l.invariant.count, length-set {A = ℕ}, c.from-count.ensures, from_bool-few));
+      reads = λ from parts. taken next l.invariant.count.1 c.from-count.ensures (l.invariant.reads from parts);
+    }
+
+pub returns : goal.returns
+returns c =
+    let l = c.scalars in
+    record {
+      more = omega (arith, l.invariant.count);
+      within = omega (arith, l.invariant.count);
+      parts = λ from parts.
+          let reads = l.invariant.reads from parts in
+          let part = reads.part in (
+            l.at,
+            parts-written c.args.text.now from reads.begin l.at l.count (row_word l.row) l.out reads.parts (omega (arith, l.invariant.count))
+                (walk-end c.args.text.now reads.begin l.at part.context (row_word l.row) part.walk (omega arith)),
+          );
+    }

@@ -1,5 +1,4 @@
-use Rattle.std.proofs.Common.{◌+◌, ◌≤◌, ◌<◌, ◌≡◌, ⊎_elim, length, slice_index, sym, subst, arith}
-use Rattle.ucd_breaks.specs.declared.WordBreak.TheVariants.{Other}
+use Rattle.std.proofs.Common.{◌+◌, ◌≤◌, ◌<◌, length, slice_index, arith}
 use Rattle.unicode_segmentation.specs.Word.{significant, value_at}
 use Rattle.lbk_words.specs.Words.{scalars_on}
 use Rattle.lbk_words.proofs.ReadLemmas.{one-read}
@@ -11,33 +10,23 @@ pub scalars-init : goal.scalars-init
 scalars-init c =
     let first = c.scalar_at-first in
     record {
+      onward = (omega arith, omega arith);
+      within = (first.ensures.within, omega arith);
+      some = first.ensures.grows;
       few = c.first_row.ensures.few;
-      within = first.ensures.read.within;
-      before = omega (arith, first.ensures.read.grows);
-      begins = omega arith;
-      counts = omega arith;
       filling = λ start filled. record {
         filled = filled;
-        reads = first-in_row c.args.text.now c.args.here.at first.result.code first.result.end c.first_row.result first.ensures.read c.first_row.ensures;
+        reads = first-in_row c.args.text.now c.args.here.at first.result.code first.result.end c.first_row.result first.ensures c.first_row.ensures;
       };
     }
 
 pub bytes-init : goal.bytes-init
 bytes-init c =
-    let l = c.scalars in
-    let next = c.scalar_at-next in
+    let next = c.next_step-next.ensures in
     let taken = c.taken-part in
     record {
-      few = subst (λ row. row < 43) (sym taken.ensures.row) c.step_of-step.ensures.next;
-      within = omega (arith, taken.ensures.at, next.ensures.read.within);
-      before = ⊎_elim (λ (same : taken.result.begin ≡ l.part.begin). omega (arith, taken.ensures.at, l.invariant.before, next.ensures.read.grows))
-          (λ (here : taken.result.begin ≡ l.part.at). omega (arith, taken.ensures.at, next.ensures.read.grows)) taken.ensures.begin;
-      begins = ⊎_elim (λ (same : taken.result.begin ≡ l.part.begin). omega (arith, l.invariant.begins))
-          (λ (here : taken.result.begin ≡ l.part.at). omega (arith, l.invariant.begins, l.invariant.before)) taken.ensures.begin;
-      counts = omega (arith, taken.ensures.count, l.invariant.counts);
-      onward = omega arith;
-      filling = λ start filled.
-          taken.ensures.filling c.args.text.now start next.result.code (l.invariant.filling start filled) next.ensures.read c.step_of-step.ensures;
+      onward = omega (arith, taken.ensures.at, next.read.grows);
+      fills = taken.ensures.fills c.args.text.now c.args.here c.args.out.now next.code c.scalars.invariant next.read next.step;
     }
 
 pub bytes-preserved : goal.bytes-preserved
@@ -45,21 +34,12 @@ bytes-preserved c =
     let text = c.args.text.now in
     let l = c.bytes in
     let taken = c.taken-part-in-bytes in
-    let step = c.step_of_byte-step in
     let byte = slice_index text l.part.at in
     let low : byte < 128 = omega (arith, c.if-byte-ge128.false) in
     record {
-      few = subst (λ row. row < 43) (sym taken.ensures.row) (step.ensures c.if-step.false Other).next;
-      within = omega (arith, taken.ensures.at);
-      before = ⊎_elim (λ (same : taken.result.begin ≡ l.part.begin). omega (arith, taken.ensures.at, l.invariant.before))
-          (λ (here : taken.result.begin ≡ l.part.at). omega (arith, taken.ensures.at)) taken.ensures.begin;
-      begins = ⊎_elim (λ (same : taken.result.begin ≡ l.part.begin). omega (arith, l.invariant.begins))
-          (λ (here : taken.result.begin ≡ l.part.at). omega (arith, l.invariant.begins, l.invariant.before)) taken.ensures.begin;
-      counts = omega (arith, taken.ensures.count, l.invariant.counts);
       onward = omega (arith, taken.ensures.at, l.invariant.onward);
-      filling = λ start filled.
-          taken.ensures.filling text start byte (l.invariant.filling start filled) (one-read text l.part.at (omega arith) low)
-          (step.ensures c.if-step.false (value_at (significant (scalars_on text (l.part.at + 1))) 0));
+      fills = taken.ensures.fills text c.args.here c.args.out.now byte l.invariant.fills (one-read text l.part.at (omega arith) low)
+          (c.step_of_byte-step.ensures c.if-step.false (value_at (significant (scalars_on text (l.part.at + 1))) 0));
     }
 
 -- the text ends
@@ -70,6 +50,21 @@ past c = elim c.scalars-test.branch [
   | else-scalars-test w ↦ absurd (let few = c.if-part-out.true in let full = w.scalars-test.false in omega arith)
 ]
 
-pub returns-then-part-stop-3-clause-filled : goal.returns-then-part-stop-3-clause-filled
-returns-then-part-stop-3-clause-filled c = λ start filled.
-    c.ended.ensures.filled c.args.text.now start (c.scalars.invariant.filling start filled) (past c)
+pub returns-then-part-stop-3-clause-fills : goal.returns-then-part-stop-3-clause-fills
+returns-then-part-stop-3-clause-fills c =
+    let fills = c.scalars.invariant in
+    let ended = c.ended in
+    record {
+      onward = (omega (arith, fills.onward, fills.some, ended.ensures.at), omega (arith, fills.onward, ended.ensures.count));
+      within = (omega (arith, fills.within, ended.ensures.at), omega (arith, ended.ensures.count));
+      filled = λ start filled. ended.ensures.filled c.args.text.now start (fills.filling start filled) (past c);
+    }
+
+pub returns-clause-fills : goal.returns-clause-fills
+returns-clause-fills c =
+    let fills = c.scalars.invariant in
+    record {
+      onward = fills.onward;
+      within = (omega (arith, fills.within, fills.some), omega (arith, fills.within));
+      filled = λ start filled. (fills.filling start filled).filled;
+    }

@@ -23,16 +23,16 @@ pub returns-then-answer-ne-PASSED_OVER-clause-number : goal.returns-then-answer-
 returns-then-answer-ne-PASSED_OVER-clause-number c =
     let text = c.args.text.now in
     let s = c.scalar_at-scalar.result in
-    let is : IsKind s.code c.kind_of.result = subst (IsKind s.code) (sym c.kind_of.ensures.kind) (is-kind s.code c.scalar_at-scalar.ensures.code) in
+    let is : IsKind s.code c.kind_of.result = subst (IsKind s.code) (sym c.kind_of.ensures.kind) (is-kind s.code s.few) in
     let kept = counts (is_ignored (word_break s.code)) (slice_index ANSWERS c.kind_of.result) (answer_number (word_break s.code)) (answer-at s.code c.kind_of.result is) c.if-answer-ne-PASSED_OVER.true in
-    let next = scalars-next text c.loop-at.at s.code s.end c.scalar_at-scalar.ensures.read in
+    let next = scalars-next text c.loop-at.at s.code s.end c.scalar_at-scalar.ensures in
     kept.1
     ∙ sym (ap (λ values. answer_number (value_at values 0)) (c.loop-at.invariant ∙ ap significant next ∙ significant-kept s.code (scalars_on text s.end) kept.0))
 
 pub returns-then-answer-ne-PASSED_OVER-clause-few : goal.returns-then-answer-ne-PASSED_OVER-clause-few
 returns-then-answer-ne-PASSED_OVER-clause-few c =
     let s = c.scalar_at-scalar.result in
-    let is : IsKind s.code c.kind_of.result = subst (IsKind s.code) (sym c.kind_of.ensures.kind) (is-kind s.code c.scalar_at-scalar.ensures.code) in
+    let is : IsKind s.code c.kind_of.result = subst (IsKind s.code) (sym c.kind_of.ensures.kind) (is-kind s.code s.few) in
     let kept = counts (is_ignored (word_break s.code)) (slice_index ANSWERS c.kind_of.result) (answer_number (word_break s.code)) (answer-at s.code c.kind_of.result is) c.if-answer-ne-PASSED_OVER.true in
     subst (λ n. n < 4) (sym kept.1) (few-answers (word_break s.code))
 
@@ -40,10 +40,10 @@ pub loop-at-preserved : goal.loop-at-preserved
 loop-at-preserved c =
     let text = c.args.text.now in
     let s = c.scalar_at-scalar.result in
-    let is : IsKind s.code c.kind_of.result = subst (IsKind s.code) (sym c.kind_of.ensures.kind) (is-kind s.code c.scalar_at-scalar.ensures.code) in
+    let is : IsKind s.code c.kind_of.result = subst (IsKind s.code) (sym c.kind_of.ensures.kind) (is-kind s.code s.few) in
     let ignored = passes (is_ignored (word_break s.code)) (slice_index ANSWERS c.kind_of.result) (answer_number (word_break s.code)) (answer-at s.code c.kind_of.result is)
     c.if-answer-ne-PASSED_OVER.false (few-answers (word_break s.code)) in
-    let next = scalars-next text c.loop-at.at s.code s.end c.scalar_at-scalar.ensures.read in
+    let next = scalars-next text c.loop-at.at s.code s.end c.scalar_at-scalar.ensures in
     c.loop-at.invariant ∙ ap significant next ∙ significant-ignored s.code (scalars_on text s.end) ignored
 
 pub returns-clause-number : goal.returns-clause-number

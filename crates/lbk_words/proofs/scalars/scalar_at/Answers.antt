@@ -1,23 +1,30 @@
 use Rattle.std.proofs.Common.{◌+◌, sym, subst, arith}
 use Rattle.lbk_words.specs.Places.{IsReadAt}
-use Rattle.lbk_words.proofs.ReadLemmas.{coded-read, one-read}
+use Rattle.lbk_words.proofs.ReadLemmas.{any-read, coded-read, one-read}
 use Rattle.lbk_words.proofs.scalars.scalar_at.Goals as goal
 
-pub returns-then-byte-lt128-clause-read : goal.returns-then-byte-lt128-clause-read
-returns-then-byte-lt128-clause-read c =
+pub returns-then-byte-lt128 : goal.returns-then-byte-lt128
+returns-then-byte-lt128 c =
     subst (λ code. IsReadAt c.args.text.now c.args.at code (c.args.at + 1)) (sym c.from.ensures) (one-read c.args.text.now c.args.at c.requires c.if-byte-lt128.true)
 
-pub returns-then-byte-lt224-clause-read : goal.returns-then-byte-lt224-clause-read
-returns-then-byte-lt224-clause-read c =
-    coded-read c.args.text.now c.args.at c.in-Some.scalar.code c.in-Some.scalar.size c.requires c.in-Some.ensures.reads
+pub overflow_add-result-in_default : goal.overflow_add-result-in_default
+overflow_add-result-in_default c =
+    let any = c.any_scalar-scalar in
+    let read = any-read c.args.text.now c.args.at any.result.code any.result.size c.requires any.ensures.code any.ensures.size in
+    omega (arith, read.within)
+
+pub returns-in_default : goal.returns-in_default
+returns-in_default c =
+    let any = c.any_scalar-scalar in
+    any-read c.args.text.now c.args.at any.result.code any.result.size c.requires any.ensures.code any.ensures.size
 
 pub overflow_add-result-2 : goal.overflow_add-result-2
 overflow_add-result-2 c =
-    let three = c.in-Some-scalar_of_three in
-    let read = coded-read c.args.text.now c.args.at three.scalar.code three.scalar.size c.requires three.ensures.reads in
+    let few = c.in-Some in
+    let read = coded-read c.args.text.now c.args.at few.scalar.code few.scalar.size c.requires few.ensures in
     omega (arith, read.within)
 
-pub returns-clause-read : goal.returns-clause-read
-returns-clause-read c =
-    let three = c.in-Some-scalar_of_three in
-    coded-read c.args.text.now c.args.at three.scalar.code three.scalar.size c.requires three.ensures.reads
+pub returns : goal.returns
+returns c =
+    let few = c.in-Some in
+    coded-read c.args.text.now c.args.at few.scalar.code few.scalar.size c.requires few.ensures

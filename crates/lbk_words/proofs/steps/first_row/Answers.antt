@@ -4,4 +4,4 @@ use Rattle.lbk_words.proofs.RowLemmas.{first-row}
 use Rattle.lbk_words.proofs.steps.first_row.Goals as goal
 
 pub returns : goal.returns
-returns c = first-row c.args.code c.kind_of.result (subst (IsKind c.args.code) (sym c.kind_of.ensures.kind) (is-kind c.args.code c.requires))
+returns c = first-row c.args.first.code c.kind_of.result (subst (IsKind c.args.first.code) (sym c.kind_of.ensures.kind) (is-kind c.args.first.code c.args.first.few))

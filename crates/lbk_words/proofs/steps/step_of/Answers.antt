@@ -9,15 +9,15 @@ use Rattle.lbk_words.proofs.steps.step_of.Goals as goal
 
 pub returns-then-not-step : goal.returns-then-not-step
 returns-then-not-step c =
-    let far = value_at (significant (scalars_on c.args.text.now c.args.end)) 0 in
-    let is : IsKind c.args.code c.kind_of-kind.result = subst (IsKind c.args.code) (sym c.kind_of-kind.ensures.kind) (is-kind c.args.code c.requires.code) in
+    let far = value_at (significant (scalars_on c.args.text.now c.args.next.end)) 0 in
+    let is : IsKind c.args.next.code c.kind_of-kind.result = subst (IsKind c.args.next.code) (sym c.kind_of-kind.ensures.kind) (is-kind c.args.next.code c.args.next.few) in
     let quiet : (told (step_number 0 c.args.row c.kind_of-kind.result)).asks ≡ false = ap (λ s. s.asks) (sym c.step_at-step.ensures) ∙ not-true c.step_at-step.result.asks c.if-not-step.true in
-    subst (IsStep c.args.row c.args.code far) (sym c.step_at-step.ensures) (step-unasked c.args.row c.args.code c.kind_of-kind.result far c.requires.row is quiet)
+    subst (IsStep c.args.row c.args.next.code far) (sym c.step_at-step.ensures) (step-unasked c.args.row c.args.next.code c.kind_of-kind.result far c.requires is quiet)
 
 pub returns : goal.returns
 returns c =
-    let far = value_at (significant (scalars_on c.args.text.now c.args.end)) 0 in
+    let far = value_at (significant (scalars_on c.args.text.now c.args.next.end)) 0 in
     let kind = c.kind_of-kind.result in
-    let is : IsKind c.args.code kind = subst (IsKind c.args.code) (sym c.kind_of-kind.ensures.kind) (is-kind c.args.code c.requires.code) in
-    subst (IsStep c.args.row c.args.code far) (sym (c.step_at.ensures ∙ ap (λ a. told (step_number a c.args.row kind)) c.answer_ahead.ensures.number))
-    (step-asked c.args.row c.args.code kind far c.requires.row is (few-answers far))
+    let is : IsKind c.args.next.code kind = subst (IsKind c.args.next.code) (sym c.kind_of-kind.ensures.kind) (is-kind c.args.next.code c.args.next.few) in
+    subst (IsStep c.args.row c.args.next.code far) (sym (c.step_at.ensures ∙ ap (λ a. told (step_number a c.args.row kind)) c.answer_ahead.ensures.number))
+    (step-asked c.args.row c.args.next.code kind far c.requires is (few-answers far))
