@@ -1,7 +1,6 @@
 -- The breaks of a text, of which some were found.
-use Rattle.std.proofs.Common.{◌≡◌, ℕ, suc, ◌+◌, ◌-◌, ◌≤◌, ◌<◌, min, Bool, true, false, not, cond, ◌⊎◌, inl, inr, ⊎_elim, List, [], ◌∷◌, ◌++◌, length, map, take, drop, refl, sym, ap, ap₂, subst, ◌∙◌, arith, lit<}
+use Rattle.std.proofs.Common.{◌≡◌, ℕ, suc, ◌+◌, ◌-◌, ◌≤◌, ◌<◌, min, true, false, cond, ◌⊎◌, inl, inr, ⊎_elim, List, [], ◌∷◌, ◌++◌, length, map, take, drop, refl, sym, ap, ap₂, subst, ◌∙◌, arith, lit<}
 use Rattle.std.specs.Char.{encode_utf8}
-use Rattle.std.specs.Int.{from_bool}
 use Rattle.std.specs.Str.{IsUtf8, chars, encode_utf8_all}
 use Rattle.std.proofs.lemmas.Bool.{false≢true}
 use Rattle.std.proofs.lemmas.List.{append-nil, get_or-take, length-append, length-drop, length-map, length-take-le, take-append-drop, take_at}
@@ -262,13 +261,3 @@ module _ (profile : Profile) (cell : ℕ → Cell) (text : List ℕ) (from to : 
       let n = to.found - from.found in
       let here : k < n = omega (arith, taken-many) in
       subst IsBreak (sym (get_or-take n out k no_break here)) (f.breaks k here)
-
--- a block that is filled further has less room, or the end is found
-pub fill-smaller : (ended : Bool) (some room count len : ℕ) → (ended ≡ false → some ≡ room) → 0 < room → count < len
-    → (len - (count + some)) + from_bool (not ended) < (len - count) + 1
-fill-smaller true some room count len full more below = omega arith
-fill-smaller false some room count len full more below = let all = full refl in omega arith
-
-pub is-ended : (b : Bool) → not b ≡ false → b ≡ true
-is-ended true is = refl
-is-ended false is = sym is

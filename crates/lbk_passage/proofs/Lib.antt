@@ -24,3 +24,4 @@ pub mod Joining
 pub mod SameCells
 pub mod ReadLemmas
 pub mod FoundLemmas
+pub mod KeptLemmas

@@ -5,12 +5,9 @@ ghost use Rattle.std.specs.Iterator.{YieldsFirst, item_count};
 ghost use Rattle.std.specs.Str.{chars};
 ghost use Rattle.lbk_rules.specs.Breaks.{breaks};
 
-use crate::found::{NO_BREAK, Progress, START, break_of, find, put_breaks};
+use crate::kept::{Kept, NONE_FOUND};
 use lbk_rules::{Break, CellSource, Profile};
 use std::marker::Model;
-
-/// How many breaks are found at a time.
-const BLOCK: usize = 64;
 
 /// The breaks of a text: its positions after the first where a line may or must end (UAX #14, section 3), the last
 /// being its end; an empty text has none. The text is one, whatever its paragraphs. No memory is taken, and time grows
@@ -28,22 +25,20 @@ pub struct Breaks<'a, C: CellSource> {
     cells: &'a C,
     profile: Profile,
     text: &'a str,
-    progress: Progress,
+    kept: Kept,
 }
 
 // Its value is the list of the breaks that are left.
 impl<'a, C: CellSource> Model for Breaks<'a, C> {
-    ghost use Rattle.std.specs.Prelude.{List, drop};
-    ghost use Rattle.std.specs.Str.{chars};
+    ghost use Rattle.std.specs.Prelude.{List};
     ghost use Rattle.lbk_rules.specs.declared.Break.{Break};
-    ghost use Rattle.lbk_rules.specs.Breaks.{breaks};
-    ghost use Rattle.lbk_passage.specs.Found.{IsFound};
+    ghost use Rattle.lbk_passage.specs.Found.{IsKept, to_give};
 
     ghost Value = { List Break };
 
-    ghost view = { λ b. drop b.progress.found (breaks b.profile (C.cell_of b.cells.now) (chars b.text.now)) };
+    ghost view = { λ b. to_give b.profile (C.cell_of b.cells.now) b.text.now b.kept };
 
-    ghost invariant = { λ b. IsFound b.profile (C.cell_of b.cells.now) b.text.now b.progress };
+    ghost invariant = { λ b. IsKept b.profile (C.cell_of b.cells.now) b.text.now b.kept };
 }
 
 impl<'a, C: CellSource> Breaks<'a, C> {
@@ -55,7 +50,7 @@ impl<'a, C: CellSource> Breaks<'a, C> {
             cells,
             profile,
             text,
-            progress: START,
+            kept: NONE_FOUND,
         }
     }
 
@@ -66,23 +61,7 @@ impl<'a, C: CellSource> Breaks<'a, C> {
         ensures front { take result block.new ≡ take result self.old }
         ensures rest { self.new ≡ drop result self.old }
     {
-        let cells = self.cells;
-        let profile = self.profile;
-        let text = self.text;
-        let mut raw = [NO_BREAK; BLOCK];
-        let mut here = self.progress;
-        let mut count = 0;
-        while count < block.len() && !here.ended {
-            let room = BLOCK.min(block.len() - count);
-            let out = &mut raw[..room];
-            let next = find::<true, C>(cells, profile, text, here, out);
-            let some = next.found - here.found;
-            put_breaks(out, some, block, count);
-            count += some;
-            here = next;
-        }
-        self.progress = here;
-        count
+        self.kept.fill(self.cells, self.profile, self.text, block)
     }
 }
 
@@ -95,13 +74,9 @@ impl<'a, C: CellSource> Iterator for Breaks<'a, C> {
 
     /// The next break, or none at the end. Many are found faster by `fill`.
     fn next(&mut self) -> Option<Break> {
-        let mut one = [NO_BREAK; 1];
-        let before = self.progress.found;
-        let next = find::<false, C>(self.cells, self.profile, self.text, self.progress, &mut one);
-        self.progress = next;
-        if next.found == before {
+        if !self.kept.hold(self.cells, self.profile, self.text) {
             return None;
         }
-        Some(break_of(one[0]))
+        Some(self.kept.give())
     }
 }

@@ -38,8 +38,8 @@ pub(crate) const NO_BREAK: RawBreak = RawBreak {
 };
 
 /// Writes the next breaks of a text into the front of a block, as many as it holds or all that are left, and returns
-/// how far they were found. With masks blocks of bytes are taken at once: it pays where many breaks are asked for.
-pub(crate) fn find<const MASKS: bool, C: CellSource>(
+/// how far they were found.
+pub(crate) fn find<C: CellSource>(
     cells: &C,
     profile: Profile,
     text: &str,
@@ -58,7 +58,7 @@ pub(crate) fn find<const MASKS: bool, C: CellSource>(
         row: from.row,
         at: from.at,
     };
-    let here = fill::<MASKS, CellTable<'_, C>>(&table, profile, start, text.as_bytes(), out);
+    let here = fill::<true, CellTable<'_, C>>(&table, profile, start, text.as_bytes(), out);
     if here.count == out.len() {
         return Progress {
             row: here.row,

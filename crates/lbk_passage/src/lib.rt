@@ -11,6 +11,7 @@ mod ends;
 mod faults;
 mod flags;
 mod found;
+mod kept;
 mod known;
 pub mod laws;
 mod paragraph;

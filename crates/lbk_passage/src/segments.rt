@@ -90,7 +90,7 @@ fn cut_alone<C: CellSource>(
     let mut here = START;
     let mut start = 0;
     loop {
-        let next = find::<true, C>(cells, profile, text, here, block);
+        let next = find(cells, profile, text, here, block);
         let count = next.found - here.found;
         start = cut_block(&block[..count], start, segments)?;
         if next.ended {
