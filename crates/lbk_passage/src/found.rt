@@ -4,10 +4,14 @@ ghost use Rattle.std.specs.Prelude.{◌≡◌, ◌+◌, ◌≤◌, ◌++◌, len
 ghost use Rattle.lbk_rules.specs.declared.Break.{Break};
 ghost use Rattle.lbk_bytes.specs.Order.{AreBreaks};
 ghost use Rattle.lbk_bytes.specs.Shown.{given_in, raw_of};
+ghost use Rattle.lbk_bytes.specs.Steps.{Fills, IsInText};
 ghost use Rattle.lbk_passage.specs.Found.{FindsNext, IsFound};
 
 use lbk_bytes::{FillState, RawBreak, fill, put_end};
-use lbk_rules::{Break, CellSource, CellTable, Profile, verdict_of};
+use lbk_rules::{Break, CellSource, CellTable, KindSource, Profile, verdict_of};
+
+/// The first byte value with which a scalar of three bytes or more begins.
+const LONG: u8 = 0xE0;
 
 /// How far the breaks of a text were found.
 #[derive(Clone, Copy)]
@@ -58,7 +62,7 @@ pub(crate) fn find<C: CellSource>(
         row: from.row,
         at: from.at,
     };
-    let here = fill::<true, CellTable<'_, C>>(&table, profile, start, text.as_bytes(), out);
+    let here = fill_from(&table, profile, start, text.as_bytes(), out);
     if here.count == out.len() {
         return Progress {
             row: here.row,
@@ -74,6 +78,25 @@ pub(crate) fn find<C: CellSource>(
         found: from.found + count,
         ended: true,
     }
+}
+
+/// Fills a block of breaks, by blocks of bytes and by steps, or by steps alone where a scalar of three bytes or more comes
+/// first: such scalars are then usual, and blocks leave them to steps.
+#[inline(always)]
+fn fill_from<K: KindSource>(
+    table: &K,
+    profile: Profile,
+    start: FillState,
+    text: &[u8],
+    out: &mut [RawBreak],
+) -> FillState
+    requires { IsInText start (length text.now) (length out.old) }
+    ensures { Fills profile (K.kinds_of table.now) (K.pairs_of table.now) text.now out.old start out.new result }
+{
+    if start.at < text.len() && LONG <= text[start.at] {
+        return fill::<false, K>(table, profile, start, text, out);
+    }
+    fill::<true, K>(table, profile, start, text, out)
 }
 
 /// A break by its numbers.

@@ -17,7 +17,7 @@ returns-then-here-out g c =
     let cell = g.C.CellSource.cell_of c.args.cells.now in
     let text = c.args.text.now in
     let from = c.args.from in
-    let fill = c.fill-here in
+    let fill = c.fill_from-here in
     let all : Ahead = record { breaks = left_after c.args.profile cell text from; end = closed_end } in
     let same = c.as_bytes.ensures.value in
     let begins = subst (λ t. Reached c.args.profile cell t all (record { count = 0; row = from.row; at = from.at }) []) (sym same) (c.requires.goes_on c.if-from.false) in
@@ -31,7 +31,7 @@ overflow_add-result g c =
     let cell = g.C.CellSource.cell_of c.args.cells.now in
     let text = c.args.text.now in
     let from = c.args.from in
-    let fill = c.fill-here in
+    let fill = c.fill_from-here in
     let all : Ahead = record { breaks = left_after c.args.profile cell text from; end = closed_end } in
     let same = c.as_bytes.ensures.value in
     let begins = subst (λ t. Reached c.args.profile cell t all (record { count = 0; row = from.row; at = from.at }) []) (sym same) (c.requires.goes_on c.if-from.false) in
@@ -44,7 +44,7 @@ overflow_add-result-2 g c =
     let cell = g.C.CellSource.cell_of c.args.cells.now in
     let text = c.args.text.now in
     let from = c.args.from in
-    let fill = c.fill-here in
+    let fill = c.fill_from-here in
     let all : Ahead = record { breaks = left_after c.args.profile cell text from; end = closed_end } in
     let same = c.as_bytes.ensures.value in
     let begins = subst (λ t. Reached c.args.profile cell t all (record { count = 0; row = from.row; at = from.at }) []) (sym same) (c.requires.goes_on c.if-from.false) in
@@ -62,7 +62,7 @@ returns g c =
     let cell = g.C.CellSource.cell_of c.args.cells.now in
     let text = c.args.text.now in
     let from = c.args.from in
-    let fill = c.fill-here in
+    let fill = c.fill_from-here in
     let all : Ahead = record { breaks = left_after c.args.profile cell text from; end = closed_end } in
     let same = c.as_bytes.ensures.value in
     let begins = subst (λ t. Reached c.args.profile cell t all (record { count = 0; row = from.row; at = from.at }) []) (sym same) (c.requires.goes_on c.if-from.false) in
