@@ -1,10 +1,13 @@
 -- What an intake shows, when it needs to read, and what its reads do.
-use Rattle.std.specs.Prelude.{◌≡◌, ◌⊎◌, ℕ, ◌+◌, ◌<◌, ◌≤◌, true, false, List, ◌++◌, length, take, Option}
+use Rattle.std.specs.Prelude.{◌≡◌, ◌⊎◌, ℕ, ◌+◌, ◌<◌, ◌≤◌, true, false, ◌||◌, List, ◌++◌, length, take, Option}
+use Rattle.std.specs.Prelude.{Result, OnOk, OnErr}
 use Rattle.std.specs.Io.KnownBytes.{Consumes, IsAtEnd, prepend_known}
 use Rattle.lbk_feed.specs.Text.{longest_text}
 use Rattle.lbk_feed.specs.declared.judge.Stop.TheVariants.{Faulty}
 use Rattle.lbk_feed.specs.declared.intake.Intake.{Intake}
-use Rattle.lbk_feed.specs.Devices.{KeepsIfTold, Reads}
+use Rattle.lbk_feed.specs.declared.traits.Failed.{Failed}
+use Rattle.lbk_feed.specs.declared.traits.Source.{Ghosts as SourceMembers}
+use Rattle.lbk_feed.specs.Devices.{KeepsIfTold, Reads, failures_after}
 use Rattle.lbk_feed.specs.Block.{items}
 use Rattle.lbk_feed.specs.View.{View, BeginsWith, CanGoOn, IsStill, AreDue}
 
@@ -24,6 +27,11 @@ pub record WantsMore (i : Intake) : Type 0 where
   pub few : length (items i.block) < 4
   pub goes_on : CanGoOn i.given (items i.block)
   pub open_end : i.is_ended ≡ false
+
+-- a read is needed, and no fault was returned
+pub record IsDue (i : Intake) : Type 0 where
+  pub wants : WantsMore i
+  pub unspent : i.is_spent ≡ false
 
 -- a piece is ready, the bytes have a fault, more were read than a text may have, or the end was reached
 abbrev pub IsSettled : Intake → Type 0
@@ -60,3 +68,13 @@ pub record DrawsAndFails (old new : View) (before after : Option (List ℕ)) (fr
   pub but_one_gave : to.count ≤ from.count + length got + 1
   pub goes_on : CanGoOn new.given new.held
   pub due : AreDue old.given old.held new.held from to
+
+-- a call that reads, because a read is due, with this result
+pub record Refills {R : Type 0} (source : SourceMembers R) (old new : Intake) (reader reader' : R)
+    (result : Result (Unit {0}) Failed) : Type 0 where
+  pub ok : OnOk result (Draws (view_of old) (view_of new) (source.unread reader) (source.unread reader')
+      (source.reads_made reader) (source.reads_made reader'))
+  pub err : OnErr result (DrawsAndFails (view_of old) (view_of new) (source.unread reader) (source.unread reader')
+      (source.reads_made reader) (source.reads_made reader'))
+  pub ended : source.has_ended reader' ≡ (source.has_ended reader || new.is_ended)
+  pub failures : source.failure_count reader' ≡ failures_after (source.failure_count reader) result

@@ -21,8 +21,7 @@ most_in_a_write s = s.most
 unfoldable pub sink_tally : MemorySink → Tally
 sink_tally s = s.tally
 
--- a write of these bytes, before it is counted: as many as its size and the room left allow, and it fails where that is
--- none of some
+-- a write of these bytes: as many as its size and the room left allow, and it fails where that is none of some
 pub record Accepts (old new : MemorySink) (bytes : List ℕ) (result : Result ℕ Failed) : Type 0 where
   pub within : IfOk result (λ n. n ≤ length bytes)
   pub some : 0 < length bytes → IfOk result (λ n. 0 < n)
@@ -32,4 +31,3 @@ pub record Accepts (old new : MemorySink) (bytes : List ℕ) (result : Result �
   pub put : Puts (Some (sink_bytes old)) (Some (sink_bytes new)) result bytes
   pub room : sink_room new ≡ sink_room old
   pub most : most_in_a_write new ≡ most_in_a_write old
-  pub tally : sink_tally new ≡ sink_tally old

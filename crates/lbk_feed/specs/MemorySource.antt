@@ -1,9 +1,10 @@
 -- What a `MemorySource` shows.
 use Rattle.std.specs.Prelude.{◌≡◌, ℕ, ◌-◌, ◌^◌, ◌≤◌, ◌↔◌, max, min, List, [], ◌∷◌, length, Option, Some, Result}
-use Rattle.std.specs.Prelude.{IsErr, IfOk, OnOk, OnErr}
+use Rattle.std.specs.Prelude.{None, IsErr, IfOk, OnOk, OnErr}
 use Rattle.lbk_feed.specs.Devices.{Takes}
 use Rattle.lbk_feed.specs.declared.traits.Failed.{Failed}
 use Rattle.lbk_feed.specs.declared.tally.Tally.{Tally}
+use Rattle.lbk_feed.specs.Tally.{IsFresh}
 use Rattle.lbk_feed.specs.declared.devices.memory_source.MemorySource.{MemorySource}
 
 -- the unread bytes of the source
@@ -33,8 +34,15 @@ later_sizes (n ∷ m ∷ sizes) = m ∷ sizes
 unfoldable pub source_tally : MemorySource → Tally
 source_tally s = s.tally
 
--- a read into a buffer of this room, before it is counted: the read with that number fails, and any other takes as many
--- bytes as its size, the room and the unread ones allow
+-- a source of these bytes, with reads of these sizes, before any call
+pub record IsSourceOf (content cuts : List ℕ) (s : MemorySource) : Type 0 where
+  pub bytes : source_bytes s ≡ content
+  pub sizes : source_sizes s ≡ cuts
+  pub failing : failing_read s ≡ None
+  pub fresh : IsFresh (source_tally s)
+
+-- a read into a buffer of this room: the read with that number fails, and any other takes as many bytes as its size, the
+-- room and the unread ones allow
 pub record Gives (old new : MemorySource) (room : ℕ) (buf : List ℕ) (result : Result ℕ Failed) : Type 0 where
   pub within : IfOk result (λ n. n ≤ room)
   pub fails : IsErr result ↔ (failing_read old ≡ Some (source_tally old).reads)
@@ -43,4 +51,3 @@ pub record Gives (old new : MemorySource) (room : ℕ) (buf : List ℕ) (result 
   pub sizes : OnOk result (source_sizes new ≡ later_sizes (source_sizes old))
   pub same_sizes : OnErr result (source_sizes new ≡ source_sizes old)
   pub failing : failing_read new ≡ failing_read old
-  pub tally : source_tally new ≡ source_tally old

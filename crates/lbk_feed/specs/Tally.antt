@@ -1,6 +1,6 @@
 -- The counts of a device.
-use Rattle.std.specs.Prelude.{◌≡◌, false}
-use Rattle.lbk_feed.specs.Devices.{Reads}
+use Rattle.std.specs.Prelude.{◌≡◌, ℕ, false, Result}
+use Rattle.lbk_feed.specs.Devices.{Reads, count_up, given_by, failures_after, ended_after}
 use Rattle.lbk_feed.specs.declared.tally.Tally.{Tally}
 
 -- its reads
@@ -13,3 +13,10 @@ pub record IsFresh (t : Tally) : Type 0 where
   pub gave : t.gave ≡ 0
   pub failures : t.failures ≡ 0
   pub ended : t.ended ≡ false
+
+-- a read into `room` bytes with result r was counted
+pub record CountsRead {E : Type 0} (old new : Tally) (r : Result ℕ E) (room : ℕ) : Type 0 where
+  pub reads : new.reads ≡ count_up old.reads
+  pub gave : new.gave ≡ given_by r
+  pub failures : new.failures ≡ failures_after old.failures r
+  pub ended : new.ended ≡ ended_after old.ended r room

@@ -3,6 +3,7 @@ use Rattle.std.specs.Prelude.{◌≡◌, ◌⊎◌, ℕ, ◌+◌, ◌<◌, ◌�
 use Rattle.std.specs.Prelude.{None, Some, IfSome, IfNone, is_some, Result, Ok, Err, IfOk, MatchOption, ⊤, IsUtf8}
 use Rattle.std.specs.Borrow.{Bor}
 use Rattle.std.specs.Io.KnownBytes.{prepend_known, Keeps, IsAtEnd}
+use Rattle.lbk_feed.specs.declared.traits.Source.{Ghosts as SourceMembers}
 use Rattle.lbk_feed.specs.declared.faults.FeedFault.{FeedFault}
 use Rattle.lbk_feed.specs.declared.faults.FeedFault.TheVariants.{Read, NotUtf8, TextTooLong, Spent}
 use Rattle.lbk_feed.specs.Devices.{KeepsIfTold, Reads, count_up}
@@ -125,12 +126,30 @@ pub record Pays (old new : View) (from to : Reads) : Type 0 where
   pub few : from.count < to.count → to.count + length old.held ≤ from.count + 4
   pub within : from.count < to.count → to.count + (old.given + length old.held) ≤ from.count + (longest_text + 1)
 
--- the feed after the loan of a call's piece has ended; `unread`, `ended` and `reads` are the reader's before the call,
--- and those with a prime after it
-pub record AfterPiece (old new : View) (unread unread' : Option (List ℕ)) (ended ended' : Bool) (reads reads' : Reads)
+-- the feed after a call that may read, with this fault
+pub record AfterCall {R : Type 0} (source : SourceMembers R) (old new : View) (reader reader' : R)
+    (fault : Option FeedFault) : Type 0 where
+  pub steps : Steps old new (source.unread reader) (source.unread reader') fault
+  pub pays : Pays old new (source.reads_made reader) (source.reads_made reader')
+  pub agrees : Agrees old (source.has_ended reader) (source.unread reader)
+      → Agrees new (source.has_ended reader') (source.unread reader')
+  pub notices : new.is_ended ≡ false → source.has_ended reader' ≡ source.has_ended reader
+
+-- the fault of a call that may read, and its reads
+pub record Asks {R : Type 0} (source : SourceMembers R) (old : View) (reader reader' : R)
+    (fault : Option FeedFault) : Type 0 where
+  -- `Spent` is returned exactly after another fault
+  pub spent : old.is_spent ≡ true → fault ≡ Some Spent
+  pub spent_only : fault ≡ Some Spent → old.is_spent ≡ true
+  -- where a piece is ready, the end was reached, or a fault was returned or is certain, no read is made
+  pub idle : IsIdle old → reader' ≡ reader
+  pub read : fault ≡ Some Read → ¬ (IsIdle old)
+  pub reads : (source.reads_made reader').count ≤ (source.reads_made reader).count + 4
+  -- `Read` is returned exactly where a read failed
+  pub failures : source.failure_count reader' ≡ failures_with (source.failure_count reader) fault
+
+-- the feed after the loan of a call's piece has ended
+pub record AfterPiece {R : Type 0} (source : SourceMembers R) (old new : View) (reader reader' : R)
     (r : Result (Option (Bor (List ℕ))) FeedFault) : Type 0 where
-  pub steps : Steps old new unread unread' (fault_of r)
-  pub pays : Pays old new reads reads'
+  pub call : AfterCall source old new reader reader' (fault_of r)
   pub lent : IfOk r (λ o. MatchOption o ((new.held ≡ []) × (new.is_ended ≡ true)) (λ piece. piece.now ≡ new.ready))
-  pub agrees : Agrees old ended unread → Agrees new ended' unread'
-  pub notices : new.is_ended ≡ false → ended' ≡ ended

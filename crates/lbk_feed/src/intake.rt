@@ -29,13 +29,11 @@ pub struct Intake {
 }
 
 impl Intake {
-    ghost use Rattle.std.specs.Prelude.{◌+◌, ◌≤◌, ◌<◌, ◌⊎◌, ◌||◌, true, false, length, drop, IfErr, OnOk, OnErr};
+    ghost use Rattle.std.specs.Prelude.{◌+◌, ◌≤◌, ◌<◌, ◌⊎◌, true, false, length, drop, IfErr, OnOk};
     ghost use Rattle.std.specs.Prelude.{IfSome, IfNone, IsOk, is_err, []};
     ghost use Rattle.std.specs.Str.{IsCharBoundary};
-    ghost use Rattle.lbk_feed.specs.Devices.{failures_after};
-    ghost use Rattle.lbk_feed.specs.View.{new_view, IsFront, LendsFront, LiesIn, Steps, Pays, Agrees, IsOfText};
-    ghost use Rattle.lbk_feed.specs.View.{IsIdle, fault_of, failures_with};
-    ghost use Rattle.lbk_feed.specs.Intake.{view_of, WantsMore, IsSettled, Draws, DrawsAndFails};
+    ghost use Rattle.lbk_feed.specs.View.{new_view, IsFront, LendsFront, LiesIn, AfterCall, Asks, IsOfText, fault_of};
+    ghost use Rattle.lbk_feed.specs.Intake.{view_of, WantsMore, IsDue, IsSettled, Refills};
 
     pub fn new() -> Intake
         ensures { view_of result ≡ new_view }
@@ -123,16 +121,10 @@ impl Intake {
 
     /// Reads once, if a read is needed.
     fn read_more<R: Source>(&mut self, reader: &mut R) -> Result<(), Failed>
-        requires due { WantsMore self.old }
-        requires unspent { self.old.is_spent ≡ false }
-        ensures ok { OnOk result (Draws (view_of self.old) (view_of self.new)
-            (R.unread reader.old) (R.unread reader.new) (R.reads_made reader.old) (R.reads_made reader.new)) }
-        ensures err { OnErr result (DrawsAndFails (view_of self.old) (view_of self.new)
-            (R.unread reader.old) (R.unread reader.new) (R.reads_made reader.old) (R.reads_made reader.new)) }
+        requires { IsDue self.old }
+        ensures refills { Refills R.Source self.old self.new reader.old reader.new result }
         ensures grows { OnOk result ((self.new.is_ended ≡ true)
             ⊎ (length (items self.old.block) < length (items self.new.block))) }
-        ensures ended { R.has_ended reader.new ≡ (R.has_ended reader.old || self.new.is_ended) }
-        ensures failures { R.failure_count reader.new ≡ failures_after (R.failure_count reader.old) result }
         ensures reads { (R.reads_made reader.new).count ≤ (R.reads_made reader.old).count + 1 }
     {
         let n = self.block.read_from(reader)?;
@@ -145,15 +137,9 @@ impl Intake {
 
     /// Reads until a piece is ready, a fault is certain, or the end is reached.
     fn refill<R: Source>(&mut self, reader: &mut R) -> Result<(), Failed>
-        requires due { WantsMore self.old }
-        requires unspent { self.old.is_spent ≡ false }
-        ensures ok { OnOk result (Draws (view_of self.old) (view_of self.new)
-            (R.unread reader.old) (R.unread reader.new) (R.reads_made reader.old) (R.reads_made reader.new)) }
+        requires { IsDue self.old }
+        ensures refills { Refills R.Source self.old self.new reader.old reader.new result }
         ensures settled { OnOk result (IsSettled self.new) }
-        ensures err { OnErr result (DrawsAndFails (view_of self.old) (view_of self.new)
-            (R.unread reader.old) (R.unread reader.new) (R.reads_made reader.old) (R.reads_made reader.new)) }
-        ensures ended { R.has_ended reader.new ≡ (R.has_ended reader.old || self.new.is_ended) }
-        ensures failures { R.failure_count reader.new ≡ failures_after (R.failure_count reader.old) result }
         ensures reads { (R.reads_made reader.new).count ≤ (R.reads_made reader.old).count + 4 }
     {
         for _ in 0..READS {
@@ -187,20 +173,11 @@ impl Intake {
 
     /// Reads until a piece is ready or the end is reached.
     pub fn settle<R: Source>(&mut self, reader: &mut R) -> Result<(), FeedFault>
-        ensures steps { Steps (view_of self.old) (view_of self.new) (R.unread reader.old) (R.unread reader.new)
+        ensures call { AfterCall R.Source (view_of self.old) (view_of self.new) reader.old reader.new
             (fault_of result) }
-        ensures pays { Pays (view_of self.old) (view_of self.new) (R.reads_made reader.old) (R.reads_made reader.new) }
-        ensures agrees { Agrees (view_of self.old) (R.has_ended reader.old) (R.unread reader.old)
-            → Agrees (view_of self.new) (R.has_ended reader.new) (R.unread reader.new) }
-        ensures notices { (view_of self.new).is_ended ≡ false → R.has_ended reader.new ≡ R.has_ended reader.old }
+        ensures asks { Asks R.Source (view_of self.old) reader.old reader.new (fault_of result) }
         ensures again { (view_of self.old).is_ended ≡ true → (view_of self.old).held ≡ []
             → (view_of self.old).is_spent ≡ false → IsOk result }
-        ensures spent { (view_of self.old).is_spent ≡ true → result ≡ Err FeedFault.Spent }
-        ensures spent_only { result ≡ Err FeedFault.Spent → (view_of self.old).is_spent ≡ true }
-        ensures idle { IsIdle (view_of self.old) → reader.new ≡ reader.old }
-        ensures read { result ≡ Err FeedFault.Read → ¬ (IsIdle (view_of self.old)) }
-        ensures failures { R.failure_count reader.new ≡ failures_with (R.failure_count reader.old) (fault_of result) }
-        ensures reads { (R.reads_made reader.new).count ≤ (R.reads_made reader.old).count + 4 }
     {
         if self.is_spent {
             return Err(FeedFault::Spent);

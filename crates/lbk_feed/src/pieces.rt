@@ -7,8 +7,7 @@ ghost use Rattle.std.specs.Io.BufRead.{Rests};
 ghost use Rattle.std.specs.Str.{IsCharBoundary};
 ghost use Rattle.std.specs.Bool.{OnTrue, OnFalse};
 ghost use Rattle.lbk_feed.specs.Text.{longest_text};
-ghost use Rattle.lbk_feed.specs.View.{new_view, IsFront, LendsFront, IsIdle, Steps, Pays, Agrees, AfterPiece};
-ghost use Rattle.lbk_feed.specs.View.{fault_of, failures_with};
+ghost use Rattle.lbk_feed.specs.View.{new_view, IsFront, LendsFront, AfterCall, AfterPiece, Asks, fault_of};
 ghost use Rattle.lbk_feed.specs.contracts.pieces.Feed.{the_row};
 
 use crate::faults::FeedFault;
@@ -76,25 +75,12 @@ impl Feed {
     ///
     /// It is `piece` without the loan: it makes the same reads, and returns the same faults.
     pub fn settle<R: Source>(&mut self, reader: &mut R) -> Result<bool, FeedFault>
-        ensures steps { Steps self.old self.new (R.unread reader.old) (R.unread reader.new) (fault_of result) }
-        ensures pays { Pays self.old self.new (R.reads_made reader.old) (R.reads_made reader.new) }
-        ensures agrees { Agrees self.old (R.has_ended reader.old) (R.unread reader.old)
-            → Agrees self.new (R.has_ended reader.new) (R.unread reader.new) }
-        ensures notices { self.new.is_ended ≡ false → R.has_ended reader.new ≡ R.has_ended reader.old }
-
+        ensures call { AfterCall R.Source self.old self.new reader.old reader.new (fault_of result) }
+        ensures asks { Asks R.Source self.old reader.old reader.new (fault_of result) }
         ensures stands { IfOk result (λ stands. OnTrue stands (0 < length self.new.ready)) }
         ensures ends { IfOk result (λ stands. OnFalse stands ((self.new.held ≡ []) × (self.new.is_ended ≡ true))) }
         ensures ready { 0 < length self.old.ready → result ≡ Ok true }
         ensures again { self.old.is_ended ≡ true → self.old.held ≡ [] → self.old.is_spent ≡ false → result ≡ Ok false }
-        ensures spent { self.old.is_spent ≡ true → result ≡ Err FeedFault.Spent }
-        ensures spent_only { result ≡ Err FeedFault.Spent → self.old.is_spent ≡ true }
-
-        // Where a piece is ready, the end was reached, or a fault was returned or is certain, no read is made.
-        ensures idle { IsIdle self.old → reader.new ≡ reader.old }
-        ensures read { result ≡ Err FeedFault.Read → ¬ (IsIdle self.old) }
-        ensures reads { (R.reads_made reader.new).count ≤ (R.reads_made reader.old).count + 4 }
-        // `Read` is returned exactly where a read failed.
-        ensures failures { R.failure_count reader.new ≡ failures_with (R.failure_count reader.old) (fault_of result) }
     {
         self.intake.settle(reader)?;
         Ok(!self.intake.ready().is_empty())
@@ -107,24 +93,13 @@ impl Feed {
     /// call makes at most four reads.
     pub fn piece<R: Source>(&mut self, reader: &mut R) -> Result<Option<&str>, FeedFault>
         ensures* after_borrow { sem 𝓛 (Rests the_row self.entry (λ new.
-            AfterPiece self.old new (R.unread reader.old) (R.unread reader.new)
-            (R.has_ended reader.old) (R.has_ended reader.new)
-            (R.reads_made reader.old) (R.reads_made reader.new) result)) }
-
+            AfterPiece R.Source self.old new reader.old reader.new result)) }
+        ensures asks { Asks R.Source self.old reader.old reader.new (fault_of result) }
         ensures some { IfOk result (λ o. IfSome o (λ piece. 0 < length piece.now)) }
         ensures text { IfOk result (λ o. IfSome o (λ piece. IsUtf8 piece.now)) }
         ensures as_ready { 0 < length self.old.ready
             → IsOkAnd result (λ o. IsSomeAnd o (λ piece. piece.now ≡ self.old.ready)) }
         ensures again { self.old.is_ended ≡ true → self.old.held ≡ [] → self.old.is_spent ≡ false → result ≡ Ok None }
-        ensures spent { self.old.is_spent ≡ true → result ≡ Err FeedFault.Spent }
-        ensures spent_only { result ≡ Err FeedFault.Spent → self.old.is_spent ≡ true }
-
-        // Where a piece is ready, the end was reached, or a fault was returned or is certain, no read is made.
-        ensures idle { IsIdle self.old → reader.new ≡ reader.old }
-        ensures read { result ≡ Err FeedFault.Read → ¬ (IsIdle self.old) }
-        ensures reads { (R.reads_made reader.new).count ≤ (R.reads_made reader.old).count + 4 }
-        // `Read` is returned exactly where a read failed.
-        ensures failures { R.failure_count reader.new ≡ failures_with (R.failure_count reader.old) (fault_of result) }
     {
         if !self.settle(reader)? {
             return Ok(None);

@@ -1,7 +1,7 @@
 //! What every device counts.
 
-ghost use Rattle.std.specs.Prelude.{◌≡◌, false};
-ghost use Rattle.lbk_feed.specs.Devices.{count_up, given_by, failures_after, ended_after};
+ghost use Rattle.std.specs.Prelude.{◌≡◌};
+ghost use Rattle.lbk_feed.specs.Devices.{failures_after};
 
 use super::traits::Failed;
 
@@ -15,11 +15,10 @@ pub struct Tally {
 }
 
 impl Tally {
+    ghost use Rattle.lbk_feed.specs.Tally.{IsFresh, CountsRead};
+
     pub fn new() -> Tally
-        ensures reads { result.reads ≡ 0 }
-        ensures gave { result.gave ≡ 0 }
-        ensures failures { result.failures ≡ 0 }
-        ensures ended { result.ended ≡ false }
+        ensures { IsFresh result }
     {
         Tally {
             reads: 0,
@@ -31,10 +30,7 @@ impl Tally {
 
     /// Records a read into a buffer of `room` bytes.
     pub fn note_read(&mut self, outcome: &Result<usize, Failed>, room: usize)
-        ensures reads { self.new.reads ≡ count_up self.old.reads }
-        ensures gave { self.new.gave ≡ given_by outcome.now }
-        ensures failures { self.new.failures ≡ failures_after self.old.failures outcome.now }
-        ensures ended { self.new.ended ≡ ended_after self.old.ended outcome.now room }
+        ensures { CountsRead self.old self.new outcome.now room }
     {
         self.reads = self.reads.saturating_add(1);
         self.gave = match outcome {

@@ -1,8 +1,8 @@
 //! A sink into memory of a given size.
 #![tactic(auto, unfolding(crate::specs::MemorySink::sink_bytes, crate::specs::MemorySink::sink_room, crate::specs::MemorySink::most_in_a_write, crate::specs::MemorySink::sink_tally))]
 
-ghost use Rattle.std.specs.Prelude.{◌≡◌, ◌<◌, ◌≤◌, ◌-◌, ◌↔◌, [], min, max, length, vec_capacity, Some, IfOk, IsErr};
-ghost use Rattle.lbk_feed.specs.Devices.{failures_after, Puts};
+ghost use Rattle.std.specs.Prelude.{◌≡◌, ◌<◌, ◌≤◌, [], max, vec_capacity, Some, IfOk};
+ghost use Rattle.lbk_feed.specs.Devices.{failures_after};
 ghost use Rattle.lbk_feed.specs.Tally.{IsFresh};
 
 use crate::tally::Tally;
@@ -69,7 +69,8 @@ impl MemorySink {
     }
 
     fn take(&mut self, bytes: &[u8]) -> Result<usize, Failed>
-        ensures { Accepts self.old self.new bytes.now result }
+        ensures accepts { Accepts self.old self.new bytes.now result }
+        ensures tally { sink_tally self.new ≡ sink_tally self.old }
     {
         let room = self.room.saturating_sub(self.bytes.len());
         let n = bytes.len().min(self.most).min(room);
@@ -84,7 +85,7 @@ impl MemorySink {
 }
 
 impl Sink for MemorySink {
-    ghost use Rattle.lbk_feed.specs.MemorySink.{sink_bytes, sink_room, most_in_a_write, sink_tally};
+    ghost use Rattle.lbk_feed.specs.MemorySink.{Accepts, sink_bytes, sink_tally};
 
     ghost written = { λ s. Some (sink_bytes s) };
 
@@ -93,17 +94,8 @@ impl Sink for MemorySink {
     /// Fails exactly if there is a byte to write and no room left. Otherwise accepts as many bytes as the room and the
     /// limit of a write allow.
     fn write(&mut self, bytes: &[u8]) -> Result<usize, Failed>
-        ensures within { IfOk result (λ n. n ≤ length bytes.now) }
-        ensures some { 0 < length bytes.now → IfOk result (λ n. 0 < n) }
-        ensures bytes { Puts (Some (sink_bytes self.old)) (Some (sink_bytes self.new)) result bytes.now }
+        ensures accepts { Accepts self.old self.new bytes.now result }
         ensures failures { (sink_tally self.new).failures ≡ failures_after (sink_tally self.old).failures result }
-
-        ensures fails { IsErr result ↔ ((0 < length bytes.now) × (sink_room self.old ≤ length (sink_bytes self.old))) }
-        ensures size { IfOk result (λ n.
-            n ≡ min (min (length bytes.now) (most_in_a_write self.old))
-            (sink_room self.old - length (sink_bytes self.old))) }
-        ensures room { sink_room self.new ≡ sink_room self.old }
-        ensures most { most_in_a_write self.new ≡ most_in_a_write self.old }
     {
         let outcome = self.take(bytes);
         self.tally.note_write(&outcome);

@@ -1,10 +1,9 @@
 //! A source over bytes in memory, with reads of given sizes, and one that fails.
 #![tactic(auto, unfolding(crate::specs::MemorySource::source_bytes, crate::specs::MemorySource::source_sizes, crate::specs::MemorySource::failing_read, crate::specs::MemorySource::source_tally))]
 
-ghost use Rattle.std.specs.Prelude.{◌≡◌, ◌≤◌, ◌↔◌, [], min, length, Some, None, IsErr, IfOk, OnOk, OnErr};
-ghost use Rattle.lbk_feed.specs.Devices.{count_up, given_by, failures_after, ended_after, Takes};
-ghost use Rattle.lbk_feed.specs.Tally.{IsFresh, reads_in};
-ghost use Rattle.lbk_feed.specs.MemorySource.{Gives, source_bytes, source_sizes, next_size_of, later_sizes};
+ghost use Rattle.std.specs.Prelude.{◌≡◌, [], length, Some};
+ghost use Rattle.lbk_feed.specs.Tally.{CountsRead, reads_in};
+ghost use Rattle.lbk_feed.specs.MemorySource.{Gives, IsSourceOf, source_bytes, source_sizes, next_size_of, later_sizes};
 ghost use Rattle.lbk_feed.specs.MemorySource.{failing_read, source_tally};
 
 use crate::tally::Tally;
@@ -22,10 +21,7 @@ pub struct MemorySource<'a> {
 impl<'a> MemorySource<'a> {
     /// A source of `bytes` that fills the buffer in each read.
     pub fn new(bytes: &'a [u8]) -> MemorySource<'a>
-        ensures bytes { source_bytes result ≡ bytes.now }
-        ensures sizes { source_sizes result ≡ [] }
-        ensures failing { failing_read result ≡ None }
-        ensures fresh { IsFresh (source_tally result) }
+        ensures { IsSourceOf bytes.now [] result }
     {
         MemorySource::cut(bytes, &[])
     }
@@ -34,10 +30,7 @@ impl<'a> MemorySource<'a> {
     ///
     /// A read returns less if the buffer is smaller or the bytes end. A size of 0 means 1.
     pub fn cut(bytes: &'a [u8], sizes: &'a [usize]) -> MemorySource<'a>
-        ensures bytes { source_bytes result ≡ bytes.now }
-        ensures sizes { source_sizes result ≡ sizes.now }
-        ensures failing { failing_read result ≡ None }
-        ensures fresh { IsFresh (source_tally result) }
+        ensures { IsSourceOf bytes.now sizes.now result }
     {
         MemorySource {
             rest: bytes,
@@ -79,7 +72,8 @@ impl<'a> MemorySource<'a> {
     }
 
     fn give(&mut self, buf: &mut [u8]) -> Result<usize, Failed>
-        ensures { Gives self.old self.new (length buf.old) buf.new result }
+        ensures gives { Gives self.old self.new (length buf.old) buf.new result }
+        ensures tally { source_tally self.new ≡ source_tally self.old }
     {
         if self.failing == Some(self.tally.reads) {
             return Err(Failed);
@@ -104,20 +98,8 @@ impl Source for MemorySource<'_> {
     /// Fails exactly if it is the failing read. Otherwise returns as many bytes as the next size, the buffer and the
     /// remaining bytes allow.
     fn read(&mut self, buf: &mut [u8]) -> Result<usize, Failed>
-        ensures within { IfOk result (λ n. n ≤ length buf.old) }
-        ensures bytes { Takes (Some (source_bytes self.old)) (Some (source_bytes self.new)) result buf.new }
-        ensures reads { (reads_in (source_tally self.new)).count ≡ count_up (reads_in (source_tally self.old)).count }
-        ensures gave { (reads_in (source_tally self.new)).gave ≡ given_by result }
-        ensures failures { (source_tally self.new).failures ≡ failures_after (source_tally self.old).failures result }
-        ensures ended { (source_tally self.new).ended
-            ≡ ended_after (source_tally self.old).ended result (length buf.old) }
-
-        ensures fails { IsErr result ↔ (failing_read self.old ≡ Some (source_tally self.old).reads) }
-        ensures size { IfOk result (λ n. n
-            ≡ min (min (next_size_of (source_sizes self.old)) (length buf.old)) (length (source_bytes self.old))) }
-        ensures sizes { OnOk result (source_sizes self.new ≡ later_sizes (source_sizes self.old)) }
-        ensures same_sizes { OnErr result (source_sizes self.new ≡ source_sizes self.old) }
-        ensures failing { failing_read self.new ≡ failing_read self.old }
+        ensures gives { Gives self.old self.new (length buf.old) buf.new result }
+        ensures counts { CountsRead (source_tally self.old) (source_tally self.new) result (length buf.old) }
     {
         let outcome = self.give(buf);
         self.tally.note_read(&outcome, buf.len());

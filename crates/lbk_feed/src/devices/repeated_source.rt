@@ -2,8 +2,8 @@
 #![tactic(auto, unfolding(crate::specs::RepeatedSource::repeated_bytes, crate::specs::RepeatedSource::repeated_tally))]
 
 ghost use Rattle.std.specs.Prelude.{◌≡◌, ◌<◌, ◌≤◌, [], ◌++◌, min, length, take, replicate, Some, IfOk, IsOk};
-ghost use Rattle.lbk_feed.specs.Devices.{count_up, given_by, failures_after, ended_after, Takes};
-ghost use Rattle.lbk_feed.specs.Tally.{IsFresh, reads_in};
+ghost use Rattle.lbk_feed.specs.Devices.{Takes};
+ghost use Rattle.lbk_feed.specs.Tally.{CountsRead, IsFresh, reads_in};
 ghost use Rattle.lbk_feed.specs.RepeatedSource.{repeated_bytes, repeated_tally};
 
 use crate::tally::Tally;
@@ -55,16 +55,8 @@ impl Source for RepeatedSource {
 
     /// Never fails. Returns as many bytes as the buffer and the remaining bytes allow.
     fn read(&mut self, buf: &mut [u8]) -> Result<usize, Failed>
-        ensures within { IfOk result (λ n. n ≤ length buf.old) }
         ensures bytes { Takes (Some (repeated_bytes self.old)) (Some (repeated_bytes self.new)) result buf.new }
-        ensures reads { (reads_in (repeated_tally self.new)).count
-            ≡ count_up (reads_in (repeated_tally self.old)).count }
-        ensures gave { (reads_in (repeated_tally self.new)).gave ≡ given_by result }
-        ensures failures { (repeated_tally self.new).failures
-            ≡ failures_after (repeated_tally self.old).failures result }
-        ensures ended { (repeated_tally self.new).ended
-            ≡ ended_after (repeated_tally self.old).ended result (length buf.old) }
-
+        ensures counts { CountsRead (repeated_tally self.old) (repeated_tally self.new) result (length buf.old) }
         ensures ok { IsOk result }
         ensures size { IfOk result (λ n. n ≡ min (length (repeated_bytes self.old)) (length buf.old)) }
     {

@@ -1,12 +1,12 @@
-use Rattle.std.proofs.Common.{◌≡◌, ◌⊎◌, ◌<◌, [], length, take, Bool, true, false, is_err, sym, ap, subst, ◌∙◌, ⊎_elim, arith}
+use Rattle.std.proofs.Common.{◌≡◌, ◌⊎◌, ◌<◌, [], length, take, Bool, true, false, is_some, refl, sym, ap, subst, ◌∙◌, ⊎_elim, arith}
 use Rattle.std.proofs.lemmas.List.{length-take}
 use Rattle.lbk_feed.specs.declared.intake.Intake.{Intake}
 use Rattle.lbk_feed.specs.Block.{items}
-use Rattle.lbk_feed.specs.View.{View, IsFront, LendsFront, CanGoOn, IsIdle, fault_of, Steps, Pays}
+use Rattle.lbk_feed.specs.View.{View, IsFront, LendsFront, CanGoOn, IsIdle, fault_of, AfterCall}
 use Rattle.lbk_feed.specs.Intake.{view_of, WantsMore}
 use Rattle.lbk_feed.proofs.Judged.{front, lends, judged-spent}
 use Rattle.lbk_feed.proofs.Drawing.{no_bytes}
-use Rattle.lbk_feed.proofs.Outcomes.{OnErr-at, OnOk-at}
+use Rattle.lbk_feed.proofs.Outcomes.{OnErr-at, OnOk-at, ended-met, ended-open}
 use Rattle.lbk_feed.proofs.Stepping.{Finds-of, is_some-fault_of, Steps-still, Steps-spent, Steps-drawn, Steps-failed, Pays-drawn, Pays-failed, Pays-still}
 use Rattle.lbk_feed.proofs.intake.Intake.settle.Goals as goal
 use Rattle.lbk_feed.proofs.intake.Intake.settle.Goals.{After-refill}
@@ -32,71 +32,67 @@ not_idle i due fresh idle = ⊎_elim
     other)
     idle
 
-pub returns-then-self-clause-steps : goal.returns-then-self-clause-steps
+pub returns-then-self-clause-call : goal.returns-then-self-clause-call
 unfolding view_of
-returns-then-self-clause-steps g c =
+returns-then-self-clause-call g c =
     let i = c.args.self.now in
     let none : take i.ready_len (items i.block) ≡ [] = ap (λ n. take n (items i.block)) (i.judged.spent c.if-self.true) in
-    Steps-spent (view_of i) _ c.if-self.true none (front_of i) (lends_of i)
+    record {
+      steps = Steps-spent (view_of i) _ c.if-self.true none (front_of i) (lends_of i);
+      pays = Pays-still (view_of i) i.is_spent (g.R.Source.reads_made c.args.reader.now);
+      agrees = λ before. before;
+      notices = λ _. refl;
+    }
 
-pub returns-then-self-clause-pays : goal.returns-then-self-clause-pays
+pub returns-then-not-wants_more-clause-call : goal.returns-then-not-wants_more-clause-call
 unfolding view_of
-returns-then-self-clause-pays g c = Pays-still (view_of c.args.self.now) c.args.self.now.is_spent (g.R.Source.reads_made c.args.reader.now)
-
-pub returns-then-not-wants_more-clause-pays : goal.returns-then-not-wants_more-clause-pays
-unfolding view_of
-returns-then-not-wants_more-clause-pays g c =
-    let i = c.args.self.now in
-    subst (λ (v : View). Pays (view_of i) v (g.R.Source.reads_made c.args.reader.now) (g.R.Source.reads_made c.args.reader.now)) (sym c.finish.ensures.view)
-    (Pays-still (view_of i) (is_err c.finish.result) (g.R.Source.reads_made c.args.reader.now))
-
-pub returns-then-not-wants_more-clause-steps : goal.returns-then-not-wants_more-clause-steps
-unfolding view_of
-returns-then-not-wants_more-clause-steps g c =
+returns-then-not-wants_more-clause-call g c =
     let i = c.args.self.now in
     let e = c.finish.ensures in
-    let is = e.view ∙ ap (λ (s : Bool). record (view_of i) { is_spent = s }) (is_some-fault_of c.finish.result) in
-    subst (λ (v : View). Steps (view_of i) v (g.R.Source.unread c.args.reader.now) (g.R.Source.unread c.args.reader.now) (fault_of c.finish.result)) (sym is)
-    (Steps-still (view_of i) _ (fault_of c.finish.result) c.if-self.false (front_of i) (lends_of i) (Finds-of (view_of i) c.finish.result e.text e.lies e.found))
+    let r = c.finish.result in
+    let is = e.view ∙ ap (λ (s : Bool). record (view_of i) { is_spent = s }) (is_some-fault_of r) in
+    subst (λ (v : View). AfterCall g.R.Source (view_of i) v c.args.reader.now c.args.reader.now (fault_of r)) (sym is)
+    (record {
+      steps = Steps-still (view_of i) _ (fault_of r) c.if-self.false (front_of i) (lends_of i) (Finds-of (view_of i) r e.text e.lies e.found);
+      pays = Pays-still (view_of i) (is_some (fault_of r)) (g.R.Source.reads_made c.args.reader.now);
+      agrees = λ before. before;
+      notices = λ _. refl;
+    })
 
 pub invariant_of-self : goal.invariant_of-self
 unfolding view_of
 invariant_of-self g c =
-    let failed = OnErr-at c.refill.result (sym c.is_err.ensures.value ∙ c.if-is_err.true) c.refill.ensures.err in
+    let failed = OnErr-at c.refill.result (sym c.is_err.ensures.value ∙ c.if-is_err.true) c.refill.ensures.refills.err in
     record { judged = judged-spent _ _ _ _ _ c.refill.new.self.judged failed.none_ready }
 
-pub returns-then-is_err-clause-steps : goal.returns-then-is_err-clause-steps
+pub returns-then-is_err-clause-call : goal.returns-then-is_err-clause-call
 unfolding view_of
-returns-then-is_err-clause-steps g c =
+returns-then-is_err-clause-call g c =
     let i = c.args.self.now in
     let m = c.refill.new.self in
-    let failed = OnErr-at c.refill.result (sym c.is_err.ensures.value ∙ c.if-is_err.true) c.refill.ensures.err in
+    let failed = OnErr-at c.refill.result (sym c.is_err.ensures.value ∙ c.if-is_err.true) c.refill.ensures.refills.err in
     let due = c.wants_more.ensures.yes c.if-not-wants_more.false in
-    Steps-failed (view_of i) (view_of m) _ _ _ _ failed c.if-self.false (not_idle i due c.if-self.false) (no_bytes _ failed.none_ready) (front_of m) (lends_of m)
+    record {
+      steps = Steps-failed (view_of i) (view_of m) _ _ _ _ failed c.if-self.false (not_idle i due c.if-self.false) (no_bytes _ failed.none_ready) (front_of m) (lends_of m);
+      pays = Pays-failed (view_of i) (view_of m) (g.R.Source.unread c.args.reader.now) (g.R.Source.unread c.refill.new.reader) _ _ failed;
+      agrees = λ before ended. absurd (let other = sym ended ∙ failed.open_end in cc);
+      notices = ended-open _ _ _ c.refill.ensures.refills.ended;
+    }
 
-pub returns-then-is_err-clause-pays : goal.returns-then-is_err-clause-pays
+pub returns-clause-call : goal.returns-clause-call
 unfolding view_of
-returns-then-is_err-clause-pays g c =
-    let failed = OnErr-at c.refill.result (sym c.is_err.ensures.value ∙ c.if-is_err.true) c.refill.ensures.err in
-    Pays-failed (view_of c.args.self.now) (view_of c.refill.new.self) (g.R.Source.unread c.args.reader.now) (g.R.Source.unread c.refill.new.reader) _ _ failed
-
-pub returns-clause-steps : goal.returns-clause-steps
-unfolding view_of
-returns-clause-steps g c =
+returns-clause-call g c =
     let i = c.args.self.now in
     let m = c.refill.new.self in
     let r = c.finish-2.result in
     let e = c.finish-2.ensures in
-    let drawn = OnOk-at c.refill.result (sym c.is_err.ensures.value ∙ c.if-is_err.false) c.refill.ensures.ok in
+    let drawn = OnOk-at c.refill.result (sym c.is_err.ensures.value ∙ c.if-is_err.false) c.refill.ensures.refills.ok in
     let due = c.wants_more.ensures.yes c.if-not-wants_more.false in
     let is = e.view ∙ ap (λ (s : Bool). record (view_of m) { is_spent = s }) (is_some-fault_of r) in
-    subst (λ (v : View). Steps (view_of i) v (g.R.Source.unread c.args.reader.now) (g.R.Source.unread c.refill.new.reader) (fault_of r)) (sym is)
-    (Steps-drawn (view_of i) (view_of m) _ _ _ _ (fault_of r) drawn c.if-self.false (not_idle i due c.if-self.false) (front_of m) (lends_of m) (Finds-of (view_of m) r e.text e.lies e.found))
-
-pub returns-clause-pays : goal.returns-clause-pays
-unfolding view_of
-returns-clause-pays g c =
-    let m = c.refill.new.self in
-    let drawn = OnOk-at c.refill.result (sym c.is_err.ensures.value ∙ c.if-is_err.false) c.refill.ensures.ok in
-    subst (λ (v : View). Pays (view_of c.args.self.now) v (g.R.Source.reads_made c.args.reader.now) (g.R.Source.reads_made c.refill.new.reader)) (sym c.finish-2.ensures.view)
-    (Pays-drawn (view_of c.args.self.now) (view_of m) (g.R.Source.unread c.args.reader.now) (g.R.Source.unread c.refill.new.reader) _ _ _ drawn)
+    subst (λ (v : View). AfterCall g.R.Source (view_of i) v c.args.reader.now c.refill.new.reader (fault_of r)) (sym is)
+    (record {
+      steps = Steps-drawn (view_of i) (view_of m) _ _ _ _ (fault_of r) drawn c.if-self.false (not_idle i due c.if-self.false) (front_of m) (lends_of m) (Finds-of (view_of m) r e.text e.lies e.found);
+      pays = Pays-drawn (view_of i) (view_of m) (g.R.Source.unread c.args.reader.now) (g.R.Source.unread c.refill.new.reader) _ _ _ drawn;
+      agrees = λ before ended. (ended-met _ _ _ c.refill.ensures.refills.ended ended, drawn.at_end ended);
+      notices = ended-open _ _ _ c.refill.ensures.refills.ended;
+    })

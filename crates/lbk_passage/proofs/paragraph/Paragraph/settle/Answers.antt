@@ -11,7 +11,7 @@ invariant_of-self-clause-spent g c =
     ap (λ b. c.settle-outcome.new.self.is_spent && not b) c.is_err-self.ensures.value
     ∙ spent_together c.args.self.now.feed.is_spent c.settle-outcome.new.self.is_spent c.settle-outcome.result
     (feed_unspent c.args.self.now.feed.is_spent c.args.self.now.is_spent c.args.self.now.spent c.requires.unspent)
-    c.settle-outcome.ensures.steps.spent
+    c.settle-outcome.ensures.call.steps.spent
 
 pub returns-in-Ok-clause-settles : goal.returns-in-Ok-clause-settles
 returns-in-Ok-clause-settles g c = record {
@@ -22,12 +22,12 @@ returns-in-Ok-clause-settles g c = record {
   unspent = λ e. cc;
   fault_is = refl;
   spent = c.is_err-self.ensures.value ∙ ap is_err c.in-Ok.is;
-  steps = rw c.in-Ok.is at c.settle-outcome.ensures.steps;
-  pays = c.settle-outcome.ensures.pays;
-  agrees = c.settle-outcome.ensures.agrees;
-  notices = c.settle-outcome.ensures.notices;
+  steps = rw c.in-Ok.is at c.settle-outcome.ensures.call.steps;
+  pays = c.settle-outcome.ensures.call.pays;
+  agrees = c.settle-outcome.ensures.call.agrees;
+  notices = c.settle-outcome.ensures.call.notices;
   unasked = λ h.
-      (ap g.R.Source.reads_made (c.settle-outcome.ensures.idle (inr (inl h))), λ e. cc);
+      (ap g.R.Source.reads_made (c.settle-outcome.ensures.asks.idle (inr (inl h))), λ e. cc);
   stands = rw c.in-Ok.is at c.settle-outcome.ensures.stands;
   ends = rw c.in-Ok.is at c.settle-outcome.ensures.ends;
 }
@@ -39,24 +39,24 @@ returns-in-Err-clause-settles g c = record {
   same_held = refl;
   fault = Some c.in-Err.fault;
   unspent = λ e. let same : c.in-Err.fault ≡ Spent = cc in
-      let spent = c.settle-outcome.ensures.spent_only (c.in-Err.is ∙ ap Err same) in
+      let spent = c.settle-outcome.ensures.asks.spent_only (ap fault_of c.in-Err.is ∙ ap Some same) in
       let fresh = feed_unspent c.args.self.now.feed.is_spent c.args.self.now.is_spent c.args.self.now.spent c.requires.unspent in cc;
   fault_is = ap Some c.from_feed.ensures;
   spent = c.is_err-self.ensures.value ∙ ap is_err c.in-Err.is;
-  steps = rw c.in-Err.is at c.settle-outcome.ensures.steps;
-  pays = c.settle-outcome.ensures.pays;
-  agrees = c.settle-outcome.ensures.agrees;
-  notices = c.settle-outcome.ensures.notices;
+  steps = rw c.in-Err.is at c.settle-outcome.ensures.call.steps;
+  pays = c.settle-outcome.ensures.call.pays;
+  agrees = c.settle-outcome.ensures.call.agrees;
+  notices = c.settle-outcome.ensures.call.notices;
   unasked = λ h.
-      (ap g.R.Source.reads_made (c.settle-outcome.ensures.idle (inr (inl h))), λ e. let is : c.in-Err.fault ≡ Read = cc in c.settle-outcome.ensures.read (c.in-Err.is ∙ ap Err is) (inr (inl h)));
+      (ap g.R.Source.reads_made (c.settle-outcome.ensures.asks.idle (inr (inl h))), λ e. let is : c.in-Err.fault ≡ Read = cc in c.settle-outcome.ensures.asks.read (ap fault_of c.in-Err.is ∙ ap Some is) (inr (inl h)));
   stands = tt;
   ends = tt;
 }
 
 pub returns-in-Ok-clause-reads_on : goal.returns-in-Ok-clause-reads_on
 returns-in-Ok-clause-reads_on g c = record {
-  failures = c.settle-outcome.ensures.failures ∙ ap (λ r. feed.failures_with (g.R.Source.failure_count c.args.reader.now) (fault_of r)) c.in-Ok.is;
-  quiet = λ h. c.settle-outcome.ensures.idle (inr (inl h));
+  failures = c.settle-outcome.ensures.asks.failures ∙ ap (λ r. feed.failures_with (g.R.Source.failure_count c.args.reader.now) (fault_of r)) c.in-Ok.is;
+  quiet = λ h. c.settle-outcome.ensures.asks.idle (inr (inl h));
   again = λ h none.
       ap Ok (one_value c.settle-outcome.result c.in-Ok.stands false c.in-Ok.is (c.settle-outcome.ensures.again h none
       (feed_unspent c.args.self.now.feed.is_spent c.args.self.now.is_spent c.args.self.now.spent c.requires.unspent)));
@@ -64,10 +64,10 @@ returns-in-Ok-clause-reads_on g c = record {
 
 pub returns-in-Err-clause-reads_on : goal.returns-in-Err-clause-reads_on
 returns-in-Err-clause-reads_on g c = record {
-  failures = c.settle-outcome.ensures.failures ∙ ap (λ r. feed.failures_with (g.R.Source.failure_count c.args.reader.now) (fault_of r)) c.in-Err.is
+  failures = c.settle-outcome.ensures.asks.failures ∙ ap (λ r. feed.failures_with (g.R.Source.failure_count c.args.reader.now) (fault_of r)) c.in-Err.is
       ∙ failures_alike (g.R.Source.failure_count c.args.reader.now) c.in-Err.fault
       ∙ ap (λ e. failures_with (g.R.Source.failure_count c.args.reader.now) (Some e)) (sym c.from_feed.ensures);
-  quiet = λ h. c.settle-outcome.ensures.idle (inr (inl h));
+  quiet = λ h. c.settle-outcome.ensures.asks.idle (inr (inl h));
   again = λ h none.
       absurd (ok_err c.settle-outcome.result false c.in-Err.fault (c.settle-outcome.ensures.again h none
       (feed_unspent c.args.self.now.feed.is_spent c.args.self.now.is_spent c.args.self.now.spent c.requires.unspent)) c.in-Err.is);
