@@ -5,8 +5,7 @@ use Rattle.std.proofs.lemmas.Bool.{and_parts, false≢true}
 use Rattle.std.specs.List.{AllByRecursion}
 use Rattle.std.proofs.lemmas.List.{reverse-append, reverse-reverse}
 use Rattle.lbk_uax14.specs.declared.cells.Cell.{Cell}
-use Rattle.lbk_uax14.specs.declared.classes.Class.{Class}
-use Rattle.lbk_uax14.specs.declared.classes.Class.TheVariants.{Quotation, Space}
+use Rattle.lbk_uax14.specs.declared.classes.Class.TheVariants.{Space}
 use Rattle.lbk_uax14.specs.declared.classes.Quote.{Quote}
 use Rattle.lbk_uax14.specs.declared.classes.Quote.TheVariants.{Neither, Initial, Final}
 use Rattle.lbk_uax14.specs.Classes.{Set, SP, RI, QU, is, hard, mark, none_of, opens_after, closes_before}
@@ -16,20 +15,26 @@ use Rattle.lbk_uax14.specs.Units.{unit, units, heads, nearest}
 use Rattle.lbk_uax14.specs.Facts.{units_before}
 use Rattle.lbk_uax14.specs.Annex.{HasNoSpace, EndsInSpacesAfter, EndsInRun, EndsIn, BeginsIn, EndsInOpenQuotation}
 use Rattle.lbk_uax14.specs.Annex.{BeginsInClosedQuotation, is_odd, is_head}
-use Rattle.lbk_uax14.proofs.FactsLemmas.{units_before-reverse}
+use Rattle.lbk_uax14.proofs.FactsLemmas.{QU-apart, units_before-reverse}
 
 -- a list read outwards, its first element last
 reverse-cons : (cell : Cell) (cells side : List Cell) → reverse (cell ∷ cells) ++ side ≡ reverse cells ++ (cell ∷ side)
 reverse-cons cell cells side =
     ap (λ s. s ++ side) (reverse-append (cell ∷ []) cells) ∙ append_assoc (reverse cells) (cell ∷ []) side
 
--- spaces are passed over
-past_all_spaces : (spaces : List Cell) (side : Side) → AllByRecursion (λ (c : Cell). SP c.class ≡ true) spaces
-    → before_spaces (reverse spaces ++ side) ≡ before_spaces side
+-- what passes over a space passes over all of them
+over_all_spaces : {A : Type 0} (f : Side → A)
+    → ((cell : Cell) (side : Side) → SP cell.class ≡ true → f (cell ∷ side) ≡ f side)
+    → (spaces : List Cell) (side : Side) → AllByRecursion (λ (c : Cell). SP c.class ≡ true) spaces
+    → f (reverse spaces ++ side) ≡ f side
+over_all_spaces f over [] side all = refl
+over_all_spaces f over (cell ∷ spaces) side all =
+    ap f (reverse-cons cell spaces side) ∙ over_all_spaces f over spaces (cell ∷ side) all.1 ∙ over cell side all.0
+
+before_spaces-over : (cell : Cell) (side : Side) → SP cell.class ≡ true
+    → before_spaces (cell ∷ side) ≡ before_spaces side
 unfolding before_spaces
-past_all_spaces [] side all = refl
-past_all_spaces (cell ∷ spaces) side all =
-    ap before_spaces (reverse-cons cell spaces side) ∙ past_all_spaces spaces (cell ∷ side) all.1 ∙ rw all.0 refl
+before_spaces-over cell side space = rw space refl
 
 -- what is found past the spaces, read outwards, with spaces found already
 found_past : (x : Set) (side : Side) (spaces : List Cell) → HasNoSpace x
@@ -66,7 +71,7 @@ past_spaces-ends x cells no_space ends =
     ap reverse ends.joined ∙ reverse-append ends.before (ends.cell ∷ ends.spaces)
     ∙ reverse-cons ends.cell ends.spaces (reverse ends.before) in
     let past : before_spaces (reverse cells) ≡ before_spaces (ends.cell ∷ reverse ends.before) =
-    ap before_spaces outwards ∙ past_all_spaces ends.spaces _ ends.all_spaces in
+    ap before_spaces outwards ∙ over_all_spaces before_spaces before_spaces-over ends.spaces _ ends.all_spaces in
     let here : (b : Bool) → SP ends.cell.class ≡ b → x (before_spaces (ends.cell ∷ reverse ends.before)) ≡ true = elim [
       | true ↦ λ e. absurd (false≢true (sym (no_space ends.cell.class e) ∙ ends.of_set))
       | false ↦ λ e. rw e ends.of_set
@@ -154,11 +159,6 @@ final-is Final _ = refl
 final-is Neither h = absurd (false≢true h)
 final-is Initial h = absurd (false≢true h)
 
-QU-not_SP : (class : Class) → QU class ≡ true → SP class ≡ false
-unfolding is
-QU-not_SP Quotation _ = refl
-QU-not_SP _ h = absurd (false≢true h)
-
 -- what stands before the mark, read outwards
 left_open-outwards : (side : Side) → leaves_open side ≡ true → (reverse side ≡ []) ⊎ EndsIn opens_after (reverse side)
 left_open-outwards [] h = inl refl
@@ -202,23 +202,21 @@ ends_in_open_quotation cells found =
     subst EndsInOpenQuotation (append-nil (reverse (reverse cells)) ∙ reverse-reverse cells)
     (found_opening (reverse cells) [] tt found)
 
-opens_over_spaces : (spaces : List Cell) (side : Side) → AllByRecursion (λ (c : Cell). SP c.class ≡ true) spaces
-    → opens_quotation (reverse spaces ++ side) ≡ opens_quotation side
+opens_quotation-over : (cell : Cell) (side : Side) → SP cell.class ≡ true
+    → opens_quotation (cell ∷ side) ≡ opens_quotation side
 unfolding opens_quotation
-opens_over_spaces [] side all = refl
-opens_over_spaces (cell ∷ spaces) side all =
-    ap opens_quotation (reverse-cons cell spaces side) ∙ opens_over_spaces spaces (cell ∷ side) all.1 ∙ rw all.0 refl
+opens_quotation-over cell side space = rw space refl
 
 opens_here : (cell : Cell) (side : Side) → QU cell.class ≡ true → cell.quote ≡ Initial → leaves_open side ≡ true
     → opens_quotation (cell ∷ side) ≡ true
-unfolding opens_quotation
-opens_here cell side of_class opens left_open = rw (QU-not_SP cell.class of_class, of_class, opens, left_open)
+unfolding opens_quotation is
+opens_here cell side of_class opens left_open = rw (QU-apart SP refl cell.class of_class, of_class, opens, left_open)
 
 pub opens_quotation-ends : (cells : List Cell) → EndsInOpenQuotation cells → opens_quotation (reverse cells) ≡ true
 opens_quotation-ends cells ends =
     ap opens_quotation (ap reverse ends.joined ∙ reverse-append ends.before (ends.quotation ∷ ends.spaces)
     ∙ reverse-cons ends.quotation ends.spaces (reverse ends.before))
-    ∙ opens_over_spaces ends.spaces (ends.quotation ∷ reverse ends.before) ends.all_spaces
+    ∙ over_all_spaces opens_quotation opens_quotation-over ends.spaces (ends.quotation ∷ reverse ends.before) ends.all_spaces
     ∙ opens_here ends.quotation (reverse ends.before) ends.of_class ends.opens
     (leaves_open-left ends.before ends.left_open)
 

@@ -1,5 +1,5 @@
 -- What no rule asks of the left side changes no verdict.
-use Rattle.std.proofs.Common.{◌≡◌, Bool, true, false, cond, ◌&&◌, not, [], ◌∷◌, refl, sym, ap, ◌∙◌}
+use Rattle.std.proofs.Common.{◌≡◌, Bool, true, false, cond, ◌&&◌, not, [], ◌∷◌, refl, sym, ap, ◌∙◌, rules}
 use Rattle.lbk_uax14.specs.declared.cells.Cell.{Cell}
 use Rattle.lbk_uax14.specs.declared.classes.Class.{Class}
 use Rattle.lbk_uax14.specs.declared.classes.Class.TheVariants.{Alphabetic, CloseParenthesis, EBase, PrefixNumeric}
@@ -60,72 +60,41 @@ zero_width-asked cell side = zero_width-parts cell.class side
 
 -- The class of the last unit
 
-space-asked : (class : Class) (wide : Bool) → SP (asked_class class wide) ≡ SP class
-unfolding asked_class is
-space-asked CloseParenthesis true = refl
-space-asked _ _ = refl
+-- sets that rules ask for have the class asked for where they have the class
+record IsAsked (asked class : Class) : Type 0 where
+  space : SP asked ≡ SP class
+  indicator : RI asked ≡ RI class
+  hyphen : (HY or BA) asked ≡ (HY or BA) class
+  hebrew : HL asked ≡ HL class
+  opens_after : opens_after asked ≡ opens_after class
+  opening : OP asked ≡ OP class
+  quotation : QU asked ≡ QU class
+  closing : (CL or CP) asked ≡ (CL or CP) class
+  dash : B2 asked ≡ B2 class
 
-indicator-asked : (class : Class) (wide : Bool) → RI (asked_class class wide) ≡ RI class
+is_asked : (class : Class) (wide : Bool) → IsAsked (asked_class class wide) class
 unfolding asked_class is
-indicator-asked CloseParenthesis true = refl
-indicator-asked _ _ = refl
-
-hyphen-asked : (class : Class) (wide : Bool) → (HY or BA) (asked_class class wide) ≡ (HY or BA) class
-unfolding asked_class is
-hyphen-asked CloseParenthesis true = refl
-hyphen-asked _ _ = refl
+is_asked CloseParenthesis true = search rules
+is_asked _ _ = search rules
 
 pub hebrew-asked : (class : Class) (wide : Bool) → HL (asked_class class wide) ≡ HL class
-unfolding asked_class is
-hebrew-asked CloseParenthesis true = refl
-hebrew-asked _ _ = refl
+hebrew-asked class wide = (is_asked class wide).hebrew
 
 pub opens_after-asked : (class : Class) (wide : Bool) → opens_after (asked_class class wide) ≡ opens_after class
-unfolding asked_class is
-opens_after-asked CloseParenthesis true = refl
-opens_after-asked _ _ = refl
-
-open_class-asked : (class : Class) (wide : Bool) → OP (asked_class class wide) ≡ OP class
-unfolding asked_class is
-open_class-asked CloseParenthesis true = refl
-open_class-asked _ _ = refl
-
-quotation_class-asked : (class : Class) (wide : Bool) → QU (asked_class class wide) ≡ QU class
-unfolding asked_class is
-quotation_class-asked CloseParenthesis true = refl
-quotation_class-asked _ _ = refl
-
-close_class-asked : (class : Class) (wide : Bool) → (CL or CP) (asked_class class wide) ≡ (CL or CP) class
-unfolding asked_class is
-close_class-asked CloseParenthesis true = refl
-close_class-asked _ _ = refl
-
-dash_class-asked : (class : Class) (wide : Bool) → B2 (asked_class class wide) ≡ B2 class
-unfolding asked_class is
-dash_class-asked CloseParenthesis true = refl
-dash_class-asked _ _ = refl
+opens_after-asked class wide = (is_asked class wide).opens_after
 
 -- What stands before the spaces
 
-open-before_spaces : (class : Class) → OP (asked_before_spaces class) ≡ OP class
-unfolding asked_before_spaces is
-open-before_spaces Alphabetic = refl
-open-before_spaces _ = refl
+record IsAskedBefore (asked class : Class) : Type 0 where
+  opening : OP asked ≡ OP class
+  quotation : QU asked ≡ QU class
+  closing : (CL or CP) asked ≡ (CL or CP) class
+  dash : B2 asked ≡ B2 class
 
-quotation-before_spaces : (class : Class) → QU (asked_before_spaces class) ≡ QU class
+is_asked_before : (class : Class) → IsAskedBefore (asked_before_spaces class) class
 unfolding asked_before_spaces is
-quotation-before_spaces Alphabetic = refl
-quotation-before_spaces _ = refl
-
-close-before_spaces : (class : Class) → (CL or CP) (asked_before_spaces class) ≡ (CL or CP) class
-unfolding asked_before_spaces is
-close-before_spaces Alphabetic = refl
-close-before_spaces _ = refl
-
-dash-before_spaces : (class : Class) → B2 (asked_before_spaces class) ≡ B2 class
-unfolding asked_before_spaces is
-dash-before_spaces Alphabetic = refl
-dash-before_spaces _ = refl
+is_asked_before Alphabetic = search rules
+is_asked_before _ = search rules
 
 -- a set that is asked of what stands before the spaces, where the last unit may be a space itself
 past_spaces-asked : (set : Set) (cell : Cell) (side : Side)
@@ -135,7 +104,7 @@ past_spaces-asked : (set : Set) (cell : Cell) (side : Side)
 unfolding asked_of_unit before_spaces
 past_spaces-asked set cell side same before =
     let last = asked_class cell.class cell.wide in
-    ap (λ v. set (cond v (before_spaces side) last)) (space-asked cell.class cell.wide)
+    ap (λ v. set (cond v (before_spaces side) last)) (is_asked cell.class cell.wide).space
     ∙ (elim (SP cell.class)
     as (λ v. set (cond v (before_spaces side) last)
     ≡ set (asked_before_spaces (cond v (before_spaces side) cell.class)))
@@ -143,31 +112,35 @@ past_spaces-asked set cell side same before =
 
 pub opening-asked : (cell : Cell) (side : Side) → past_spaces OP (asked_of_unit cell ∷ side)
     ≡ OP (asked_before_spaces (before_spaces (cell ∷ side)))
-opening-asked cell side = past_spaces-asked OP cell side open_class-asked open-before_spaces
+opening-asked cell side = past_spaces-asked OP cell side (λ class wide. (is_asked class wide).opening)
+    (λ class. (is_asked_before class).opening)
 
 pub quoting-asked : (cell : Cell) (side : Side) → past_spaces QU (asked_of_unit cell ∷ side)
     ≡ QU (asked_before_spaces (before_spaces (cell ∷ side)))
-quoting-asked cell side = past_spaces-asked QU cell side quotation_class-asked quotation-before_spaces
+quoting-asked cell side = past_spaces-asked QU cell side (λ class wide. (is_asked class wide).quotation)
+    (λ class. (is_asked_before class).quotation)
 
 pub closing-asked : (cell : Cell) (side : Side)
     → past_spaces (CL or CP) (asked_of_unit cell ∷ side)
     ≡ (CL or CP) (asked_before_spaces (before_spaces (cell ∷ side)))
-closing-asked cell side = past_spaces-asked (CL or CP) cell side close_class-asked close-before_spaces
+closing-asked cell side = past_spaces-asked (CL or CP) cell side (λ class wide. (is_asked class wide).closing)
+    (λ class. (is_asked_before class).closing)
 
 pub dashes-asked : (cell : Cell) (side : Side)
     → past_spaces B2 (asked_of_unit cell ∷ side) ≡ B2 (asked_before_spaces (before_spaces (cell ∷ side)))
-dashes-asked cell side = past_spaces-asked B2 cell side dash_class-asked dash-before_spaces
+dashes-asked cell side = past_spaces-asked B2 cell side (λ class wide. (is_asked class wide).dash)
+    (λ class. (is_asked_before class).dash)
 
 -- The last unit
 
 pub at_hyphen-asked : (cell : Cell) (side : Side)
     → at (HY or BA) (asked_of_unit cell ∷ side) ≡ at (HY or BA) (cell ∷ side)
 unfolding asked_of_unit
-at_hyphen-asked cell side = hyphen-asked cell.class cell.wide
+at_hyphen-asked cell side = (is_asked cell.class cell.wide).hyphen
 
 pub odd_run-asked : (cell : Cell) (side : Side) → at_odd_run (asked_of_unit cell ∷ side) ≡ at_odd_run (cell ∷ side)
 unfolding asked_of_unit at_odd_run
-odd_run-asked cell side = ap (λ v. v && not (at_odd_run side)) (indicator-asked cell.class cell.wide)
+odd_run-asked cell side = ap (λ v. v && not (at_odd_run side)) (is_asked cell.class cell.wide).indicator
 
 mark_opens : (q : Bool) (quote : Quote) → (q && is_initial (cond (q && is_initial quote) Initial Neither))
     ≡ (q && is_initial quote)
@@ -181,9 +154,9 @@ unfolding asked_of_unit opens_quotation
 quotation-asked cell side =
     let quote = cond (QU cell.class && is_initial cell.quote) Initial Neither in
     ap (λ v. cond v (opens_quotation side) ((QU (asked_class cell.class cell.wide) && is_initial quote)
-    && leaves_open side)) (space-asked cell.class cell.wide)
+    && leaves_open side)) (is_asked cell.class cell.wide).space
     ∙ ap (λ v. cond (SP cell.class) (opens_quotation side) ((v && is_initial quote) && leaves_open side))
-    (quotation_class-asked cell.class cell.wide)
+    (is_asked cell.class cell.wide).quotation
     ∙ ap (λ v. cond (SP cell.class) (opens_quotation side) (v && leaves_open side))
     (mark_opens (QU cell.class) cell.quote)
 
@@ -209,15 +182,20 @@ decided_twice p true a b = refl
 decided_twice true false a b = refl
 decided_twice false false a b = refl
 
+-- what is computed with to compare units
+compared : Unit {0}
+unfolding asked_of_unit asked_class is from_11 from_14 from_15 from_16 from_19 from_23 from_25 from_26 from_28
+    joining_rules opening_rules quotation_rules space_rules hyphen_rules affix_rules number_rules syllable_rules
+    letter_rules before_spaces at_odd_run opens_quotation
+compared = tt
+
 after_prefix : (profile : Profile) (wide pict_cn : Bool) (quote : Quote) (letter : Bool) (side : Side)
     (class : Class) (wide_2 pict_2 : Bool) (quote_2 : Quote) (letter_2 : Bool) (more : Side)
     → from_11 profile (asked_of_unit (cell_of PrefixNumeric wide pict_cn quote letter) ∷ side)
     (cell_of class wide_2 pict_2 quote_2 letter_2 ∷ more)
     ≡ from_11 profile (cell_of PrefixNumeric wide pict_cn quote letter ∷ side)
     (cell_of class wide_2 pict_2 quote_2 letter_2 ∷ more)
-unfolding asked_of_unit asked_class is from_11 from_14 from_15 from_16 from_19 from_23 from_25 from_26 from_28
-    joining_rules opening_rules quotation_rules space_rules hyphen_rules affix_rules number_rules syllable_rules
-    letter_rules before_spaces at_odd_run opens_quotation
+unfolding compared
 after_prefix First wide true quote letter side Alphabetic wide_2 pict_2 quote_2 letter_2 more = refl
 after_prefix First wide false quote letter side Alphabetic wide_2 pict_2 quote_2 letter_2 more = refl
 after_prefix First wide true quote letter side _ wide_2 pict_2 quote_2 letter_2 more = refl
@@ -231,9 +209,7 @@ from_11-parts : (profile : Profile) (class : Class) (wide pict_cn : Bool) (quote
     (side right : Side)
     → from_11 profile (asked_of_unit (cell_of class wide pict_cn quote letter) ∷ side) right
     ≡ from_11 profile (cell_of class wide pict_cn quote letter ∷ side) right
-unfolding asked_of_unit asked_class is from_11 from_14 from_15 from_16 from_19 from_23 from_25 from_26 from_28
-    joining_rules opening_rules quotation_rules space_rules hyphen_rules affix_rules number_rules syllable_rules
-    letter_rules before_spaces at_odd_run opens_quotation
+unfolding compared
 from_11-parts First CloseParenthesis true pict_cn quote letter side right = refl
 from_11-parts First CloseParenthesis false pict_cn quote letter side right = refl
 from_11-parts First EBase wide pict_cn quote letter side right =

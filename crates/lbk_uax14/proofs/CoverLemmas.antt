@@ -1,25 +1,24 @@
 -- All positions so far have their verdict, but for one that waits.
-use Rattle.std.proofs.Common.{◌≡◌, ◌≢◌, ℕ, suc, ◌+◌, ◌<◌, ◌≤◌, Bool, true, false, cond, ◌&&◌, ◌||◌, not, Option, Some}
+use Rattle.std.proofs.Common.{◌≡◌, ◌≢◌, ℕ, suc, ◌+◌, ◌<◌, ◌≤◌, Bool, true, false, cond, ◌||◌, not, Option, Some}
 use Rattle.std.proofs.Common.{None, List, [], ◌∷◌, ◌++◌, length, set, reverse, append_assoc, refl, sym, ap, subst, ◌∙◌}
 use Rattle.std.proofs.Common.{inl, inr, arith}
 use Rattle.std.specs.List.{slice_get}
 use Rattle.std.specs.Option.{option_map, ForSome}
-use Rattle.std.proofs.lemmas.Bool.{cases_eq, false≢true}
+use Rattle.std.proofs.lemmas.Bool.{and_parts, cases_eq, false≢true, or_right}
 use Rattle.std.proofs.lemmas.List.{length-set, length-reverse, reverse-reverse, append-nil}
-use Rattle.lbk_uax14.specs.declared.classes.Class.{Class}
-use Rattle.lbk_uax14.specs.declared.classes.Class.TheVariants.{Quotation}
 use Rattle.lbk_uax14.specs.declared.cells.Cell.{Cell}
 use Rattle.lbk_values.specs.declared.profile.Profile.{Profile}
 use Rattle.lbk_values.specs.declared.profile.Profile.TheVariants.{First, Second}
 use Rattle.lbk_uax14.specs.declared.verdicts.Verdict.{Verdict}
 use Rattle.lbk_uax14.specs.Answers.{count_of, written}
-use Rattle.lbk_uax14.specs.Classes.{is, hard, mark, QU}
+use Rattle.lbk_uax14.specs.Classes.{hard, is, mark, QU}
 use Rattle.lbk_uax14.specs.Units.{heads, nearest}
 use Rattle.lbk_uax14.specs.Held.{any_matches, before_15b, is_held, answer_at, late_at, now_at, unanswered}
 use Rattle.lbk_uax14.specs.Held.{unanswered_before}
 use Rattle.lbk_uax14.specs.Rules.{rule_list}
 use Rattle.lbk_uax14.specs.Sides.{Side, closing, is_final}
 use Rattle.lbk_uax14.specs.Verdict.{verdict_between_in, verdict_in}
+use Rattle.lbk_uax14.proofs.FactsLemmas.{QU-apart}
 use Rattle.lbk_uax14.proofs.HeldLemmas.{is_held-chain}
 use Rattle.lbk_uax14.proofs.MachineLemmas.{reverse-snoc, verdict_in-append}
 use Rattle.lbk_uax14.proofs.WritingLemmas.{slice_get-set_same, slice_get-set_other}
@@ -111,29 +110,16 @@ Covers-step value list count n true false still begun within below covers = absu
 
 -- The open place is the held position that waits
 
-QU-not_mark : (class : Class) → QU class ≡ true → mark class ≡ false
-unfolding is
-QU-not_mark Quotation _ = refl
-QU-not_mark _ h = absurd (false≢true h)
-
-first-true : (a b : Bool) → (a && b) ≡ true → a ≡ true
-first-true true b h = refl
-first-true false b h = h
-
-or-true : (a : Bool) → (a || true) ≡ true
-or-true true = refl
-or-true false = refl
-
 -- the cell after a held position heads a unit
 pub held-heads : (profile : Profile) (left : List Cell) (cell : Cell) (more : List Cell)
     → is_held profile left (cell ∷ more) ≡ true → heads (reverse left) cell ≡ true
-unfolding is_held
+unfolding is_held is
 held-heads First left cell more held = absurd (false≢true held)
 held-heads Second left cell more held =
-    let closes = first-true (closing cell) (not (any_matches (before_15b (rule_list Second)) left (cell ∷ more))) held
+    let closes = and_parts (closing cell) (not (any_matches (before_15b (rule_list Second)) left (cell ∷ more))) held
     in
-    let joins = QU-not_mark cell.class (first-true (QU cell.class) (is_final cell.quote) closes) in
-    ap (λ v. hard (nearest (reverse left)).class || not v) joins ∙ or-true (hard (nearest (reverse left)).class)
+    let joins = QU-apart mark refl cell.class (and_parts (QU cell.class) (is_final cell.quote) closes.0).0 in
+    ap (λ v. hard (nearest (reverse left)).class || not v) joins ∙ or_right (hard (nearest (reverse left)).class) true refl
 
 pub unanswered-below : (profile : Profile) (side : Side) (p : ℕ) → unanswered_before profile side ≡ Some p
     → p < length side

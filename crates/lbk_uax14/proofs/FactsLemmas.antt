@@ -3,13 +3,14 @@ use Rattle.std.proofs.Common.{◌≡◌, Bool, true, false, cond, ◌||◌, ◌&
 use Rattle.std.proofs.Common.{reverse, append_assoc, ◌++◌}
 use Rattle.lbk_uax14.specs.declared.cells.Cell.{Cell}
 use Rattle.lbk_uax14.specs.declared.classes.Class.{Class}
+use Rattle.lbk_uax14.specs.declared.classes.Class.TheVariants.{Quotation}
 use Rattle.lbk_uax14.specs.declared.facts.Before.{Before}
 use Rattle.lbk_uax14.specs.declared.facts.Left.{Left}
 use Rattle.lbk_uax14.specs.declared.verdicts.Verdict.{Verdict}
 use Rattle.lbk_values.specs.declared.profile.Profile.{Profile}
 use Rattle.lbk_uax14.specs.Asked.{asked_before_spaces, asked_of_unit}
 use Rattle.lbk_uax14.specs.Classes.{◌or◌, B2, BA, BK, CL, CP, CR, HL, HY, LF, NL, OP, QU, RI, SP, ZW, is, isZWJ, hard}
-use Rattle.lbk_uax14.specs.Classes.{mark, none_of, opens_after}
+use Rattle.lbk_uax14.specs.Classes.{Set, mark, none_of, opens_after}
 use Rattle.lbk_uax14.specs.Chain.{choose, from_11, from_cells}
 use Rattle.lbk_uax14.specs.Facts.{class_cell, units_before, facts_of_units, facts, Sees}
 use Rattle.lbk_uax14.specs.Rules.{cell_rules}
@@ -21,6 +22,12 @@ use Rattle.std.proofs.lemmas.List.{reverse-append, append-nil}
 use Rattle.lbk_uax14.proofs.AskedLemmas.{at_hyphen-asked, cells-asked, closing-asked, dashes-asked, hebrew-asked}
 use Rattle.lbk_uax14.proofs.AskedLemmas.{odd_run-asked, opening-asked, opens_after-asked, quotation-asked}
 use Rattle.lbk_uax14.proofs.AskedLemmas.{quoting-asked, zero_width-asked}
+
+-- a quotation mark is in no set that lacks its class
+pub QU-apart : (set : Set) → set Quotation ≡ false → (class : Class) → QU class ≡ true → set class ≡ false
+unfolding is
+QU-apart set none Quotation _ = none
+QU-apart set none _ h = absurd (true≢false (sym h))
 
 -- a list with a first element
 abbrev pub Begins : Side → Type 0

@@ -1,9 +1,9 @@
 -- Which positions wait for the unit after a quotation mark.
 use Rattle.std.proofs.Common.{◌≡◌, Bool, true, false, cond, ◌||◌, ◌&&◌, not, List, [], ◌∷◌, ◌++◌, map, reverse, refl}
 use Rattle.std.proofs.Common.{sym, ap, ◌∙◌}
-use Rattle.std.proofs.lemmas.Bool.{false≢true}
+use Rattle.std.proofs.lemmas.Bool.{and_parts, and_right, false≢true}
 use Rattle.lbk_uax14.specs.declared.classes.Class.{Class}
-use Rattle.lbk_uax14.specs.declared.classes.Class.TheVariants.{CombiningMark, Quotation, ZWJ}
+use Rattle.lbk_uax14.specs.declared.classes.Class.TheVariants.{CombiningMark, ZWJ}
 use Rattle.lbk_uax14.specs.declared.cells.Cell.{Cell}
 use Rattle.lbk_uax14.specs.declared.verdicts.Kind.TheVariants.{No, May}
 use Rattle.lbk_values.specs.declared.profile.Profile.{Profile}
@@ -21,7 +21,7 @@ use Rattle.lbk_uax14.specs.Rules.{number_rules, syllable_rules, letter_rules, la
 use Rattle.lbk_uax14.specs.Chain.{choose, from_11, from_14, from_15, from_16, from_19, from_23, from_25, from_26}
 use Rattle.lbk_uax14.specs.Chain.{from_28, from_cells}
 use Rattle.lbk_uax14.proofs.ChainLemmas.{choose-append, from_11-list}
-use Rattle.lbk_uax14.proofs.FactsLemmas.{units_before-reverse}
+use Rattle.lbk_uax14.proofs.FactsLemmas.{QU-apart, units_before-reverse}
 use Rattle.lbk_uax14.proofs.LookAheadLemmas.{from_16-right, from_cells-right}
 
 -- no line is for rule 15b
@@ -54,16 +54,12 @@ is_15b-choose (line ∷ lines) left right otherwise never =
       | false ↦ is_15b-choose lines left right otherwise (both-right (is_15b line.answer.rule) (never_15b lines) never)
     ]
 
-and-false : (a : Bool) → (a && false) ≡ false
-and-false true = refl
-and-false false = refl
-
 not_15b-choose : (lines : List Line) (left right : Side) (otherwise : Verdict) → never_15b lines ≡ true
     → is_15b otherwise.rule ≡ false → is_15b (choose lines left right otherwise).rule ≡ false
 not_15b-choose lines left right otherwise never here =
     is_15b-choose lines left right otherwise never
     ∙ ap (λ v. not (any_holds lines left right) && v) here
-    ∙ and-false (not (any_holds lines left right))
+    ∙ and_right (not (any_holds lines left right)) false refl
 
 -- what comes after rule 15b counts only where it decides
 choose-settled : (lines : List Line) (left right : Side) (x y : Verdict)
@@ -295,49 +291,33 @@ choose-15b (line ∷ lines) left right y z never same =
       | false ↦ choose-15b lines left right y z (both-right (is_15b line.answer.rule) (never_15b lines) never) same
     ]
 
-QU-not_OP : (class : Class) → QU class ≡ true → OP class ≡ false
-unfolding is
-QU-not_OP Quotation _ = refl
-QU-not_OP _ h = absurd (false≢true h)
-
-and-left : (a b : Bool) → (a && b) ≡ true → a ≡ true
-and-left true b h = refl
-and-left false b h = absurd (false≢true h)
-
 from_15-open : (left : Side) (right : Cell) (more : Side) → leaves_closed more ≡ false
     → is_15b (from_15 Second left (right ∷ [])).rule ≡ true
     → from_15 First left (right ∷ more) ≡ from_15 Second left (right ∷ more)
-unfolding from_15 quotation_rules
+unfolding from_15 quotation_rules is
 from_15-open left right more opens held =
     let test = sym (from_15-held left right) ∙ held in
     let unopened = both-left (opens_quotation left) (closing right) test in
     let closes = both-right (opens_quotation left) (closing right) test in
     let rest = from_16 left (right ∷ more) in
-    let not_op = QU-not_OP right.class (and-left (QU right.class) (is_final right.quote) closes) in
+    let not_op = QU-apart OP refl right.class (and_parts (QU right.class) (is_final right.quote) closes).0 in
     ap (λ v. cond (past_spaces QU left && v) (record { kind = No; rule = Lb15 }) rest) not_op
-    ∙ ap (λ v. cond v (record { kind = No; rule = Lb15 }) rest) (and-false (past_spaces QU left))
+    ∙ ap (λ v. cond v (record { kind = No; rule = Lb15 }) rest) (and_right (past_spaces QU left) false refl)
     ∙ sym (ap (λ v. cond v (record { kind = No; rule = Lb15a })
     (cond (closing right && leaves_closed more) (record { kind = No; rule = Lb15b }) rest)) unopened
     ∙ ap (λ v. cond (closing right && v) (record { kind = No; rule = Lb15b }) rest) opens
-    ∙ ap (λ v. cond v (record { kind = No; rule = Lb15b }) rest) (and-false (closing right)))
-
-from_14-open : (left : Side) (right : Cell) (more : Side) → leaves_closed more ≡ false
-    → is_15b (from_14 Second left (right ∷ [])).rule ≡ true
-    → from_14 First left (right ∷ more) ≡ from_14 Second left (right ∷ more)
-unfolding from_14 opening_rules
-from_14-open left right more opens =
-    choose-held opening_rules left (right ∷ []) (from_15 First left (right ∷ more)) (from_15 Second left (right ∷ more))
-    (from_15 Second left (right ∷ []))
-    (from_15-open left right more opens)
+    ∙ ap (λ v. cond v (record { kind = No; rule = Lb15b }) rest) (and_right (closing right) false refl))
 
 from_11-open : (left : Side) (right : Cell) (more : Side) → leaves_closed more ≡ false
     → is_15b (from_11 Second left (right ∷ [])).rule ≡ true
     → from_11 First left (right ∷ more) ≡ from_11 Second left (right ∷ more)
-unfolding from_11 joining_rules
+unfolding from_11 joining_rules from_14 opening_rules
 from_11-open left right more opens =
     choose-held joining_rules left (right ∷ []) (from_14 First left (right ∷ more)) (from_14 Second left (right ∷ more))
     (from_14 Second left (right ∷ []))
-    (from_14-open left right more opens)
+    (choose-held opening_rules left (right ∷ []) (from_15 First left (right ∷ more))
+    (from_15 Second left (right ∷ more)) (from_15 Second left (right ∷ []))
+    (from_15-open left right more opens))
 
 -- where the unit after it leaves the quotation open, both profiles decide it alike
 pub from_cells-open : (left : Side) (right : Cell) (more : List Cell)

@@ -1,6 +1,6 @@
 -- What is said of the parts of a text, joined.
 use Rattle.std.proofs.Common.{◌≡◌, ℕ, ◌+◌, Bool, true, false, cond, List, [], ◌∷◌, ◌++◌, map, length, encode_utf8}
-use Rattle.std.proofs.Common.{encode_utf8_all, refl, sym, ap, ◌∙◌, append_assoc, append-nil, arith, length-append}
+use Rattle.std.proofs.Common.{encode_utf8_all, refl, sym, ap, ◌∙◌, append-nil, arith, length-append}
 use Rattle.std.specs.List.{flat_map}
 use Rattle.std.proofs.lemmas.Bool.{false≢true}
 use Rattle.std.proofs.lemmas.List.{map-append}
@@ -8,10 +8,9 @@ use Rattle.lbk_uax14.specs.declared.breaks.Break.{Break}
 use Rattle.lbk_uax14.specs.declared.cells.Cell.{Cell}
 use Rattle.lbk_uax14.specs.declared.verdicts.Kind.TheVariants.{Must}
 use Rattle.lbk_uax14.specs.declared.verdicts.Rule.{Rule}
-use Rattle.lbk_uax14.specs.declared.verdicts.Verdict.{Verdict}
 use Rattle.lbk_values.specs.declared.profile.Profile.{Profile}
 use Rattle.lbk_uax14.specs.Breaks.{break_by, breaks, breaks_from, is_no}
-use Rattle.lbk_uax14.specs.Ends.{end_after, end_of_text, ends_between}
+use Rattle.lbk_uax14.specs.Ends.{end_of_text}
 use Rattle.lbk_uax14.specs.Joins.{AreParts, breaks_before, breaks_in, by_rule, end_before_more, marks_in, moved}
 use Rattle.lbk_uax14.specs.Joins.{must_end_between, of_parts, with_last}
 use Rattle.lbk_uax14.specs.Marks.{Marked, ended, marks, scalars_of, text_of}

@@ -19,34 +19,10 @@ use Rattle.lbk_uax14.specs.Chain.{choose, from_11, from_14, from_15, from_16, fr
 use Rattle.lbk_uax14.specs.Chain.{from_28, from_cells}
 
 -- from rule 16 on only the first unit of the right counts
-from_28-right : (left : Side) (right : Cell) (a b : Side) → from_28 left (right ∷ a) ≡ from_28 left (right ∷ b)
-unfolding from_28 letter_rules
-from_28-right left right a b = refl
-
-from_26-right : (left : Side) (right : Cell) (a b : Side) → from_26 left (right ∷ a) ≡ from_26 left (right ∷ b)
-unfolding from_26 syllable_rules
-from_26-right left right a b =
-    ap (λ v. choose syllable_rules left (right ∷ a) v) (from_28-right left right a b)
-
-from_25-right : (left : Side) (right : Cell) (a b : Side) → from_25 left (right ∷ a) ≡ from_25 left (right ∷ b)
-unfolding from_25 number_rules
-from_25-right left right a b =
-    ap (λ v. choose number_rules left (right ∷ a) v) (from_26-right left right a b)
-
-from_23-right : (left : Side) (right : Cell) (a b : Side) → from_23 left (right ∷ a) ≡ from_23 left (right ∷ b)
-unfolding from_23 affix_rules
-from_23-right left right a b =
-    ap (λ v. choose affix_rules left (right ∷ a) v) (from_25-right left right a b)
-
-from_19-right : (left : Side) (right : Cell) (a b : Side) → from_19 left (right ∷ a) ≡ from_19 left (right ∷ b)
-unfolding from_19 hyphen_rules
-from_19-right left right a b =
-    ap (λ v. choose hyphen_rules left (right ∷ a) v) (from_23-right left right a b)
-
 pub from_16-right : (left : Side) (right : Cell) (a b : Side) → from_16 left (right ∷ a) ≡ from_16 left (right ∷ b)
-unfolding from_16 space_rules
-from_16-right left right a b =
-    ap (λ v. choose space_rules left (right ∷ a) v) (from_19-right left right a b)
+unfolding from_16 from_19 from_23 from_25 from_26 from_28 space_rules hyphen_rules affix_rules number_rules
+    syllable_rules letter_rules
+from_16-right left right a b = refl
 
 -- of what comes after, only what closes a quotation mark counts
 from_15-right : (profile : Profile) (left : Side) (right : Cell) (a b : Side)

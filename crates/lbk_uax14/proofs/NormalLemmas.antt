@@ -14,7 +14,7 @@ use Rattle.lbk_uax14.specs.Classes.{Set, CP, OP, QU, hard, is, mark, none_of}
 use Rattle.lbk_uax14.specs.Facts.{units_before}
 use Rattle.lbk_uax14.specs.Held.{is_15b, is_held, now_at, late_at, answer_at, unanswered, unanswered_before}
 use Rattle.lbk_uax14.specs.Normal.{normal}
-use Rattle.lbk_uax14.specs.Rules.{Line, unit_rules, last_rule, cell_rules, joining_rules, opening_rules}
+use Rattle.lbk_uax14.specs.Rules.{unit_rules, last_rule, cell_rules, joining_rules, opening_rules}
 use Rattle.lbk_uax14.specs.Rules.{quotation_rules, space_rules, hyphen_rules, affix_rules, number_rules, syllable_rules}
 use Rattle.lbk_uax14.specs.Rules.{letter_rules}
 use Rattle.lbk_uax14.specs.Sides.{Side, at, behind, is_nothing, at_pictograph, at_narrow, at_odd_run, before_spaces}
@@ -22,7 +22,7 @@ use Rattle.lbk_uax14.specs.Sides.{is_initial, is_final, opening, closing, opens_
 use Rattle.lbk_uax14.specs.Sides.{leaves_open, leaves_closed}
 use Rattle.lbk_uax14.specs.Units.{letter, unit, units, units_after, heads}
 use Rattle.lbk_uax14.specs.Verdict.{verdict_in, verdict_between_in}
-use Rattle.lbk_uax14.proofs.ChainLemmas.{choose-append, from_11-list, verdict_between-chain}
+use Rattle.lbk_uax14.proofs.ChainLemmas.{from_11-list, verdict_between-chain}
 use Rattle.lbk_uax14.proofs.HeldLemmas.{is_held-chain}
 
 -- Units
@@ -160,77 +160,39 @@ closes_quotation-plain (cell ∷ side) = rw (closing-plain cell, leaves_closed-p
 
 -- Rules
 
--- lines that ask for nothing that a plain unit lacks
-record Blind (lines : List Line) : Type 0 where
-  same : (left right : Side) (v : Verdict) → choose lines (map plain left) (map plain right) v
-      ≡ choose lines left right v
-
-blind-append : {a b : List Line} → Blind a → Blind b → Blind (a ++ b)
-blind-append {a} {b} x y = record {
-  same = λ left right v. choose-append a b (map plain left) (map plain right) v
-      ∙ x.same left right (choose b (map plain left) (map plain right) v)
-      ∙ ap (λ v. choose a left right v) (y.same left right v)
-      ∙ sym (choose-append a b left right v);
-}
-
-joining_rules-blind : Blind joining_rules
-unfolding joining_rules
-joining_rules-blind = record { same = λ left right v. simp at-plain }
-
-opening_rules-blind : Blind opening_rules
-unfolding opening_rules
-opening_rules-blind = record { same = λ left right v. simp before_spaces-plain }
-
-quotation_rules-blind : (profile : Profile) → Blind (quotation_rules profile)
-unfolding quotation_rules
-quotation_rules-blind First = record { same = λ left right v. simp (at-plain, before_spaces-plain) }
-quotation_rules-blind Second = record { same = λ left right v. simp (opens_quotation-plain, closes_quotation-plain) }
-
-space_rules-blind : Blind space_rules
-unfolding space_rules
-space_rules-blind = record { same = λ left right v. simp (at-plain, before_spaces-plain) }
-
-hyphen_rules-blind : Blind hyphen_rules
-unfolding hyphen_rules
-hyphen_rules-blind = record { same = λ left right v. simp (at-plain, behind-plain) }
-
-affix_rules-blind : Blind affix_rules
-unfolding affix_rules
-affix_rules-blind = record { same = λ left right v. simp at-plain }
-
-number_rules-blind : Blind number_rules
-unfolding number_rules
-number_rules-blind = record { same = λ left right v. simp at-plain }
-
-syllable_rules-blind : Blind syllable_rules
-unfolding syllable_rules
-syllable_rules-blind = record { same = λ left right v. simp at-plain }
-
-letter_rules-blind : Blind letter_rules
-unfolding letter_rules
-letter_rules-blind = record {
-  same = λ left right v. simp (at-plain, narrow_op-plain, narrow_cp-plain, odd_run-plain, pictograph-plain);
-}
-
-last_rule-blind : Blind last_rule
-unfolding last_rule
-last_rule-blind = record { same = λ left right v. refl }
-
-unit_rules-blind : (profile : Profile) → Blind (unit_rules profile)
-unfolding unit_rules
-unit_rules-blind profile =
-    let before_16 = blind-append (blind-append joining_rules-blind opening_rules-blind) (quotation_rules-blind profile)
-    in
-    let before_23 = blind-append (blind-append before_16 space_rules-blind) hyphen_rules-blind in
-    let before_28 = blind-append (blind-append (blind-append before_23 affix_rules-blind) number_rules-blind)
-    syllable_rules-blind in
-    blind-append (blind-append before_28 letter_rules-blind) last_rule-blind
+-- they ask for nothing that a plain unit lacks
+unit_rules-plain : (profile : Profile) (left right : Side) (v : Verdict)
+    → choose (unit_rules profile) (map plain left) (map plain right) v ≡ choose (unit_rules profile) left right v
+unfolding unit_rules joining_rules opening_rules quotation_rules space_rules hyphen_rules affix_rules number_rules
+    syllable_rules letter_rules last_rule
+unit_rules-plain First left right v =
+    simp (
+      at-plain,
+      behind-plain,
+      before_spaces-plain,
+      narrow_op-plain,
+      narrow_cp-plain,
+      odd_run-plain,
+      pictograph-plain,
+    )
+unit_rules-plain Second left right v =
+    simp (
+      at-plain,
+      behind-plain,
+      before_spaces-plain,
+      opens_quotation-plain,
+      closes_quotation-plain,
+      narrow_op-plain,
+      narrow_cp-plain,
+      odd_run-plain,
+      pictograph-plain,
+    )
 
 from_11-plain : (profile : Profile) (left right : Side)
     → from_11 profile (map plain left) (map plain right) ≡ from_11 profile left right
 from_11-plain profile left right =
     sym (from_11-list profile (map plain left) (map plain right))
-    ∙ (unit_rules-blind profile).same left right _
+    ∙ unit_rules-plain profile left right _
     ∙ from_11-list profile left right
 
 -- the rules over cells ask for classes alone

@@ -1,7 +1,8 @@
 -- What lies behind the end of a line decides nothing any more.
 use Rattle.std.proofs.Common.{◌≡◌, ℕ, ◌+◌, ◌-◌, ◌<◌, length, take, drop, get_or, suc, Bool, true, false, cond, ◌||◌}
 use Rattle.std.proofs.Common.{◌&&◌, not, List, [], ◌∷◌, ◌++◌, reverse, refl, sym, ap, ◌∙◌, arith}
-use Rattle.std.proofs.lemmas.Bool.{false≢true}
+use Rattle.std.proofs.Common.{rules}
+use Rattle.std.proofs.lemmas.Bool.{and_parts, false≢true, or_right}
 use Rattle.std.proofs.lemmas.List.{reverse-append, take-append-drop, take-take, drop-take, drop-drop, drop_more}
 use Rattle.lbk_uax14.specs.declared.classes.Class.{Class}
 use Rattle.lbk_uax14.specs.declared.classes.Class.TheVariants.{MandatoryBreak, CarriageReturn, LineFeed, NextLine}
@@ -45,62 +46,10 @@ pub record IsEnd (class : Class) : Type 0 where
 
 pub IsEnd-ends : (class : Class) → ends_line class ≡ true → IsEnd class
 unfolding is
-IsEnd-ends MandatoryBreak _ = record {
-  hard_yes = refl;
-  mark_no = refl;
-  space_no = refl;
-  zero_width_no = refl;
-  opening_no = refl;
-  quotation_no = refl;
-  closing_no = refl;
-  dash_no = refl;
-  hebrew_no = refl;
-  indicator_no =
-      refl;
-  opens_after_yes = refl;
-}
-IsEnd-ends CarriageReturn _ = record {
-  hard_yes = refl;
-  mark_no = refl;
-  space_no = refl;
-  zero_width_no = refl;
-  opening_no = refl;
-  quotation_no = refl;
-  closing_no = refl;
-  dash_no = refl;
-  hebrew_no = refl;
-  indicator_no =
-      refl;
-  opens_after_yes = refl;
-}
-IsEnd-ends LineFeed _ = record {
-  hard_yes = refl;
-  mark_no = refl;
-  space_no = refl;
-  zero_width_no = refl;
-  opening_no = refl;
-  quotation_no = refl;
-  closing_no = refl;
-  dash_no = refl;
-  hebrew_no = refl;
-  indicator_no =
-      refl;
-  opens_after_yes = refl;
-}
-IsEnd-ends NextLine _ = record {
-  hard_yes = refl;
-  mark_no = refl;
-  space_no = refl;
-  zero_width_no = refl;
-  opening_no = refl;
-  quotation_no = refl;
-  closing_no = refl;
-  dash_no = refl;
-  hebrew_no = refl;
-  indicator_no =
-      refl;
-  opens_after_yes = refl;
-}
+IsEnd-ends MandatoryBreak _ = search rules
+IsEnd-ends CarriageReturn _ = search rules
+IsEnd-ends LineFeed _ = search rules
+IsEnd-ends NextLine _ = search rules
 IsEnd-ends _ h = absurd (false≢true h)
 
 -- Two lists of units that begin alike, and answer alike to all that the rules ask of the left
@@ -113,41 +62,11 @@ pub record Alike (last : Cell) (a b : Side) : Type 0 where
   pub indicators : at_odd_run (last ∷ a) ≡ at_odd_run (last ∷ b)
   pub quotation : opens_quotation (last ∷ a) ≡ opens_quotation (last ∷ b)
 
-from_28-alike : (last : Cell) (a b : Side) (right : Side) → Alike last a b
-    → from_28 (last ∷ a) right ≡ from_28 (last ∷ b) right
-unfolding from_28 letter_rules
-from_28-alike last a b right alike = rw alike.indicators
-
-from_26-alike : (last : Cell) (a b : Side) (right : Side) → Alike last a b
-    → from_26 (last ∷ a) right ≡ from_26 (last ∷ b) right
-unfolding from_26 syllable_rules
-from_26-alike last a b right alike =
-    ap (λ v. choose syllable_rules (last ∷ a) right v) (from_28-alike last a b right alike)
-
-from_25-alike : (last : Cell) (a b : Side) (right : Side) → Alike last a b
-    → from_25 (last ∷ a) right ≡ from_25 (last ∷ b) right
-unfolding from_25 number_rules
-from_25-alike last a b right alike =
-    ap (λ v. choose number_rules (last ∷ a) right v) (from_26-alike last a b right alike)
-
-from_23-alike : (last : Cell) (a b : Side) (right : Side) → Alike last a b
-    → from_23 (last ∷ a) right ≡ from_23 (last ∷ b) right
-unfolding from_23 affix_rules
-from_23-alike last a b right alike =
-    ap (λ v. choose affix_rules (last ∷ a) right v) (from_25-alike last a b right alike)
-
-from_19-alike : (last : Cell) (a b : Side) (right : Side) → Alike last a b
-    → from_19 (last ∷ a) right ≡ from_19 (last ∷ b) right
-unfolding from_19 hyphen_rules
-from_19-alike last a b right alike =
-    ap (λ v. choose hyphen_rules (last ∷ a) right v) (from_23-alike last a b right alike) ∙ rw alike.hebrew
-
 from_16-alike : (last : Cell) (a b : Side) (right : Side) → Alike last a b
     → from_16 (last ∷ a) right ≡ from_16 (last ∷ b) right
-unfolding from_16 space_rules
-from_16-alike last a b right alike =
-    ap (λ v. choose space_rules (last ∷ a) right v) (from_19-alike last a b right alike)
-    ∙ rw (alike.after_closing, alike.after_dash)
+unfolding from_16 from_19 from_23 from_25 from_26 from_28 space_rules hyphen_rules affix_rules number_rules
+    syllable_rules letter_rules
+from_16-alike last a b right alike = rw (alike.after_closing, alike.after_dash, alike.hebrew, alike.indicators)
 
 from_15-alike : (profile : Profile) (last : Cell) (a b : Side) (right : Side) → Alike last a b
     → from_15 profile (last ∷ a) right ≡ from_15 profile (last ∷ b) right
@@ -234,14 +153,10 @@ unfolding is
 hard-end [] end far here = here
 hard-end (_ ∷ _) end far here = refl
 
-pub or-true : (b : Bool) → (b || true) ≡ true
-or-true true = refl
-or-true false = refl
-
 units_before-end : (side : Side) (end : Cell) (far : Side) → IsEnd end.class
     → units_before (side ++ end ∷ far) ≡ units_before side ++ end ∷ units_before far
 units_before-end [] end far here =
-    rw here.mark_no (ap (λ v. cond v (end ∷ units_before far) (units_before far)) (or-true (hard (nearest far).class)))
+    rw here.mark_no (ap (λ v. cond v (end ∷ units_before far) (units_before far)) (or_right (hard (nearest far).class) true refl))
 units_before-end (cell ∷ side) end far here =
     let rest = units_before-end side end far here in
     ap (λ v. cond (v || none_of mark cell.class) (unit cell ∷ units_before (side ++ end ∷ far))
@@ -287,14 +202,6 @@ never_must [] left right = true
 never_must (line ∷ lines) left right =
     (not (is_must line.answer.kind) || not (line.holds left right)) && never_must lines left right
 
-both-left : (a b : Bool) → (a && b) ≡ true → a ≡ true
-both-left true b h = refl
-both-left false b h = h
-
-both-right : (a b : Bool) → (a && b) ≡ true → b ≡ true
-both-right true b h = h
-both-right false b h = absurd (false≢true h)
-
 -- a line that holds and never answers Must where it holds
 held-never_must : (must holds : Bool) → (not must || not holds) ≡ true → holds ≡ true → must ≡ false
 held-never_must false holds h here = refl
@@ -306,13 +213,13 @@ pub choose-never_must : (lines : List Line) (left right : Side) (otherwise : Ver
     → is_must (choose lines left right otherwise).kind ≡ false
 choose-never_must [] left right otherwise none here = here
 choose-never_must (line ∷ lines) left right otherwise none here =
-    let this = both-left _ (never_must lines left right) none in
-    let rest = choose-never_must lines left right otherwise (both-right _ (never_must lines left right) none) here in
+    let parts = and_parts _ (never_must lines left right) none in
+    let rest = choose-never_must lines left right otherwise parts.1 here in
     elim (line.holds left right)
     as (λ v. (not (is_must line.answer.kind) || not v) ≡ true
     → is_must (cond v line.answer (choose lines left right otherwise)).kind ≡ false)
     [ true ↦ λ h. held-never_must (is_must line.answer.kind) true h refl | false ↦ λ _. rest ]
-    this
+    parts.0
 
 units-never_must : (profile : Profile) (left right : Side) → never_must (unit_rules profile) left right ≡ true
 unfolding unit_rules joining_rules opening_rules quotation_rules space_rules hyphen_rules affix_rules number_rules

@@ -1,5 +1,5 @@
 -- The cell of a scalar value, from its four properties (UAX #14, section 6.1, rule LB1).
-use Rattle.std.specs.Prelude.{ℕ, Bool, true, false, ◌&&◌, if◌then◌else◌}
+use Rattle.std.specs.Prelude.{Bool, true, false, ◌&&◌, if◌then◌else◌}
 use Rattle.lbk_values.specs.declared.values.LineBreak.{LineBreak}
 use Rattle.lbk_values.specs.declared.values.LineBreak.TheVariants as Property
 use Rattle.lbk_values.specs.declared.values.EastAsian.{EastAsian}

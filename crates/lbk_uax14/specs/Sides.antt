@@ -4,19 +4,17 @@ use Rattle.std.specs.Prelude.{Bool, true, false, ◌&&◌, ◌||◌, if◌then�
 use Rattle.lbk_uax14.specs.declared.classes.Class.{Class}
 use Rattle.lbk_uax14.specs.declared.classes.Class.TheVariants.{Space}
 use Rattle.lbk_uax14.specs.declared.classes.Quote.{Quote}
-use Rattle.lbk_uax14.specs.declared.classes.Quote.TheVariants.{Neither, Initial, Final}
+use Rattle.lbk_uax14.specs.declared.classes.Quote.TheVariants.{Initial, Final}
 use Rattle.lbk_uax14.specs.declared.cells.Cell.{Cell}
 use Rattle.lbk_uax14.specs.Classes.{Set, SP, RI, QU, opens_after, closes_before}
 
 abbrev pub is_initial : Quote → Bool
 is_initial Initial = true
-is_initial Neither = false
-is_initial Final = false
+is_initial _ = false
 
 abbrev pub is_final : Quote → Bool
 is_final Final = true
-is_final Neither = false
-is_final Initial = false
+is_final _ = false
 
 abbrev pub Side : Type 0
 Side = List Cell

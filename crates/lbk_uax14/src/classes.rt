@@ -49,9 +49,9 @@ pub enum Class {
     ZWJ,
 }
 
+#[tactic(auto, unfolding(crate::specs::Classes::is))]
 impl Class {
     /// Whether this is the class `other`.
-    #[tactic(auto, unfolding(crate::specs::Classes::is))]
     pub fn is(self, other: Class) -> bool
         ensures { result ≡ is other self }
     {
@@ -59,7 +59,6 @@ impl Class {
     }
 
     /// Whether a mark after it has no base.
-    #[tactic(auto, unfolding(crate::specs::Classes::is))]
     pub fn is_hard(self) -> bool
         ensures { result ≡ hard self }
     {
@@ -75,7 +74,6 @@ impl Class {
     }
 
     /// Whether it joins the character before it (rule LB9).
-    #[tactic(auto, unfolding(crate::specs::Classes::is))]
     pub fn is_mark(self) -> bool
         ensures { result ≡ mark self }
     {
@@ -83,7 +81,6 @@ impl Class {
     }
 
     /// Whether a line ends after it (rules LB4 to LB6).
-    #[tactic(auto, unfolding(crate::specs::Classes::is))]
     pub fn ends_line(self) -> bool
         ensures { result ≡ (BK or CR or LF or NL) self }
     {
@@ -94,7 +91,6 @@ impl Class {
     }
 
     /// Whether it is a space, of no width too (rule LB7).
-    #[tactic(auto, unfolding(crate::specs::Classes::is))]
     pub fn is_space(self) -> bool
         ensures { result ≡ (SP or ZW) self }
     {
@@ -102,7 +98,6 @@ impl Class {
     }
 
     /// Whether a glue after it may begin a line (rule LB12a).
-    #[tactic(auto, unfolding(crate::specs::Classes::is))]
     pub fn is_space_or_hyphen(self) -> bool
         ensures { result ≡ (SP or BA or HY) self }
     {
@@ -110,7 +105,6 @@ impl Class {
     }
 
     /// Whether it stays with what is before it, even after spaces (rule LB13).
-    #[tactic(auto, unfolding(crate::specs::Classes::is))]
     pub fn is_end_punctuation(self) -> bool
         ensures { result ≡ (CL or CP or EX or IS or SY) self }
     {
@@ -125,7 +119,6 @@ impl Class {
     }
 
     /// Whether it closes a bracket (rule LB16).
-    #[tactic(auto, unfolding(crate::specs::Classes::is))]
     pub fn is_closing(self) -> bool
         ensures { result ≡ (CL or CP) self }
     {
@@ -133,7 +126,6 @@ impl Class {
     }
 
     /// Whether no line begins with it (rule LB21).
-    #[tactic(auto, unfolding(crate::specs::Classes::is))]
     pub fn is_never_first(self) -> bool
         ensures { result ≡ (BA or HY or NS) self }
     {
@@ -141,7 +133,6 @@ impl Class {
     }
 
     /// Whether it is a hyphen after a Hebrew letter (rule LB21a).
-    #[tactic(auto, unfolding(crate::specs::Classes::is))]
     pub fn is_hyphen(self) -> bool
         ensures { result ≡ (HY or BA) self }
     {
@@ -149,7 +140,6 @@ impl Class {
     }
 
     /// Whether it is a letter (rules LB23, LB24, LB28 and LB29).
-    #[tactic(auto, unfolding(crate::specs::Classes::is))]
     pub fn is_letter(self) -> bool
         ensures { result ≡ (AL or HL) self }
     {
@@ -157,7 +147,6 @@ impl Class {
     }
 
     /// Whether it is a letter or a digit (rule LB30).
-    #[tactic(auto, unfolding(crate::specs::Classes::is))]
     pub fn is_letter_or_digit(self) -> bool
         ensures { result ≡ (AL or HL or NU) self }
     {
@@ -168,7 +157,6 @@ impl Class {
     }
 
     /// Whether it is an ideograph or an emoji (rule LB23a).
-    #[tactic(auto, unfolding(crate::specs::Classes::is))]
     pub fn is_ideographic(self) -> bool
         ensures { result ≡ (ID or EB or EM) self }
     {
@@ -176,7 +164,6 @@ impl Class {
     }
 
     /// Whether it is a prefix or a postfix of numbers (rule LB24).
-    #[tactic(auto, unfolding(crate::specs::Classes::is))]
     pub fn is_affix(self) -> bool
         ensures { result ≡ (PR or PO) self }
     {
@@ -184,7 +171,6 @@ impl Class {
     }
 
     /// Whether it is a Korean syllable or a part of one (rule LB27).
-    #[tactic(auto, unfolding(crate::specs::Classes::is))]
     pub fn is_syllable(self) -> bool
         ensures { result ≡ (isJL or isJV or isJT or isH2 or isH3) self }
     {
@@ -195,7 +181,6 @@ impl Class {
     }
 
     /// Whether it continues a leading consonant (rule LB26).
-    #[tactic(auto, unfolding(crate::specs::Classes::is))]
     pub fn follows_leading(self) -> bool
         ensures { result ≡ (isJL or isJV or isH2 or isH3) self }
     {
@@ -203,7 +188,6 @@ impl Class {
     }
 
     /// Whether it ends with a vowel (rule LB26).
-    #[tactic(auto, unfolding(crate::specs::Classes::is))]
     pub fn ends_in_vowel(self) -> bool
         ensures { result ≡ (isJV or isH2) self }
     {
@@ -211,7 +195,6 @@ impl Class {
     }
 
     /// Whether it continues a vowel (rule LB26).
-    #[tactic(auto, unfolding(crate::specs::Classes::is))]
     pub fn follows_vowel(self) -> bool
         ensures { result ≡ (isJV or isJT) self }
     {
@@ -219,7 +202,6 @@ impl Class {
     }
 
     /// Whether it ends with a trailing consonant (rule LB26).
-    #[tactic(auto, unfolding(crate::specs::Classes::is))]
     pub fn ends_in_consonant(self) -> bool
         ensures { result ≡ (isJT or isH3) self }
     {
@@ -227,7 +209,6 @@ impl Class {
     }
 
     /// Whether a quotation mark after it opens (rule LB15a).
-    #[tactic(auto, unfolding(crate::specs::Classes::is))]
     pub fn opens_after(self) -> bool
         ensures { result ≡ opens_after self }
     {
@@ -246,7 +227,6 @@ impl Class {
     }
 
     /// Whether a quotation mark before it closes (rule LB15b).
-    #[tactic(auto, unfolding(crate::specs::Classes::is))]
     pub fn closes_before(self) -> bool
         ensures { result ≡ closes_before self }
     {

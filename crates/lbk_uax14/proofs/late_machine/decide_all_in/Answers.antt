@@ -85,29 +85,8 @@ write_late-answers-requires-2 c = λ answer e.
     let below = answer_at-below profile cells [] answer (sym (c.finish-end.ensures.late profile cells fits) ∙ e) in
     omega (arith, c.requires, c.loop-k.auto.verdicts)
 
-pub returns-clause-each : goal.returns-clause-each
-returns-clause-each c =
-    let profile = c.args.profile in
-    let cells = c.args.cells.now in
-    let k = c.loop-k.k in
-    let place : k ≡ length cells = omega arith in
-    let whole : take k cells ≡ cells = take_all k cells (omega arith) in
-    let fits = subst (λ (l : List Cell). LateFits c.loop-k.machine profile l) whole c.loop-k.invariant.fits in
-    let by_place = subst (λ (n : ℕ). Covers (λ j. verdict_in profile cells j) c.loop-k.verdicts c.loop-k.answers n
-    (unanswered profile (take k cells)))
-    place c.loop-k.invariant.covers in
-    let covers = subst (λ (l : List Cell). Covers (λ j. verdict_in profile cells j) c.loop-k.verdicts c.loop-k.answers
-    (length cells) (unanswered profile l))
-    whole by_place in
-    let finished = Covers-finish profile cells c.loop-k.verdicts c.write_late-answers-2.new.verdicts c.loop-k.answers
-    c.write_late-answers-2.result (length c.args.verdicts.now - 1) c.finish-end.result.late c.finish-end.result.end
-    (c.finish-end.ensures.late profile cells fits) (c.finish-end.ensures.end profile cells fits)
-    (omega (arith, c.requires, c.loop-k.auto.verdicts)) (omega (arith, c.requires))
-    c.write_late-answers-2.ensures.list c.write_late-answers-2.ensures.count covers in
-    λ j within. finished.each j (omega arith) (λ e. let no : ⊥ = cc in no)
-
-pub returns-clause-once : goal.returns-clause-once
-returns-clause-once c =
+pub returns : goal.returns
+returns c =
     let profile = c.args.profile in
     let cells = c.args.cells.now in
     let k = c.loop-k.k in
@@ -126,4 +105,7 @@ returns-clause-once c =
     (omega (arith, c.requires, c.loop-k.auto.verdicts)) (omega (arith, c.requires))
     c.write_late-answers-2.ensures.list c.write_late-answers-2.ensures.count covers in
     let counted = finished.counted in
-    omega arith
+    record {
+      each = λ j within. finished.each j (omega arith) (λ e. let no : ⊥ = cc in no);
+      once = omega arith;
+    }

@@ -2,8 +2,8 @@ use Rattle.lbk_values.specs.declared.profile.Profile.TheVariants.{Second}
 use Rattle.lbk_uax14.proofs.LookAheadLemmas.{look_ahead_as_far, look_ahead_between_in}
 use Rattle.lbk_uax14.proofs.laws.look_ahead_second.Goals as goal
 
-pub returns-clause-at : goal.returns-clause-at
-returns-clause-at c = look_ahead_as_far
-
-pub returns-clause-between : goal.returns-clause-between
-returns-clause-between c = look_ahead_between_in Second
+pub returns : goal.returns
+returns c = record {
+  at = look_ahead_as_far;
+  between = look_ahead_between_in Second;
+}
