@@ -225,13 +225,13 @@ module _ {V : Type 0} where
     pub grows : IsGrown format bytes gathered grown
 
   -- one more line
-  pub read_more : (format : Format V) (bytes : List ℕ) (k : ℕ) (line : List ℕ) (after : List (List ℕ)) (old new : Gathered V) (grown grows : ℕ)
+  pub read_more : {format : Format V} {bytes : List ℕ} {k : ℕ} {line : List ℕ} {after : List (List ℕ)} {old new : Gathered V} {grown grows : ℕ}
       → IsReadTo format bytes k (line ∷ after) old grown
       → cause_beside format old.rows.items (count_of old) line ≡ None
       → Adds (row_in format line) (default_in format line) old new
       → IsGrown format bytes new grows
       → IsReadTo format bytes (k + 1) after new grows
-  read_more format bytes k line after old new grown grows to none adds grew =
+  read_more {format} {bytes} {k} {line} {after} {old} {new} to none adds grew =
       let within = next_within format bytes k line after old to.left_is to.lawful to.keeps in
       record {
         left_is = next_left format bytes k line after old to.left_is to.lawful to.keeps;

@@ -1,9 +1,9 @@
 -- `meaning_of` answers just what the grammar relates to a line.
-use Rattle.std.proofs.Common.{◌≡◌, ◌≢◌, ℕ, suc, ◌==◌, nat_eq, nat_lt, nat_le, ◌+◌, ◌-◌, ◌<◌, ◌≤◌, ◌&&◌, ◌||◌, not, Bool, true, false, cond, List, [], ◌∷◌, ◌++◌, length, get_or, take, drop, reverse, codes, Option, Some, None, option_and_then, sym, ap, refl, ◌∙◌, arith, inl, inr, ◌⊎◌, length-append, length-drop, append-nil, append_assoc, slice_index, subst}
+use Rattle.std.proofs.Common.{◌≡◌, ◌≢◌, ℕ, suc, ◌==◌, nat_eq, nat_lt, nat_le, ◌+◌, ◌-◌, ◌<◌, ◌≤◌, ◌&&◌, not, Bool, true, false, cond, List, [], ◌∷◌, ◌++◌, length, get_or, take, drop, reverse, codes, Option, Some, None, option_and_then, sym, ap, refl, ◌∙◌, arith, inl, inr, ◌⊎◌, length-append, length-drop, append-nil, append_assoc, slice_index, subst}
 use Rattle.std.specs.List.{AllPass, list_any, list_all, prefix_len, suffix_len, position_or_len, before_first, after_first, starts_with}
 use Rattle.std.specs.Option.{option_map, option_map_or}
 use Rattle.std.specs.Str.Parse.{digits_value}
-use Rattle.std.proofs.lemmas.Bool.{and_parts, and_right, cases_lt, eqb-true, eq-eqb}
+use Rattle.std.proofs.lemmas.Bool.{and_parts, and_right, cases_lt, eqb-true, eq-eqb, or_parts}
 use Rattle.std.proofs.lemmas.Bool.Decides.{nat_tests, Decides-eqb}
 use Rattle.std.proofs.lemmas.List.{take-append-drop, take_more, get_or_at, get_or_past, take_at, drop_at, take_all, drop_all, get_or-drop, get_or-reverse, length-reverse, reverse-append}
 use Rattle.std.proofs.lemmas.List.Folds.{list_any-append, list_all-append}
@@ -23,10 +23,6 @@ none_of p q apart (byte ∷ bytes) all =
     let here = apart byte parts.0 in
     let rest = none_of p q apart bytes parts.1 in
     rw (here, rest) refl
-
-or_parts : (a b : Bool) → (a || b) ≡ false → (a ≡ false) × (b ≡ false)
-or_parts true b none = cc
-or_parts false b none = (refl, none)
 
 -- a byte that passes a test isn't one that fails it
 differs : (q : ℕ → Bool) (k : ℕ) → q k ≡ false → (byte : ℕ) → q byte ≡ true → (byte == k) ≡ false
@@ -65,19 +61,18 @@ name_no_space byte name = rw (differs is_name_byte 32 refl byte name, differs is
 
 -- Where a list is cut at the first byte that passes.
 
-place_here : (p : ℕ → Bool) (front back : List ℕ) (c : ℕ) → list_any p front ≡ false → p c ≡ true → position_or_len p (front ++ (c ∷ back)) ≡ length front
-place_here p [] back c none passes = rw passes refl
-place_here p (byte ∷ front) back c none passes =
+place_behind : (p : ℕ → Bool) (front back : List ℕ) → list_any p front ≡ false → position_or_len p (front ++ back) ≡ length front + position_or_len p back
+place_behind p [] back none = omega arith
+place_behind p (byte ∷ front) back none =
     let parts = or_parts (p byte) (list_any p front) none in
-    let rest = place_here p front back c parts.1 passes in
+    let rest = place_behind p front back parts.1 in
     rw (parts.0, rest) (omega arith)
 
+place_here : (p : ℕ → Bool) (front back : List ℕ) (c : ℕ) → list_any p front ≡ false → p c ≡ true → position_or_len p (front ++ (c ∷ back)) ≡ length front
+place_here p front back c none passes = place_behind p front (c ∷ back) none ∙ rw passes (omega arith)
+
 place_none : (p : ℕ → Bool) (bytes : List ℕ) → list_any p bytes ≡ false → position_or_len p bytes ≡ length bytes
-place_none p [] none = refl
-place_none p (byte ∷ bytes) none =
-    let parts = or_parts (p byte) (list_any p bytes) none in
-    let rest = place_none p bytes parts.1 in
-    rw (parts.0, rest) (omega arith)
+place_none p bytes none = ap (position_or_len p) (sym (append-nil bytes)) ∙ place_behind p bytes [] none ∙ omega arith
 
 before_here : (p : ℕ → Bool) (front back : List ℕ) (c : ℕ) → list_any p front ≡ false → p c ≡ true → before_first p (front ++ (c ∷ back)) ≡ front
 before_here p front back c none passes =

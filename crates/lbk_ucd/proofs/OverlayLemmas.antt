@@ -10,7 +10,7 @@ use Rattle.std.proofs.lemmas.List.Folds.{find-append, list_any-append, list_any_
 use Rattle.std.proofs.lemmas.List.Quantifiers.{all_pairs_push}
 use Rattle.lbk_ucd.specs.declared.ranges.Row.{Row}
 use Rattle.lbk_masks.specs.Bits.{is_marked}
-use Rattle.lbk_ucd.specs.Ranges.{AreMarked, IsInOrder, IsOverlay, IsRange}
+use Rattle.lbk_ucd.specs.Ranges.{AreMarked, IsInOrder, IsOverlay, IsRange, IsStretch}
 use Rattle.lbk_ucd.specs.Rows.{holds, shares, first_value, value_at, AreApart}
 use Rattle.lbk_ucd.proofs.RowLemmas.{elsewhere, fails_each, find_none, shared_code}
 
@@ -41,6 +41,11 @@ unwrap_or_or None other value = refl
 pub if_ok : {A E : Type 0} {P Q : A → Type 0} (result : Result A E) → ((x : A) → P x → Q x) → IfOk result P → IfOk result Q
 if_ok (Ok x) follows here = follows x here
 if_ok (Err e) follows here = tt
+
+-- a stretch by its parts
+pub stretch : {A : Type 0} {value_at : ℕ → A} {code last : ℕ} {value : A} → (code ≤ 0x10FFFF → code ≤ last) → last ≤ 0x10FFFF
+    → ((k : ℕ) → code ≤ k → k ≤ last → value_at k ≡ value) → IsStretch value_at code last value
+stretch onward most same = record { onward = onward; most = most; same = same }
 
 module _ {V : Type 0} where
   ended : (code : ℕ) (row : Row V) → row.last < code → holds code row ≡ false

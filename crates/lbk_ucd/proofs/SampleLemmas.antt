@@ -34,28 +34,20 @@ lawful format bytes few clean = record {
       (agree_below_at (λ k. is_none (cause_at format (lines_of bytes) k)) (λ k. true) (length (lines_of bytes)) k clean within);
 }
 
-emoji_lines : no_cause emoji_format SAMPLE_EMOJI.now ≡ true
-unfolding emoji_format cause_beside cause_of_entry meaning_of default_of entry_of range_of pair_of code_of name_of
-emoji_lines = refl
-
-east_asian_lines : no_cause east_asian_format SAMPLE_EAST_ASIAN.now ≡ true
-unfolding east_asian_format cause_beside cause_of_entry meaning_of default_of entry_of range_of pair_of code_of name_of
-east_asian_lines = refl
-
-category_lines : no_cause category_format SAMPLE_CATEGORY.now ≡ true
-unfolding category_format cause_beside cause_of_entry meaning_of default_of entry_of range_of pair_of code_of name_of
-category_lines = refl
-
-line_break_lines : no_cause line_break_format SAMPLE_LINE_BREAK.now ≡ true
-unfolding line_break_format cause_beside cause_of_entry meaning_of default_of entry_of range_of pair_of code_of name_of
-line_break_lines = refl
+samples_clean : (no_cause line_break_format SAMPLE_LINE_BREAK.now ≡ true)
+    × (no_cause east_asian_format SAMPLE_EAST_ASIAN.now ≡ true)
+    × (no_cause category_format SAMPLE_CATEGORY.now ≡ true)
+    × (no_cause emoji_format SAMPLE_EMOJI.now ≡ true)
+unfolding line_break_format east_asian_format category_format emoji_format cause_beside cause_of_entry meaning_of
+    default_of entry_of range_of pair_of code_of name_of
+samples_clean = (refl, refl, refl, refl)
 
 pub samples_lawful : (files : Files) → AreSamples files → AreLawful files
 samples_lawful files are = record {
-  line_break = subst (IsLawful line_break_format) (sym are.line_break) (lawful line_break_format SAMPLE_LINE_BREAK.now refl line_break_lines);
-  east_asian = subst (IsLawful east_asian_format) (sym are.east_asian) (lawful east_asian_format SAMPLE_EAST_ASIAN.now refl east_asian_lines);
-  category = subst (IsLawful category_format) (sym are.category) (lawful category_format SAMPLE_CATEGORY.now refl category_lines);
-  emoji = subst (IsLawful emoji_format) (sym are.emoji) (lawful emoji_format SAMPLE_EMOJI.now refl emoji_lines);
+  line_break = subst (IsLawful line_break_format) (sym are.line_break) (lawful line_break_format SAMPLE_LINE_BREAK.now refl samples_clean.0);
+  east_asian = subst (IsLawful east_asian_format) (sym are.east_asian) (lawful east_asian_format SAMPLE_EAST_ASIAN.now refl samples_clean.1);
+  category = subst (IsLawful category_format) (sym are.category) (lawful category_format SAMPLE_CATEGORY.now refl samples_clean.2);
+  emoji = subst (IsLawful emoji_format) (sym are.emoji) (lawful emoji_format SAMPLE_EMOJI.now refl samples_clean.3);
 }
 
 refused_so : {V : Type 0} (format : Format V) (bytes : List ℕ) (number : ℕ) (cause : UcdCause) → IsLawful format bytes

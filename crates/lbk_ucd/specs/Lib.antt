@@ -10,6 +10,7 @@ pub mod Grammar
 pub mod FileNames
 pub mod Digests
 pub mod Causes
+pub mod Texts
 pub mod Claims
 pub mod Published
 pub mod ClaimTexts

@@ -28,7 +28,7 @@ pub record IsFirstFrom {V : Type 0} (rows : List (Row V)) (code at : ℕ) : Type
 
 -- all from a code point up to a last one have one value
 pub record IsStretch {A : Type 0} (value_at : ℕ → A) (code last : ℕ) (value : A) : Type 0 where
-  pub onward : code ≤ last
+  pub onward : code ≤ 0x10FFFF → code ≤ last
   pub most : last ≤ 0x10FFFF
   pub same : (k : ℕ) → code ≤ k → k ≤ last → value_at k ≡ value
 

@@ -1,14 +1,13 @@
 //! The texts of the causes of faults.
 
-ghost use Rattle.std.specs.Prelude.{◌≡◌, ◌≤◌, length};
 ghost use Rattle.lbk_ucd.specs.Causes.{cause_text};
+ghost use Rattle.lbk_ucd.specs.Texts.{SaysWithin};
 
 use crate::faults::UcdCause;
 
 /// Says what is wrong with a file or with one of its lines (UAX #44, section 4.2), in at most 80 bytes of ASCII.
 pub fn cause_text(cause: UcdCause) -> &'static str
-    ensures text { result.now ≡ cause_text cause }
-    ensures short { length result.now ≤ 80 }
+    ensures { SaysWithin 80 (cause_text cause) result.now }
 {
     match cause {
         UcdCause::FileTooLong => "the file has more than 8388608 bytes",

@@ -4,6 +4,7 @@ ghost use Rattle.std.specs.Prelude.{◌≡◌, ◌+◌, ◌≤◌, [], ◌++◌,
 ghost use Rattle.arrayvec.specs.ArrayString.{array_string_len};
 ghost use Rattle.lbk_ucd.specs.ClaimTexts.{claim_text, cut_text, remedy_text, three_numbers, two_numbers};
 ghost use Rattle.lbk_ucd.specs.ClaimTexts.{version_text};
+ghost use Rattle.lbk_ucd.specs.Texts.{SaysWithin};
 
 use crate::names::file_name;
 use crate::published::{ClaimCause, Version};
@@ -36,16 +37,14 @@ pub fn claim_text(which: Which, cause: ClaimCause) -> ArrayString<95>
 
 /// Describes a truncated file ([`is_cut`](crate::is_cut)), in at most 95 bytes of ASCII.
 pub fn cut_text() -> &'static str
-    ensures text { result.now ≡ cut_text }
-    ensures short { length result.now ≤ 95 }
+    ensures { SaysWithin 95 cut_text result.now }
 {
     "the file was truncated: its first line names a published file, but its last is not # EOF"
 }
 
 /// Says where to get the published files, in at most 95 bytes of ASCII.
 pub fn remedy_text() -> &'static str
-    ensures text { result.now ≡ remedy_text }
-    ensures short { length result.now ≤ 95 }
+    ensures { SaysWithin 95 remedy_text result.now }
 {
     "get it from Debian 12's unicode-data or https://www.unicode.org/Public/15.0.0/ucd/UCD.zip"
 }

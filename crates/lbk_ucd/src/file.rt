@@ -1,13 +1,12 @@
 //! The reader of one property file, line by line.
 
-ghost use Rattle.std.specs.Prelude.{◌≡◌, ◌≤◌, ◌==◌, ℕ, [], ◌∷◌, None, Some, IfOk, IfErr, OnOk, cond};
+ghost use Rattle.std.specs.Prelude.{◌≡◌, ◌==◌, [], ◌∷◌, None, Some, IfErr, OnOk, cond};
 ghost use Rattle.lbk_ucd.specs.File.{cause_of_room, cause_of_kept, cause_of_entry, cause_beside, valued, row_in};
-ghost use Rattle.lbk_ucd.specs.File.{default_in, IsLawful, IsRefusal, property_of, without_mark};
+ghost use Rattle.lbk_ucd.specs.File.{default_in, without_mark};
 ghost use Rattle.std.specs.List.{slice_split};
-ghost use Rattle.lbk_ucd.specs.Reading.{Adds, IsAnswered, count_of};
+ghost use Rattle.lbk_ucd.specs.Reading.{Adds, IsAnswered, IsRead, count_of};
 ghost use Rattle.lbk_ucd.specs.Ranges.{row_of};
 ghost use Rattle.lbk_ucd.specs.Shown.{shown_entry, shown_format, lines_left};
-ghost use Rattle.lbk_ucd.specs.Tables.{value_of};
 
 use crate::faults::{UcdCause, UcdFault};
 use crate::format::{Format, value_named};
@@ -31,11 +30,7 @@ pub(crate) fn read_file<V: Copy>(
     format: &Format<V>,
     bytes: &[u8],
 ) -> Result<Assigned<V>, UcdFault>
-    ensures lawful { OnOk result (IsLawful (shown_format format.now) bytes.now) }
-    ensures properties { IfOk result
-        (λ assigned. (code : ℕ) → value_of assigned code ≡ property_of (shown_format format.now) bytes.now code) }
-    ensures file { IfErr result (λ fault. fault.file ≡ which) }
-    ensures refused { IfErr result (λ fault. IsRefusal (shown_format format.now) bytes.now fault.line fault.cause) }
+    ensures { IsRead which (shown_format format.now) bytes.now result }
 {
     if bytes.len() > LONGEST_FILE {
         return Err(UcdFault {

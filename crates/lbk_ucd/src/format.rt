@@ -1,10 +1,17 @@
-//! The differences between the four property files.
+//! The four property files: their differences, and the reader of each.
 
 ghost use Rattle.std.specs.Prelude.{◌≡◌};
 ghost use Rattle.lbk_ucd.specs.File.{named};
+ghost use Rattle.lbk_ucd.specs.Names.{line_break_format, east_asian_format, category_format, emoji_format};
+ghost use Rattle.lbk_ucd.specs.Reading.{IsRead};
 ghost use Rattle.lbk_ucd.specs.Shown.{shown_names};
 
+use crate::faults::UcdFault;
+use crate::file::read_file;
+use crate::ranges::Assigned;
+use crate::which::Which;
 use lbk_values::{Category, EastAsian, LineBreak};
+use std::alloc::Global;
 
 /// What differs from one property file to another.
 pub(crate) struct Format<V: 'static> {
@@ -31,7 +38,7 @@ pub(crate) fn value_named<V: Copy>(names: &[(&'static [u8], V)], name: &[u8]) ->
 }
 
 /// LineBreak.txt: the short and the long name of each value of Line_Break (PropertyValueAliases.txt).
-pub(crate) static LINE_BREAK: Format<LineBreak> = Format {
+static LINE_BREAK: Format<LineBreak> = Format {
     names: &[
         (b"AL", LineBreak::Alphabetic),
         (b"Alphabetic", LineBreak::Alphabetic),
@@ -122,8 +129,16 @@ pub(crate) static LINE_BREAK: Format<LineBreak> = Format {
     unlisted: LineBreak::Unknown,
 };
 
+/// Reads LineBreak.txt.
+#[tactic(auto, unfolding(crate::specs::Names::line_break_format))]
+pub(crate) fn read_line_break(alloc: Global, bytes: &[u8]) -> Result<Assigned<LineBreak>, UcdFault>
+    ensures { IsRead Which.LineBreak line_break_format bytes.now result }
+{
+    read_file(alloc, Which::LineBreak, &LINE_BREAK, bytes)
+}
+
 /// EastAsianWidth.txt: the short and the long name of each value of East_Asian_Width.
-pub(crate) static EAST_ASIAN: Format<EastAsian> = Format {
+static EAST_ASIAN: Format<EastAsian> = Format {
     names: &[
         (b"N", EastAsian::Neutral),
         (b"Neutral", EastAsian::Neutral),
@@ -143,8 +158,16 @@ pub(crate) static EAST_ASIAN: Format<EastAsian> = Format {
     unlisted: EastAsian::Neutral,
 };
 
+/// Reads EastAsianWidth.txt.
+#[tactic(auto, unfolding(crate::specs::Names::east_asian_format))]
+pub(crate) fn read_east_asian(alloc: Global, bytes: &[u8]) -> Result<Assigned<EastAsian>, UcdFault>
+    ensures { IsRead Which.EastAsianWidth east_asian_format bytes.now result }
+{
+    read_file(alloc, Which::EastAsianWidth, &EAST_ASIAN, bytes)
+}
+
 /// DerivedGeneralCategory.txt: the short names of General_Category.
-pub(crate) static CATEGORY: Format<Category> = Format {
+static CATEGORY: Format<Category> = Format {
     names: &[
         (b"Cn", Category::Cn),
         (b"Ll", Category::Ll),
@@ -182,10 +205,26 @@ pub(crate) static CATEGORY: Format<Category> = Format {
     unlisted: Category::Cn,
 };
 
+/// Reads DerivedGeneralCategory.txt.
+#[tactic(auto, unfolding(crate::specs::Names::category_format))]
+pub(crate) fn read_category(alloc: Global, bytes: &[u8]) -> Result<Assigned<Category>, UcdFault>
+    ensures { IsRead Which.Category category_format bytes.now result }
+{
+    read_file(alloc, Which::Category, &CATEGORY, bytes)
+}
+
 /// emoji-data.txt; only one property is kept.
-pub(crate) static EMOJI: Format<bool> = Format {
+static EMOJI: Format<bool> = Format {
     names: &[(b"Extended_Pictographic", true)],
     others: true,
     defaults: false,
     unlisted: false,
 };
+
+/// Reads emoji-data.txt.
+#[tactic(auto, unfolding(crate::specs::Names::emoji_format))]
+pub(crate) fn read_emoji(alloc: Global, bytes: &[u8]) -> Result<Assigned<bool>, UcdFault>
+    ensures { IsRead Which.Emoji emoji_format bytes.now result }
+{
+    read_file(alloc, Which::Emoji, &EMOJI, bytes)
+}

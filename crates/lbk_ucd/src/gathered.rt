@@ -7,7 +7,7 @@ ghost use Rattle.lbk_ucd.specs.Rows.{shares, AreApart, value_at};
 ghost use Rattle.lbk_ucd.specs.declared.gathered.TheConstants.{MOST_ROWS};
 
 use crate::overlay::{flatten, overlay, sorted};
-use crate::ranges::{Assigned, InOrder, Row};
+use crate::ranges::{Assigned, InOrder, Ranges, Row};
 use crate::span::Span;
 use crate::taken::Taken;
 use std::alloc::{AllocError, Global};
@@ -98,7 +98,7 @@ impl<V: Copy> Gathered<V> {
             → All (λ other. other.last < first) self.new.rows.items) }
     {
         if self.taken.is_unused() && !(InOrder { rows: &self.rows }.stand_before(first)) {
-            self.taken.add_rows(&self.rows)?;
+            self.taken.add_rows(&Ranges { rows: &self.rows })?;
         }
         Ok(())
     }
@@ -129,7 +129,7 @@ impl<V: Copy> Gathered<V> {
         if defaults.is_empty() {
             return Ok(Assigned { rows, unlisted });
         }
-        let defaults = flatten(alloc, &defaults)?;
+        let defaults = flatten(alloc, &Ranges { rows: &defaults })?;
         Ok(Assigned {
             rows: overlay(
                 alloc,

@@ -9,7 +9,6 @@ mod digests;
 mod faults;
 mod file;
 mod format;
-mod four;
 mod gathered;
 pub mod laws;
 mod names;

@@ -4,7 +4,7 @@ ghost use Rattle.std.specs.List.{All, AllPairs};
 ghost use Rattle.lbk_ucd.specs.Ranges.{IsInOrder, IsOverlay, IsRange};
 ghost use Rattle.lbk_ucd.specs.Rows.{AreApart, first_value};
 
-use crate::ranges::{InOrder, LAST_CODE, Row};
+use crate::ranges::{InOrder, LAST_CODE, Ranges, Row};
 use std::alloc::{AllocError, Global};
 
 /// Disjoint rows, sorted by code point.
@@ -22,18 +22,21 @@ pub(crate) fn sorted<V: Copy>(rows: Vec<Row<V>>) -> Result<Vec<Row<V>>, AllocErr
 }
 
 /// Disjoint rows, sorted by code point; a code point has the value of the last given row that has it.
-pub(crate) fn flatten<V: Copy>(alloc: Global, rows: &[Row<V>]) -> Result<Vec<Row<V>>, AllocError>
-    requires { All IsRange rows.now }
+pub(crate) fn flatten<V: Copy>(
+    alloc: Global,
+    ranges: &Ranges<'_, V>,
+) -> Result<Vec<Row<V>>, AllocError>
     ensures ordered { IfOk result (λ flat. IsInOrder flat.items) }
     ensures values { IfOk result (λ flat. (code : ℕ) → first_value code flat.items
-        ≡ first_value code (reverse rows.now)) }
+        ≡ first_value code (reverse ranges.now.rows.now)) }
 {
-    if are_in_order(rows) {
+    let rows = ranges.rows;
+    if are_in_order(ranges) {
         return Vec::from_slice(alloc, rows);
     }
     let (earlier, later) = rows.split_at(rows.len() / 2);
-    let under = flatten(alloc, earlier)?;
-    let over = flatten(alloc, later)?;
+    let under = flatten(alloc, &Ranges { rows: earlier })?;
+    let over = flatten(alloc, &Ranges { rows: later })?;
     overlay(alloc, &InOrder { rows: &under }, &InOrder { rows: &over })
 }
 
@@ -69,11 +72,11 @@ pub(crate) fn overlay<V: Copy>(
 }
 
 /// Whether each row ends before the next begins.
-fn are_in_order<V: Copy>(rows: &[Row<V>]) -> bool
-    requires { All IsRange rows.now }
-    ensures yes { result ≡ true → IsInOrder rows.now }
-    ensures no { result ≡ false → 2 ≤ length rows.now }
+fn are_in_order<V: Copy>(ranges: &Ranges<'_, V>) -> bool
+    ensures yes { result ≡ true → IsInOrder ranges.now.rows.now }
+    ensures no { result ≡ false → 2 ≤ length ranges.now.rows.now }
 {
+    let rows = ranges.rows;
     for next in 1..rows.len() {
         if rows[next].first <= rows[next - 1].last {
             return false;

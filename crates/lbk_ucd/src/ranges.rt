@@ -56,6 +56,13 @@ pub(crate) struct InOrder<'a, V> {
     ghost ordered: { IsInOrder rows.now },
 }
 
+/// Rows, none of which ends before it begins or above the greatest code point.
+#[derive(Drop)]
+pub(crate) struct Ranges<'a, V> {
+    pub(crate) rows: &'a [Row<V>],
+    ghost each: { All IsRange rows.now },
+}
+
 impl<V: Copy> Assigned<V> {
     ghost use Rattle.lbk_ucd.specs.Tables.{value_of};
 
@@ -70,7 +77,6 @@ impl<V: Copy> Assigned<V> {
     /// The value of a code point, and the last one up to which all have it. The look-up is fast if `near` is the index
     /// of a range that ends a little before the code point.
     pub(crate) fn stretch(&self, code: u32, near: usize) -> Stretch<V>
-        requires { code ≤ 0x10FFFF }
         ensures { IsStretch (value_of self.now) code result.last result.value }
     {
         let sorted = InOrder { rows: &self.rows };
@@ -117,8 +123,7 @@ impl<V: Copy> InOrder<'_, V> {
     /// The value of the row that has a code point, if one has it, and the last code point with the same result. The
     /// rows before `at` end before the code point, the others do not.
     pub(crate) fn stretch_from(&self, at: usize, code: u32) -> Stretch<Option<V>>
-        requires code { code ≤ 0x10FFFF }
-        requires at { IsFirstFrom self.now.rows.now code at }
+        requires { IsFirstFrom self.now.rows.now code at }
         ensures { IsStretch (λ k. first_value k self.now.rows.now) code result.last result.value }
     {
         let rows = self.rows;

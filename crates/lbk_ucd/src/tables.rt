@@ -3,7 +3,7 @@
 ghost use Rattle.std.specs.Prelude.{◌≡◌, ◌≤◌, ℕ, IfOk, IfErr, OnOk};
 
 use crate::faults::UcdFault;
-use crate::four::{read_category, read_east_asian, read_emoji, read_line_break};
+use crate::format::{read_category, read_east_asian, read_emoji, read_line_break};
 use crate::ranges::Assigned;
 use lbk_values::{Category, EastAsian, LineBreak};
 use std::alloc::Global;

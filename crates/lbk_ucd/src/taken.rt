@@ -1,13 +1,12 @@
 //! The code points that rows have.
 ghost use Rattle.std.specs.Prelude.{◌≡◌, ◌+◌, ◌*◌, ◌^◌, ◌<◌, ◌≤◌, ◌⊎◌, ◌&&◌, ℕ, true, false, [], length};
 ghost use Rattle.std.specs.Prelude.{nat_le, OnErr, OnOk};
-ghost use Rattle.std.specs.List.{All};
 ghost use Rattle.lbk_masks.specs.Bits.{is_marked};
 ghost use Rattle.lbk_masks.specs.Sets.{is_set};
-ghost use Rattle.lbk_ucd.specs.Ranges.{AreMarked, IsRange};
+ghost use Rattle.lbk_ucd.specs.Ranges.{AreMarked};
 ghost use Rattle.lbk_ucd.specs.declared.taken.TheConstants.{WORDS};
 
-use crate::ranges::Row;
+use crate::ranges::Ranges;
 use crate::span::Span;
 use lbk_masks::{join, kept_from};
 use std::alloc::{AllocError, Global};
@@ -54,15 +53,14 @@ impl Taken {
     }
 
     /// Takes the code points of the first rows. On an error none is taken.
-    pub(crate) fn add_rows<V: Copy>(&mut self, rows: &[Row<V>]) -> Result<(), AllocError>
+    pub(crate) fn add_rows<V: Copy>(&mut self, ranges: &Ranges<'_, V>) -> Result<(), AllocError>
         requires unused { self.old.words.items ≡ [] }
-        requires ranges { All IsRange rows.now }
-        ensures marked { OnOk result (AreMarked rows.now self.new.words.items) }
+        ensures marked { OnOk result (AreMarked ranges.now.rows.now self.new.words.items) }
         ensures room { OnOk result (0 < length self.new.words.items) }
         ensures untouched { OnErr result (self.new.words.items ≡ []) }
     {
         self.words.resize(WORDS, 0)?;
-        mark_rows(&mut self.words, rows);
+        mark_rows(&mut self.words, ranges);
         Ok(())
     }
 
@@ -79,13 +77,12 @@ impl Taken {
 }
 
 /// Sets the bits of the code points of these rows; none was set before.
-fn mark_rows<V: Copy>(words: &mut [u64], rows: &[Row<V>])
+fn mark_rows<V: Copy>(words: &mut [u64], ranges: &Ranges<'_, V>)
     requires room { length words.old ≡ WORDS }
     requires unset { (k : ℕ) → is_marked words.old k ≡ false }
-    requires ranges { All IsRange rows.now }
-    ensures { AreMarked rows.now words.new }
+    ensures { AreMarked ranges.now.rows.now words.new }
 {
-    for row in rows {
+    for row in ranges.rows {
         mark_all(words, row.first as usize, row.last as usize);
     }
 }

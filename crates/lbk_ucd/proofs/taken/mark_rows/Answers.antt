@@ -8,7 +8,7 @@ use Rattle.lbk_ucd.proofs.taken.mark_rows.Goals as goal
 pub loop-row-preserved : goal.loop-row-preserved
 loop-row-preserved g c =
     let to = c.loop-row.invariant in
-    let rows = c.args.rows.now in
+    let rows = c.args.ranges.now.rows.now in
     let i = c.loop-row.row-index in
     let row = c.row-item.result in
     record {
