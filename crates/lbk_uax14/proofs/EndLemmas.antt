@@ -1,7 +1,7 @@
 -- Where a line must end, and where a mark joins, told by two classes.
 use Rattle.std.proofs.Common.{◌≡◌, ◌≢◌, ℕ, ◌<◌, ◌≤◌, Bool, true, false, cond, ◌&&◌, ◌||◌, not, List, [], ◌∷◌, ◌++◌}
 use Rattle.std.proofs.Common.{length, take, drop, reverse, refl, sym, ap, ◌∙◌, arith}
-use Rattle.std.proofs.lemmas.Bool.{false≢true, or_right}
+use Rattle.std.proofs.lemmas.Bool.{false≢true}
 use Rattle.std.proofs.lemmas.List.{take-append-le, drop-append-le}
 use Rattle.lbk_uax14.specs.declared.classes.Class.{Class}
 use Rattle.lbk_uax14.specs.declared.classes.Class.TheVariants.{MandatoryBreak, CombiningMark, ZWJ}
@@ -25,7 +25,7 @@ use Rattle.lbk_uax14.proofs.HeldLemmas.{from_cells-settled, is_held-chain, mark-
 use Rattle.lbk_uax14.proofs.LookAheadLemmas.{look_ahead_between_in}
 use Rattle.lbk_uax14.proofs.MachineLemmas.{reverse-snoc, verdict_in-end}
 use Rattle.lbk_uax14.proofs.ParagraphLemmas.{IsEnd-ends, is_must, choose-never_must, cells-never_must}
-use Rattle.lbk_uax14.proofs.ParagraphLemmas.{from_11-never_must, reverse-begins, true-unless}
+use Rattle.lbk_uax14.proofs.ParagraphLemmas.{from_11-never_must, or-true, reverse-begins, true-unless}
 
 -- a position after a cell, as the chain has it
 after-chain : (profile : Profile) (left : List Cell) (x : Cell) (right : List Cell)
@@ -178,7 +178,7 @@ plain-not_held Second left cell more plain = rw plain
 -- the next unit is that of the cell at the latest
 first-until : (fresh : Bool) (m : List Cell) (x : Cell) (a b : List Cell) → mark x.class ≡ false
     → first (units_after fresh (m ++ x ∷ a)) ≡ first (units_after fresh (m ++ x ∷ b))
-first-until fresh [] x a b no_mark = rw (no_mark, or_right fresh true refl)
+first-until fresh [] x a b no_mark = rw (no_mark, or-true fresh)
 first-until fresh (c ∷ m) x a b no_mark =
     elim (fresh || none_of mark c.class)
     as (λ v. first (cond v (unit c ∷ units_after (hard c.class) (m ++ x ∷ a)) (units_after (hard c.class) (m ++ x ∷ a)))

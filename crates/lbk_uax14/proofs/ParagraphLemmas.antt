@@ -153,10 +153,13 @@ unfolding is
 hard-end [] end far here = here
 hard-end (_ ∷ _) end far here = refl
 
+pub or-true : (b : Bool) → (b || true) ≡ true
+or-true b = or_right b true refl
+
 units_before-end : (side : Side) (end : Cell) (far : Side) → IsEnd end.class
     → units_before (side ++ end ∷ far) ≡ units_before side ++ end ∷ units_before far
 units_before-end [] end far here =
-    rw here.mark_no (ap (λ v. cond v (end ∷ units_before far) (units_before far)) (or_right (hard (nearest far).class) true refl))
+    rw here.mark_no (ap (λ v. cond v (end ∷ units_before far) (units_before far)) (or-true (hard (nearest far).class)))
 units_before-end (cell ∷ side) end far here =
     let rest = units_before-end side end far here in
     ap (λ v. cond (v || none_of mark cell.class) (unit cell ∷ units_before (side ++ end ∷ far))
