@@ -44,30 +44,42 @@ row_right row =
     && (each_below (shows_right First row) 84 && (each_below (shows_right Second row) 84
     && (each_below (same_next row) 84 && (each_below (is_copy First row) 44 && each_below (is_copy Second row) 44))))
 
-pub rows_from_0 : each_below (λ j. row_right (0 + j)) 19 ≡ true
-unfolding each_below facts is asked_before_spaces asked_class asked_of_cell asked_of_unit from_11 from_14 from_15 from_16 from_19 from_23 from_25 from_26 from_28 from_cells cell_rules joining_rules opening_rules quotation_rules space_rules hyphen_rules affix_rules number_rules syllable_rules letter_rules at_odd_run before_spaces opens_quotation kind_cell row_left
+-- what is computed with to compare the steps of rows
+compared : Unit {0}
+unfolding each_below facts is asked_before_spaces asked_class asked_of_cell asked_of_unit from_11 from_14 from_15 from_16
+    from_19 from_23 from_25 from_26 from_28 from_cells cell_rules joining_rules opening_rules quotation_rules space_rules
+    hyphen_rules affix_rules number_rules syllable_rules letter_rules at_odd_run before_spaces opens_quotation kind_cell
+    row_left
+compared = tt
+
+-- so it is of this many rows from one on
+abbrev pub AreRight : ℕ → ℕ → Type 0
+AreRight from many = each_below (λ j. row_right (from + j)) many ≡ true
+
+pub rows_from_0 : AreRight 0 19
+unfolding compared
 rows_from_0 = refl
 
-pub rows_from_19 : each_below (λ j. row_right (19 + j)) 19 ≡ true
-unfolding each_below facts is asked_before_spaces asked_class asked_of_cell asked_of_unit from_11 from_14 from_15 from_16 from_19 from_23 from_25 from_26 from_28 from_cells cell_rules joining_rules opening_rules quotation_rules space_rules hyphen_rules affix_rules number_rules syllable_rules letter_rules at_odd_run before_spaces opens_quotation kind_cell row_left
+pub rows_from_19 : AreRight 19 19
+unfolding compared
 rows_from_19 = refl
 
-pub rows_from_38 : each_below (λ j. row_right (38 + j)) 19 ≡ true
-unfolding each_below facts is asked_before_spaces asked_class asked_of_cell asked_of_unit from_11 from_14 from_15 from_16 from_19 from_23 from_25 from_26 from_28 from_cells cell_rules joining_rules opening_rules quotation_rules space_rules hyphen_rules affix_rules number_rules syllable_rules letter_rules at_odd_run before_spaces opens_quotation kind_cell row_left
+pub rows_from_38 : AreRight 38 19
+unfolding compared
 rows_from_38 = refl
 
-pub rows_from_57 : each_below (λ j. row_right (57 + j)) 19 ≡ true
-unfolding each_below facts is asked_before_spaces asked_class asked_of_cell asked_of_unit from_11 from_14 from_15 from_16 from_19 from_23 from_25 from_26 from_28 from_cells cell_rules joining_rules opening_rules quotation_rules space_rules hyphen_rules affix_rules number_rules syllable_rules letter_rules at_odd_run before_spaces opens_quotation kind_cell row_left
+pub rows_from_57 : AreRight 57 19
+unfolding compared
 rows_from_57 = refl
 
-pub rows_from_76 : each_below (λ j. row_right (76 + j)) 19 ≡ true
-unfolding each_below facts is asked_before_spaces asked_class asked_of_cell asked_of_unit from_11 from_14 from_15 from_16 from_19 from_23 from_25 from_26 from_28 from_cells cell_rules joining_rules opening_rules quotation_rules space_rules hyphen_rules affix_rules number_rules syllable_rules letter_rules at_odd_run before_spaces opens_quotation kind_cell row_left
+pub rows_from_76 : AreRight 76 19
+unfolding compared
 rows_from_76 = refl
 
-pub rows_from_95 : each_below (λ j. row_right (95 + j)) 19 ≡ true
-unfolding each_below facts is asked_before_spaces asked_class asked_of_cell asked_of_unit from_11 from_14 from_15 from_16 from_19 from_23 from_25 from_26 from_28 from_cells cell_rules joining_rules opening_rules quotation_rules space_rules hyphen_rules affix_rules number_rules syllable_rules letter_rules at_odd_run before_spaces opens_quotation kind_cell row_left
+pub rows_from_95 : AreRight 95 19
+unfolding compared
 rows_from_95 = refl
 
-pub rows_from_114 : each_below (λ j. row_right (114 + j)) 14 ≡ true
-unfolding each_below facts is asked_before_spaces asked_class asked_of_cell asked_of_unit from_11 from_14 from_15 from_16 from_19 from_23 from_25 from_26 from_28 from_cells cell_rules joining_rules opening_rules quotation_rules space_rules hyphen_rules affix_rules number_rules syllable_rules letter_rules at_odd_run before_spaces opens_quotation kind_cell row_left
+pub rows_from_114 : AreRight 114 14
+unfolding compared
 rows_from_114 = refl

@@ -13,7 +13,7 @@ use Rattle.lbk_rules.specs.Rows.{IsPlace, IsStepFrom, left_at, row_left, sample,
 use Rattle.lbk_rules.proofs.AlikeLemmas.{facts-alike, from_cells-alike}
 use Rattle.lbk_rules.proofs.KindsLemmas.{kind-cell, kind-few}
 use Rattle.lbk_rules.proofs.LeftLemmas.{left_Decides}
-use Rattle.lbk_rules.proofs.RowChecks.{each_below, is_copy, leads_right, row_right, rows_from_0, rows_from_114, rows_from_19, rows_from_38, rows_from_57, rows_from_76, rows_from_95, same_next, shows_right}
+use Rattle.lbk_rules.proofs.RowChecks.{AreRight, each_below, is_copy, leads_right, row_right, rows_from_0, rows_from_114, rows_from_19, rows_from_38, rows_from_57, rows_from_76, rows_from_95, same_next, shows_right}
 
 pub each_below-at : (p : ℕ → Bool) (n j : ℕ) → each_below p n ≡ true → j < n → p j ≡ true
 unfolding each_below
@@ -26,7 +26,7 @@ each_below-at p (suc n) j h lt =
     ]
 
 -- some rows from one on
-block : (from many row : ℕ) → each_below (λ j. row_right (from + j)) many ≡ true → from ≤ row → row < from + many → row_right row ≡ true
+block : (from many row : ℕ) → AreRight from many → from ≤ row → row < from + many → row_right row ≡ true
 block from many row all least below =
     let same : from + (row - from) ≡ row = omega arith in
     subst (λ k. row_right k ≡ true) same (each_below-at (λ j. row_right (from + j)) many (row - from) all (omega arith))

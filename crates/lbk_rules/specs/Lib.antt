@@ -37,3 +37,4 @@ pub mod Pages
 pub mod RowMachineFits
 pub mod Rows
 pub mod StepperFits
+pub mod Terms

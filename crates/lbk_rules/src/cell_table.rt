@@ -63,8 +63,7 @@ impl<'a, C: CellSource> KindSource for CellTable<'a, C> {
 #[cold]
 #[inline(never)]
 fn kind_in<C: CellSource>(cells: &C, code: u32) -> u8
-    requires { IsScalar code }
-    ensures { result ≡ kind_of (C.cell_of cells.now code) }
+    ensures { IsScalar code → result ≡ kind_of (C.cell_of cells.now code) }
 {
     match char::from_u32(code) {
         Some(c) => cells.kind(c),

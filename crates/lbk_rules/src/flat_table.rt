@@ -4,12 +4,11 @@
 ghost use Rattle.std.specs.Prelude.{◌≡◌, ℕ, ◌↔◌, false, nat_lt, IsTrue, IfOk, OnErr, fold};
 ghost use Rattle.std.specs.List.{list_all};
 ghost use Rattle.lbk_rules.specs.declared.kinds.TheConstants.{KINDS};
-ghost use Rattle.lbk_uax14.specs.declared.cells.Cell.{Cell};
 ghost use Rattle.lbk_rules.specs.FlatTable.{AreFlatKinds, AreKinds, AreKindsAlone, IsFlatOf, IsWhole, digest_of};
 ghost use Rattle.lbk_rules.specs.FlatTable.{digest_of_bytes, digest_with};
 ghost use Rattle.lbk_rules.specs.Neighbours.{AreNeighboursOf};
-ghost use Rattle.lbk_uax14.specs.Normal.{normal};
 ghost use Rattle.lbk_rules.specs.CellOfTables.{cell_of_tables};
+ghost use Rattle.lbk_rules.specs.Terms.{Cell, normal};
 
 use crate::kind_source::KindSource;
 use crate::kind_table::KindTable;

@@ -11,10 +11,9 @@ use lbk_uax14::Cell;
 /// Something that knows the kind of each scalar value's cell: a [`FlatTable`](crate::FlatTable), or the cells of a
 /// source.
 pub trait KindSource {
-    ghost use Rattle.lbk_uax14.specs.declared.cells.Cell.{Cell};
-    ghost use Rattle.lbk_uax14.specs.Normal.{normal};
     ghost use Rattle.lbk_rules.specs.declared.neighbours.Neighbours.{Neighbours};
     ghost use Rattle.lbk_rules.specs.FlatTable.{AreFlatKinds};
+    ghost use Rattle.lbk_rules.specs.Terms.{Cell, normal};
 
     // The kinds of all codes.
     ghost kinds_of: { Self → List ℕ };

@@ -4,9 +4,10 @@ ghost use Rattle.std.specs.Prelude.{◌≡◌, ℕ, ◌<◌, ◌≤◌, [], leng
 ghost use Rattle.lbk_rules.specs.Kinds.{kind_of};
 
 use crate::flat_table::CODES;
-use crate::kinds::KINDS;
+use crate::kinds::{KINDS, kind_of};
 use crate::runs::CellRuns;
 use crate::walk::Walk;
+use lbk_uax14::Cell;
 use std::alloc::{AllocError, Global};
 
 /// The kind of each of the first codes.
@@ -40,21 +41,20 @@ impl KindTable {
         Ok(walk.kinds)
     }
 
-    /// Gives all codes before `end` that have no kind yet this one. On an error it stays as it was.
+    /// Gives all codes before `end` that have no kind yet that of this cell. On an error it stays as it was.
     #[tactic(auto, unfolding(crate::specs::KindTable::kind_at))]
-    pub(crate) fn fill_to(&mut self, end: usize, kind: u8) -> Result<(), AllocError>
-        requires { kind < KINDS }
+    pub(crate) fn fill_to(&mut self, end: usize, cell: Cell) -> Result<(), AllocError>
         ensures longer { length self.old.kinds.items ≤ length self.new.kinds.items }
         ensures filled { IfOk result (λ _. end ≤ length self.new.kinds.items) }
         ensures no_more { length self.old.kinds.items < length self.new.kinds.items → length self.new.kinds.items ≡ end }
         ensures kept { (code : ℕ) → code < length self.old.kinds.items → kind_at self.new code
             ≡ kind_at self.old code }
         ensures added { (code : ℕ) → length self.old.kinds.items ≤ code → code < length self.new.kinds.items
-            → kind_at self.new code ≡ kind }
+            → kind_at self.new code ≡ kind_of cell }
         ensures untouched { OnErr result (self.new.kinds.items ≡ self.old.kinds.items) }
     {
         if self.kinds.len() < end {
-            self.kinds.resize(end, kind)?;
+            self.kinds.resize(end, kind_of(cell))?;
         }
         Ok(())
     }

@@ -5,8 +5,7 @@ ghost use Rattle.std.specs.Char.{IsScalar};
 ghost use Rattle.lbk_rules.specs.Pages.{AreDistinct, IsPageOf, cell_in, digest_of};
 ghost use Rattle.lbk_rules.specs.FirstBytes.{AreQuiet};
 ghost use Rattle.lbk_rules.specs.KindTable.{kind_at};
-ghost use Rattle.lbk_rules.specs.Kinds.{kind_of};
-ghost use Rattle.lbk_rules.specs.Kinds.{kinds_of_cells};
+ghost use Rattle.lbk_rules.specs.Kinds.{kind_of, kinds_of_cells};
 ghost use Rattle.lbk_rules.specs.Neighbours.{AreNeighboursOf};
 ghost use Rattle.lbk_rules.specs.declared.neighbours.Neighbours.{Neighbours};
 
@@ -19,7 +18,7 @@ use crate::neighbours::{NO_NEIGHBOURS, Neighbours};
 use crate::runs::CellRuns;
 use crate::source::CellSource;
 use crate::walk::Walk;
-use kept::{Kept, NO_CELLS, cell_number, digest_with, with_run};
+use kept::{DigestedPage, Kept, NO_CELLS, cell_number, digest_with, with_run};
 use lbk_uax14::Cell;
 use lbk_ucd::Tables;
 use std::alloc::{AllocError, Global};
@@ -98,7 +97,11 @@ impl CellPages {
                 numbers.push(number)?;
             } else {
                 let digest = fill(&mut page, &mut walk, first)?;
-                numbers.push(kept.number_of(&page, digest)?)?;
+                let found = DigestedPage {
+                    page: &page,
+                    digest,
+                };
+                numbers.push(kept.number_of(&found)?)?;
             }
         }
         Ok(CellPages {

@@ -1,13 +1,13 @@
 //! The machine that steps by the rows of steps.
 
-ghost use Rattle.std.specs.Prelude.{◌≡◌, ◌+◌, ◌<◌, ℕ, List, [], ◌∷◌, ◌++◌, length, map, reverse, false, ⊤};
+ghost use Rattle.std.specs.Prelude.{◌≡◌, ◌+◌, ◌<◌, ℕ, List, [], ◌∷◌, ◌++◌, length, map, reverse, true, false};
 ghost use Rattle.lbk_rules.specs.Rows.{IsPlace, steps_in};
 
 use crate::kinds::cell_of_kind;
+use crate::row_steps::SAMPLES;
 use crate::source::CellSource;
-use crate::steps::{Rows, Step, knows_some, left_of, rows_of, step_at, verdict_of};
+use crate::steps::{Rows, Step, WIDTH, are_some, known_of, rows_of, step_at, verdict_of};
 use lbk_uax14::{Cell, Kind, Left, Profile, Rule, Verdict};
-use std::alloc::AllocError;
 
 /// The verdict at the end of a text that is not empty (UAX #14, rule LB3).
 const END: Verdict = Verdict {
@@ -27,36 +27,38 @@ struct Row {
     ghost begins: { IsPlace place },
 }
 
+impl Row {
+    ghost use Rattle.lbk_rules.specs.Rows.{left_at};
+
+    /// What it knows. It is asked for seldom, and is found from the row's sample.
+    fn left(&self) -> Left
+        ensures { result ≡ left_at self.now.place }
+    {
+        known_of(&SAMPLES[self.place / WIDTH])
+    }
+
+    /// Whether it knows of some cell: whether its sample has a nearest one. It is asked for at the end of each text.
+    #[inline(always)]
+    fn knows_some(&self) -> bool
+        ensures { result ≡ true → (left_at self.now.place).empty ≡ false }
+    {
+        are_some(&SAMPLES[self.place / WIDTH])
+    }
+}
+
 /// Decides the positions of a text one after another by the rows of steps: two reads a scalar (UAX #14, section 6). It
 /// holds no position: where rule 15b may decide, the caller waits.
+#[derive_where(Clone, Copy)]
 pub(crate) struct RowMachine<'a, C: CellSource> {
     cells: &'a C,
     /// The row that knows what the rules ask of the cells taken.
     row: Row,
 }
 
-impl<'a, C: CellSource> Copy for RowMachine<'a, C> {}
-
-impl<'a, C: CellSource> Clone for RowMachine<'a, C> {
-    ghost is_clone = { λ x y. y ≡ x };
-
-    ghost is_infallible = { λ _. ⊤ };
-
-    fn clone(&self) -> Result<Self, AllocError> {
-        Ok(*self)
-    }
-}
-
 impl<'a, C: CellSource> RowMachine<'a, C> {
-    ghost use Rattle.lbk_uax14.specs.declared.cells.Cell.{Cell};
-    ghost use Rattle.lbk_values.specs.declared.profile.Profile.{Profile};
-    ghost use Rattle.lbk_uax14.specs.Chain.{from_cells};
-    ghost use Rattle.lbk_uax14.specs.Facts.{facts};
-    ghost use Rattle.lbk_uax14.specs.Held.{is_15b, is_held};
-    ghost use Rattle.lbk_uax14.specs.Normal.{normal};
     ghost use Rattle.lbk_rules.specs.Rows.{left_at, shown_of};
     ghost use Rattle.lbk_rules.specs.RowMachineFits.{RowMachineFits, normals};
-    ghost use Rattle.lbk_uax14.specs.Verdict.{verdict_in};
+    ghost use Rattle.lbk_rules.specs.Terms.{Cell, facts, from_cells, is_15b, is_held, normal, Profile, verdict_in};
 
     /// A machine of this profile that has taken no scalar.
     pub(crate) fn start(cells: &'a C, profile: Profile) -> RowMachine<'a, C>
@@ -111,7 +113,7 @@ impl<'a, C: CellSource> RowMachine<'a, C> {
             → RowMachineFits C.cell_of self.now profile cell taken
             → facts (reverse (normals cell taken)) ≡ result }
     {
-        left_of(self.row.place)
+        self.row.left()
     }
 
     /// The cell of the kind of `c`.
@@ -138,7 +140,7 @@ impl<'a, C: CellSource> RowMachine<'a, C> {
             → RowMachineFits C.cell_of self.now profile cell taken
             → result ≡ verdict_in profile (map cell taken) (length taken) }
     {
-        if knows_some(self.row.place) {
+        if self.row.knows_some() {
             return END;
         }
         self.left().verdict_at_end()

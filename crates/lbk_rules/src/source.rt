@@ -9,13 +9,12 @@ use lbk_ucd::Tables;
 
 /// Something that knows the cell of each scalar value.
 pub trait CellSource {
-    ghost use Rattle.lbk_uax14.specs.declared.cells.Cell.{Cell};
     ghost use Rattle.lbk_rules.specs.FirstBytes.{AreQuiet};
     ghost use Rattle.lbk_rules.specs.Kinds.{kinds_of_cells};
     ghost use Rattle.lbk_rules.specs.Kinds.{AreKindsOf, kind_of};
     ghost use Rattle.lbk_rules.specs.Neighbours.{AreTold};
     ghost use Rattle.lbk_rules.specs.Rows.{steps_in};
-    ghost use Rattle.lbk_values.specs.declared.profile.Profile.{Profile};
+    ghost use Rattle.lbk_rules.specs.Terms.{Cell, Profile};
 
     ghost cell_of: { Self → ℕ → Cell };
 

@@ -1,13 +1,11 @@
 //! The positions of a text, decided scalar by scalar.
 
-ghost use Rattle.std.specs.Prelude.{◌≡◌, ℕ, ◌<◌, List, [], ◌∷◌, ◌++◌, length, map, reverse, None, ⊤, if◌then◌else◌};
-ghost use Rattle.lbk_uax14.specs.Held.{answer_at, is_15b, is_held, late_at, now_at};
-ghost use Rattle.lbk_uax14.specs.Verdict.{verdict_in};
+ghost use Rattle.std.specs.Prelude.{◌≡◌, ℕ, ◌<◌, List, [], ◌∷◌, ◌++◌, length, map, reverse, None, if◌then◌else◌};
+ghost use Rattle.lbk_rules.specs.Terms.{answer_at, is_15b, is_held, late_at, now_at, verdict_in};
 
 use crate::row_machine::RowMachine;
 use crate::source::CellSource;
 use lbk_uax14::{End, Out, Profile, Verdict, unless_held};
-use std::alloc::AllocError;
 
 /// A position that waits for the unit after a closing quotation mark, with both its verdicts: if that unit leaves the
 /// mark closed or there is none, and if not.
@@ -44,35 +42,18 @@ impl HeldRow {
 /// }
 /// let end = stepper.finish();
 /// ```
+#[derive_where(Clone, Copy)]
 pub struct Stepper<'a, C: CellSource> {
     machine: RowMachine<'a, C>,
     steps: u64,
     held: Option<HeldRow>,
 }
 
-impl<'a, C: CellSource> Copy for Stepper<'a, C> {}
-
-impl<'a, C: CellSource> Clone for Stepper<'a, C> {
-    ghost is_clone = { λ x y. y ≡ x };
-
-    ghost is_infallible = { λ _. ⊤ };
-
-    fn clone(&self) -> Result<Self, AllocError> {
-        Ok(*self)
-    }
-}
-
 impl<'a, C: CellSource> Stepper<'a, C> {
-    ghost use Rattle.lbk_uax14.specs.declared.cells.Cell.{Cell};
-    ghost use Rattle.lbk_values.specs.declared.profile.Profile.{Profile};
-    ghost use Rattle.lbk_values.specs.declared.profile.Profile.TheVariants.{Second};
-    ghost use Rattle.lbk_uax14.specs.Classes.{hard};
-    ghost use Rattle.lbk_uax14.specs.Facts.{closes_in, facts};
-    ghost use Rattle.lbk_uax14.specs.LateFits.{waiting};
-    ghost use Rattle.lbk_uax14.specs.Normal.{normal};
     ghost use Rattle.lbk_rules.specs.RowMachineFits.{normals};
     ghost use Rattle.lbk_rules.specs.StepperFits.{Holds, IsHeldRow, StepperFits};
-    ghost use Rattle.lbk_uax14.specs.Units.{nearest, units_after};
+    ghost use Rattle.lbk_rules.specs.Terms.{Cell, closes_in, facts, hard, nearest, normal, Profile, Second};
+    ghost use Rattle.lbk_rules.specs.Terms.{units_after, waiting};
 
     /// A stepper of this profile that has taken no scalar.
     pub fn start(cells: &'a C, profile: Profile) -> Stepper<'a, C>

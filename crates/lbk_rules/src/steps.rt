@@ -1,22 +1,14 @@
 //! Steps: what happens at a cell of some kind after some cells, in either profile.
 
 ghost use Rattle.std.specs.Prelude.{◌≡◌, ◌%◌, ◌/◌, ◌==◌, ℕ, Some, false, map, not, true};
-ghost use Rattle.lbk_uax14.specs.declared.verdicts.Verdict.{Verdict};
-ghost use Rattle.lbk_uax14.specs.Codes.{kind_number, rule_number, rules};
-ghost use Rattle.lbk_uax14.specs.declared.verdicts.Kind.{Kind};
-ghost use Rattle.lbk_uax14.specs.declared.verdicts.Rule.{Rule};
-ghost use Rattle.lbk_uax14.specs.Facts.{facts};
-ghost use Rattle.lbk_uax14.specs.Normal.{normal};
-ghost use Rattle.lbk_uax14.specs.Sides.{Side};
 ghost use Rattle.lbk_rules.specs.declared.kinds.TheConstants.{KINDS};
 ghost use Rattle.lbk_rules.specs.declared.steps.TheConstants.{WIDTH};
 ghost use Rattle.lbk_rules.specs.FlatTable.{IsFlatStep};
 ghost use Rattle.lbk_rules.specs.Kinds.{kind_cell, real_kind};
 ghost use Rattle.lbk_rules.specs.Rows.{AreSteps, IsPlace, IsShown, IsStepFrom, cells_of, left_at, place_by, shown_of};
 ghost use Rattle.lbk_rules.specs.Rows.{step_by, steps_in, verdict_shown, with_kind};
-ghost use Rattle.lbk_values.specs.declared.profile.Profile.{Profile};
-ghost use Rattle.lbk_values.specs.declared.profile.Profile.TheVariants.{First, Second};
-ghost use Rattle.lbk_uax14.specs.Breaks.{is_no};
+ghost use Rattle.lbk_rules.specs.Terms.{facts, First, is_no, Kind, kind_number, normal, Profile, Rule, rule_number};
+ghost use Rattle.lbk_rules.specs.Terms.{rules, Second, Side, Verdict};
 
 use crate::kinds::{KINDS, cell_of_kind};
 use crate::row_steps::{FIRST_STEPS, ROWS, SAMPLES, SECOND_STEPS};
@@ -113,34 +105,16 @@ pub fn steps_decide()
         (step_by (steps_in Second) place kind) }
 {}
 
-/// What the row at a place knows. It is asked for seldom, and is found from the row's sample.
-pub(crate) fn left_of(place: usize) -> Left
-    requires { IsPlace place }
-    ensures { result ≡ left_at place }
-{
-    known_of(&SAMPLES[place / WIDTH])
-}
-
-/// Whether the row at a place knows of some cell: whether its sample has a nearest one. It is asked for at the end of
-/// each text.
-#[inline(always)]
-pub(crate) fn knows_some(place: usize) -> bool
-    requires { IsPlace place }
-    ensures { result ≡ true → (left_at place).empty ≡ false }
-{
-    are_some(&SAMPLES[place / WIDTH])
-}
-
 /// Whether the first of these is the kind of a cell.
 #[inline(always)]
-fn are_some(kinds: &[u8; 3]) -> bool
+pub(crate) fn are_some(kinds: &[u8; 3]) -> bool
     ensures { result ≡ true → (facts (cells_of kinds.now)).empty ≡ false }
 {
     usize::from(kinds[0]) < KINDS
 }
 
 /// What is known of the cells of these kinds.
-fn known_of(kinds: &[u8; 3]) -> Left
+pub(crate) fn known_of(kinds: &[u8; 3]) -> Left
     ensures { result ≡ facts (cells_of kinds.now) }
 {
     let far = with_kind(Left::start(), kinds[2]);

@@ -9,7 +9,6 @@ ghost use Rattle.lbk_uax14.specs.declared.cells.Cell.{Cell};
 
 use crate::first_bytes::leave_out;
 use crate::kind_table::KindTable;
-use crate::kinds::kind_of;
 use crate::runs::{CellRun, CellRuns};
 use lbk_ucd::Places;
 use std::alloc::{AllocError, Global};
@@ -46,7 +45,7 @@ impl<'a, C: CellRuns> Walk<'a, C> {
     {
         let mut kinds = KindTable::with_room(alloc, most)?;
         let run = source.cell_run(0, Places::START);
-        kinds.fill_to(most.min(run.last as usize + 1), kind_of(run.cell))?;
+        kinds.fill_to(most.min(run.last as usize + 1), run.cell)?;
         let mut quiet_first_bytes = [true; 256];
         leave_out_ends(&mut quiet_first_bytes, &run);
         Ok(Walk {
@@ -67,7 +66,7 @@ impl<'a, C: CellRuns> Walk<'a, C> {
     {
         let run = self.source.cell_run(self.run.last + 1, self.run.places);
         let end = self.most.min(run.last as usize + 1);
-        self.kinds.fill_to(end, kind_of(run.cell))?;
+        self.kinds.fill_to(end, run.cell)?;
         leave_out_ends(&mut self.quiet_first_bytes, &run);
         self.run = run;
         Ok(())

@@ -8,6 +8,14 @@ use super::Page;
 use lbk_uax14::Cell;
 use std::alloc::{AllocError, Global};
 
+/// A page with its digest.
+#[derive(Clone, Copy)]
+pub(super) struct DigestedPage<'a> {
+    pub(super) page: &'a Page,
+    pub(super) digest: u64,
+    ghost digested: { digest ≡ digest_of page.now },
+}
+
 /// The pages kept so far, each with its digest.
 #[derive(Drop)]
 pub(super) struct Kept {
@@ -28,31 +36,30 @@ impl Kept {
     }
 
     /// The number of this page, which is kept if it is new.
-    pub(super) fn number_of(&mut self, page: &Page, digest: u64) -> Result<u16, AllocError>
-        requires few { length self.old.pages.items < 2 ^ 16 }
-        requires digest { digest ≡ digest_of page.now }
+    pub(super) fn number_of(&mut self, found: &DigestedPage<'_>) -> Result<u16, AllocError>
+        requires { length self.old.pages.items < 2 ^ 16 }
         ensures number { IfOk result (λ n. (n < length self.new.pages.items)
-            × (slice_index_or self.new.pages.items n [] ≡ page.now)) }
+            × (slice_index_or self.new.pages.items n [] ≡ found.now.page.now)) }
         ensures stay { IfOk result (λ _. (k : ℕ) → k < length self.old.pages.items
             → slice_index_or self.new.pages.items k [] ≡ slice_index_or self.old.pages.items k []) }
         ensures more { IfOk result (λ _. (length self.old.pages.items ≤ length self.new.pages.items)
             × (length self.new.pages.items ≤ length self.old.pages.items + 1)) }
     {
-        if let Some(number) = self.find(page, digest) {
+        if let Some(number) = self.find(found) {
             return Ok(number as u16);
         }
         let number = self.pages.len();
-        self.add(page, digest)?;
+        self.add(found)?;
         Ok(number as u16)
     }
 
     /// The number of the kept page that equals this one.
-    fn find(&self, page: &Page, digest: u64) -> Option<usize>
-        requires { digest ≡ digest_of page.now }
-        ensures { MatchOption result (All (λ other. other ≢ page.now) self.now.pages.items)
+    fn find(&self, found: &DigestedPage<'_>) -> Option<usize>
+        ensures { MatchOption result (All (λ other. other ≢ found.now.page.now) self.now.pages.items)
             (λ n. (n < length self.now.pages.items)
-            × (slice_index_or self.now.pages.items n [] ≡ page.now)) }
+            × (slice_index_or self.now.pages.items n [] ≡ found.now.page.now)) }
     {
+        let DigestedPage { page, digest } = *found;
         for (number, known) in self.digests.iter().enumerate() {
             if *known == digest && self.pages[number] == *page {
                 return Some(number);
@@ -62,14 +69,13 @@ impl Kept {
     }
 
     /// Keeps a page that is not among those kept.
-    fn add(&mut self, page: &Page, digest: u64) -> Result<(), AllocError>
-        requires digested { digest ≡ digest_of page.now }
-        requires fresh { All (λ other. other ≢ page.now) self.old.pages.items }
-        ensures { IfOk result (λ _. self.new.pages.items ≡ self.old.pages.items ++ page.now ∷ []) }
+    fn add(&mut self, found: &DigestedPage<'_>) -> Result<(), AllocError>
+        requires { All (λ other. other ≢ found.now.page.now) self.old.pages.items }
+        ensures { IfOk result (λ _. self.new.pages.items ≡ self.old.pages.items ++ found.now.page.now ∷ []) }
     {
         self.digests.reserve(1)?;
-        self.pages.push(*page)?;
-        self.digests.push(digest)?;
+        self.pages.push(*found.page)?;
+        self.digests.push(found.digest)?;
         Ok(())
     }
 

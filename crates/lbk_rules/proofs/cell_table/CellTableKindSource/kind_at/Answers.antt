@@ -15,4 +15,4 @@ returns-in-Some g c =
 pub returns-in-None : goal.returns-in-None
 returns-in-None g c =
     let code = c.args.code in
-    c.kind_in.ensures ∙ sym (kinds-at (g.C.CellSource.cell_of c.args.self.now.cells.now) code (scalar_below code c.requires))
+    c.kind_in.ensures c.requires ∙ sym (kinds-at (g.C.CellSource.cell_of c.args.self.now.cells.now) code (scalar_below code c.requires))

@@ -25,8 +25,8 @@ loop-number-preserved c = below_more _ _ c.loop-number.invariant (λ same.
       | else-known-digest-via-else-known-digest w ↦
           w.if-known-digest.false
           (ap (λ all. get_or all n 0) c.deref-known-items.ensures.value
-          ∙ digest_at kept.pages.items kept.digests.items n c.args.page.now kept.digested below same
-          ∙ sym c.requires)
+          ∙ digest_at kept.pages.items kept.digests.items n c.args.found.now.page.now kept.digested below same
+          ∙ sym c.args.found.now.digested)
     ])
 
 pub returns : goal.returns

@@ -1,6 +1,6 @@
 use Rattle.lbk_rules.specs.Rows.{left_at, row_left}
-use Rattle.lbk_rules.proofs.steps.left_of.Goals as goal
+use Rattle.lbk_rules.proofs.row_machine.Row.knows_some.Goals as goal
 
 pub returns : goal.returns
 unfolding left_at row_left
-returns c = c.known_of.ensures
+returns c = c.are_some.ensures
