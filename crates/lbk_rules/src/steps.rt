@@ -11,7 +11,7 @@ ghost use Rattle.lbk_rules.specs.Terms.{facts, First, is_no, Kind, kind_number, 
 ghost use Rattle.lbk_rules.specs.Terms.{rules, Second, Side, Verdict};
 
 use crate::kinds::{KINDS, cell_of_kind};
-use crate::row_steps::{FIRST_STEPS, ROWS, SAMPLES, SECOND_STEPS};
+use crate::row_steps::{FIRST_STEPS, ROWS, SECOND_STEPS};
 use lbk_uax14::{Kind, Left, Profile, Rule, Verdict};
 
 /// How many steps a row has: one for each number that 7 bits have, so that any number is that of one, once it is
