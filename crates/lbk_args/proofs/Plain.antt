@@ -630,66 +630,32 @@ read files words (inr are) = record {
   files_are = are.files_are;
 }
 
-pub plain_performs : (task : Task) (words : List Text) → IsPlainFor task words → Performs words task
-plain_performs task words plain =
-    let r = read task.files plain.file_words plain.files in
-    subst (λ (ws : List Text). Performs ws task)
-    (sym (plain.are ∙ ap (λ (ws : List Text). name_of_engine task.engine ∷ ws)
-    (r.before (plain.engine_words ++ plain.profile_words))))
-    (subst (λ (texts : List Text). Performs (name_of_engine task.engine
-    ∷ words_before r.fs (plain.engine_words ++ plain.profile_words))
-    (record {
-      engine = task.engine;
-      files = task.files;
-      profile = task.profile;
-      part = task.part;
-      sign = task.sign;
-      names = task.names;
-      texts = texts;
-    })) (sym plain.texts)
-    (subst (λ (part : Option Part). Performs
-    (name_of_engine task.engine ∷ words_before r.fs (plain.engine_words ++ plain.profile_words))
-    (record {
-      engine = task.engine;
-      files = task.files;
-      profile = task.profile;
-      part = part;
-      sign = task.sign;
-      names = task.names;
-      texts = [];
-    })) (sym plain.part)
-    (subst (λ (sign : Text). Performs (name_of_engine task.engine
-    ∷ words_before r.fs (plain.engine_words ++ plain.profile_words))
-    (record {
-      engine = task.engine;
-      files = task.files;
-      profile = task.profile;
-      part = None;
-      sign = sign;
-      names = task.names;
-      texts = [];
-    })) (sym plain.sign)
-    (subst (λ (names : Bool). Performs (name_of_engine task.engine
-    ∷ words_before r.fs (plain.engine_words ++ plain.profile_words))
-    (record {
-      engine = task.engine;
-      files = task.files;
-      profile = task.profile;
-      part = None;
-      sign = default_sign;
-      names = names;
-      texts = [];
-    })) (sym plain.names)
-    (subst (λ (files : NamedFiles). Performs
-    (name_of_engine task.engine ∷ words_before r.fs (plain.engine_words ++ plain.profile_words))
-    (record {
+-- a task with the engine and the profile of another
+abbrev like : Task → NamedFiles → Option Part → Text → Bool → List Text → Task
+like task files part sign names texts =
+    record {
       engine = task.engine;
       files = files;
       profile = task.profile;
-      part = None;
-      sign = default_sign;
-      names = false;
-      texts = [];
-    })) (sym r.files_are)
-    (engine_plain r.fs task.engine task.profile plain.engine_words plain.profile_words r.plain plain.engine
-    plain.profile))))))
+      part = part;
+      sign = sign;
+      names = names;
+      texts = texts;
+    }
+
+task_is : (task : Task) (fs : Files) → task.files ≡ files_of fs → task.part ≡ None → task.sign ≡ default_sign
+    → task.names ≡ false → task.texts ≡ [] → task ≡ task_with task.engine fs task.profile
+task_is task fs files part sign names texts =
+    ap₂ (λ f p. like task f p task.sign task.names task.texts) files part
+    ∙ ap₂ (λ s n. like task (files_of fs) None s n task.texts) sign names
+    ∙ ap (λ t. like task (files_of fs) None default_sign false t) texts
+
+pub plain_performs : (task : Task) (words : List Text) → IsPlainFor task words → Performs words task
+plain_performs task words plain =
+    let r = read task.files plain.file_words plain.files in
+    let given = plain.engine_words ++ plain.profile_words in
+    subst (λ (ws : List Text). Performs ws task)
+    (sym (plain.are ∙ ap (λ (ws : List Text). name_of_engine task.engine ∷ ws) (r.before given)))
+    (subst (λ (t : Task). Performs (name_of_engine task.engine ∷ words_before r.fs given) t)
+    (sym (task_is task r.fs r.files_are plain.part plain.sign plain.names plain.texts))
+    (engine_plain r.fs task.engine task.profile plain.engine_words plain.profile_words r.plain plain.engine plain.profile))
