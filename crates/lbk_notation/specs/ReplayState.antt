@@ -3,6 +3,7 @@ use Rattle.std.specs.Prelude.{◌≡◌, ℕ, ◌+◌, ◌<◌, ◌≤◌, Bool,
 use Rattle.std.specs.Prelude.{◌⊎◌, Err, IfErr, MatchResult}
 use Rattle.std.specs.Io.KnownBytes.{Appends}
 use Rattle.lbk_feed.specs.Devices.{Reads}
+use Rattle.lbk_feed.specs.declared.traits.Sink.{Ghosts as SinkMembers}
 use Rattle.lbk_rules.specs.declared.Cell.{Cell}
 use Rattle.lbk_values.specs.declared.profile.Profile.{Profile}
 use Rattle.lbk_notation.specs.declared.findings.Finding.{Finding}
@@ -71,6 +72,12 @@ pub record Uses (cell : ℕ → Cell) (form : Form) (profile : Profile) (old new
   pub so : (used out : List ℕ) → Stands cell form profile old used out
       → MatchResult result (λ _. Stands cell form profile new (used ++ bytes) (out ++ text))
       (λ fault. IsStoppedBy cell form profile ⊥ fault (used ++ bytes) (out ++ text))
+
+-- the same, and when the call fails
+pub record UsesWriter {W : Type 0} (sink : SinkMembers W) (cell : ℕ → Cell) (form : Form) (profile : Profile)
+    (old new : ReplayState) (bytes : List ℕ) (writer writer' : W) (result : Result Unit ReplayFault) : Type 0 where
+  pub uses : Uses cell form profile old new bytes (sink.written writer) (sink.written writer') result
+  pub faults : OnlyWrites (sink.failure_count writer) (sink.failure_count writer') result
 
 -- what the call that ends the file writes
 pub record Ends (cell : ℕ → Cell) (form : Form) (profile : Profile) (old : ReplayState)

@@ -3,7 +3,7 @@
 ghost use Rattle.std.specs.Prelude.{◌≡◌, ◌+◌, ◌<◌, ◌≤◌, ℕ, [], ◌∷◌, length, take, IsTrue, IfSome, IfOk};
 ghost use Rattle.std.specs.Prelude.{IfErr, OnOk};
 ghost use Rattle.std.specs.Io.KnownBytes.{Appends, IsAtEnd};
-ghost use Rattle.lbk_notation.specs.ReplayState.{Ends, HasRead, OnlyWrites, Uses, is_read_fault_of};
+ghost use Rattle.lbk_notation.specs.ReplayState.{Ends, HasRead, OnlyWrites, UsesWriter, is_read_fault_of};
 ghost use Rattle.lbk_notation.specs.Replay.{IsReplayRun, IsReplayed, TellsWrites, UsesDevices, is_read_fault};
 ghost use Rattle.lbk_notation.specs.Stream.{longest_stream};
 ghost use Rattle.lbk_feed.specs.Runs.{Ran};
@@ -107,11 +107,9 @@ fn take_all<W: Sink, C: CellSource>(
     bytes: &[u8],
 ) -> Result<(), ReplayFault>
     requires { progress.old.taken + length bytes.now ≤ longest_stream }
-    ensures uses { Uses (C.cell_of replayer.now.cells.now) replayer.now.form replayer.now.profile progress.old
-        progress.new
-        bytes.now (W.written writer.old) (W.written writer.new) result }
+    ensures writes { UsesWriter W.Sink (C.cell_of replayer.now.cells.now) replayer.now.form replayer.now.profile
+        progress.old progress.new bytes.now writer.old writer.new result }
     ensures taken { OnOk result (progress.new.taken ≡ progress.old.taken + length bytes.now) }
-    ensures faults { OnlyWrites (W.failure_count writer.old) (W.failure_count writer.new) result }
 {
     for byte in bytes {
         take(alloc, writer, replayer, progress, *byte)?;
@@ -128,11 +126,9 @@ fn take<W: Sink, C: CellSource>(
     byte: u8,
 ) -> Result<(), ReplayFault>
     requires { progress.old.taken < longest_stream }
-    ensures uses { Uses (C.cell_of replayer.now.cells.now) replayer.now.form replayer.now.profile progress.old
-        progress.new
-        (byte ∷ []) (W.written writer.old) (W.written writer.new) result }
+    ensures writes { UsesWriter W.Sink (C.cell_of replayer.now.cells.now) replayer.now.form replayer.now.profile
+        progress.old progress.new (byte ∷ []) writer.old writer.new result }
     ensures taken { progress.new.taken ≡ progress.old.taken + 1 }
-    ensures faults { OnlyWrites (W.failure_count writer.old) (W.failure_count writer.new) result }
 {
     if byte != b'\n' {
         progress.add(byte)?;

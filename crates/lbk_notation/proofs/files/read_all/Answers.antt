@@ -23,8 +23,8 @@ returns-in_err-take_all-clause-run g c =
     let size : length (take counted buf) ≡ counted = length-take-le counted buf (omega arith) in
     rw (p.1, p.2)
     (Ran-stopped _ _ _ c.loop-count.progress c.take_all.new.progress (take count buf) (take counted buf) (drop counted (take count buf))
-    _ _ _ _ _ _ c.in_err-take_all.field-0.0 _ _ c.loop-count.invariant.reads c.in-Ok.ensures.bytes.0 c.in_err-take_all.ensures.uses
-    (front-split counted count buf below) (omega (arith, c.min-counted.ensures, c.room.ensures)) c.in_err-take_all.ensures.faults.only
+    _ _ _ _ _ _ c.in_err-take_all.field-0.0 _ _ c.loop-count.invariant.reads c.in-Ok.ensures.bytes.0 c.in_err-take_all.ensures.writes.uses
+    (front-split counted count buf below) (omega (arith, c.min-counted.ensures, c.room.ensures)) c.in_err-take_all.ensures.writes.faults.only
     (length-take-le count buf within ∙ sym c.in-Ok.ensures.gave) (omega (arith, c.in-Ok.ensures.reads, c.loop-count.invariant.few)))
 
 pub returns-then-counted-count-clause-run : goal.returns-then-counted-count-clause-run
@@ -36,7 +36,7 @@ returns-then-counted-count-clause-run g c =
     let past : counted < count = c.if-counted-count.true in
     let size : length (take counted buf) ≡ counted = length-take-le counted buf (omega arith) in
     Ran-long _ _ _ c.loop-count.progress c.take_all.new.progress (take count buf) (take counted buf) (drop counted (take count buf))
-    _ _ _ _ _ _ c.in_ok-take_all.field-0 _ _ c.loop-count.invariant.reads c.in-Ok.ensures.bytes.0 c.in_ok-take_all.ensures.uses
+    _ _ _ _ _ _ c.in_ok-take_all.field-0 _ _ c.loop-count.invariant.reads c.in-Ok.ensures.bytes.0 c.in_ok-take_all.ensures.writes.uses
     (front-split counted count buf (omega arith)) (length-past counted count buf past within)
     (omega (arith, c.min-counted.ensures, c.room.ensures)) (length-take-le count buf within ∙ sym c.in-Ok.ensures.gave)
     (omega (arith, c.in-Ok.ensures.reads, c.loop-count.invariant.few))
@@ -52,10 +52,10 @@ loop-count-preserved g c =
     let some : 0 < count = omega (arith, c.if-count-eq0.false) in
     record {
       reads = Reads-more _ _ _ c.loop-count.progress c.take_all.new.progress (take counted buf) _ _ _ _ _ _ c.in_ok-take_all.field-0
-          c.loop-count.invariant.reads (rw same c.in-Ok.ensures.bytes.0) c.in_ok-take_all.ensures.uses;
+          c.loop-count.invariant.reads (rw same c.in-Ok.ensures.bytes.0) c.in_ok-take_all.ensures.writes.uses;
       few = omega (arith, c.in-Ok.ensures.reads, c.in_ok-take_all.ensures.taken, c.loop-count.invariant.few);
       none_failed_to_read = c.in-Ok.ensures.failures ∙ c.loop-count.invariant.none_failed_to_read;
-      none_failed_to_write = c.in_ok-take_all.ensures.faults.writes.none_failed ∙ c.loop-count.invariant.none_failed_to_write;
+      none_failed_to_write = c.in_ok-take_all.ensures.writes.faults.writes.none_failed ∙ c.loop-count.invariant.none_failed_to_write;
     }
 
 pub returns-in_default-clause-run : goal.returns-in_default-clause-run
