@@ -1,21 +1,10 @@
 -- What a property file is that is not the published one, as its text crosses to C.
-use Rattle.std.specs.Prelude.{◌≡◌, ℕ, ◌==◌, List, [], Option, Some, None, if◌then◌else◌}
+use Rattle.std.specs.Prelude.{◌≡◌, ℕ, List, [], Option, Some, None}
 use Rattle.lbk_ucd.specs.declared.which.Which.{Which}
-use Rattle.lbk_ucd.specs.declared.which.Which.TheVariants.{LineBreak, EastAsianWidth, Category, Emoji}
 use Rattle.lbk_ucd.specs.declared.published.ClaimCause.{ClaimCause}
 use Rattle.lbk_ucd.specs.ClaimTexts.{claim_text}
 use Rattle.lbk_ucd.specs.Published.{IsNamedWrong}
 use Rattle.lbk_calls.specs.Padding.{padded}
-use Rattle.lbk_c.specs.Faults.{file_number}
-
--- the file of a number
-abbrev pub which_numbered : ℕ → Option Which
-which_numbered number =
-    if number == file_number LineBreak then Some LineBreak
-    else if number == file_number EastAsianWidth then Some EastAsianWidth
-    else if number == file_number Category then Some Category
-    else if number == file_number Emoji then Some Emoji
-    else None
 
 -- the 96 bytes of what a file of this name is, by what it says of itself; zeros where it is no file
 abbrev pub IsClaimText : Option Which → List ℕ → List ℕ → Type 0

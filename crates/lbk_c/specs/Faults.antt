@@ -1,5 +1,5 @@
 -- Why no table was made, as numbers.
-use Rattle.std.specs.Prelude.{◌≡◌, ◌⊎◌, ℕ, List}
+use Rattle.std.specs.Prelude.{◌≡◌, ◌⊎◌, ℕ, ◌==◌, List, Option, Some, None, if◌then◌else◌}
 use Rattle.std.specs.Borrow.{Bor}
 use Rattle.lbk_ucd.specs.declared.faults.UcdCause.{UcdCause}
 use Rattle.lbk_ucd.specs.declared.faults.UcdCause.TheVariants.{FileTooLong, LineTooLong, RowSyntax, Range}
@@ -18,6 +18,15 @@ file_number LineBreak = 1
 file_number EastAsianWidth = 2
 file_number Category = 3
 file_number Emoji = 4
+
+-- the file of a number
+abbrev pub which_numbered : ℕ → Option Which
+which_numbered number =
+    if number == file_number LineBreak then Some LineBreak
+    else if number == file_number EastAsianWidth then Some EastAsianWidth
+    else if number == file_number Category then Some Category
+    else if number == file_number Emoji then Some Emoji
+    else None
 
 -- the number of a cause
 abbrev pub cause_number : UcdCause → ℕ

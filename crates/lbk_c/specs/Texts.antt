@@ -1,14 +1,14 @@
 -- The texts that cross to C: what causes say, the names of the files, and the version.
 use Rattle.std.specs.Prelude.{ℕ, ◌==◌, List, [], codes, if◌then◌else◌}
+use Rattle.std.specs.Option.{option_map_or}
 use Rattle.lbk_ucd.specs.declared.faults.UcdCause.TheVariants.{FileTooLong, LineTooLong, RowSyntax, Range}
 use Rattle.lbk_ucd.specs.declared.faults.UcdCause.TheVariants.{UnknownValue, Overlap, TooManyRows, Memory}
-use Rattle.lbk_ucd.specs.declared.which.Which.TheVariants.{LineBreak, EastAsianWidth, Category, Emoji}
 use Rattle.lbk_ucd.specs.Causes.{cause_text}
 use Rattle.lbk_ucd.specs.ClaimTexts.{cut_text}
 use Rattle.lbk_ucd.specs.FileNames.{file_name}
 use Rattle.lbk_calls.specs.declared.unpacking.Refusal.TheVariants.{Foreign, Version, Damaged}
 use Rattle.lbk_calls.specs.Refused.{refusal_number}
-use Rattle.lbk_c.specs.Faults.{cause_number, file_number}
+use Rattle.lbk_c.specs.Faults.{cause_number, which_numbered}
 
 -- what the cause of a number says
 abbrev pub cause_numbered : ℕ → List ℕ
@@ -32,12 +32,7 @@ cause_numbered number =
 -- the name of the file of a number
 abbrev pub file_numbered : ℕ → List ℕ
 file_numbered number =
-    if number == 0 then codes "the four files"
-    else if number == file_number LineBreak then file_name LineBreak
-    else if number == file_number EastAsianWidth then file_name EastAsianWidth
-    else if number == file_number Category then file_name Category
-    else if number == file_number Emoji then file_name Emoji
-    else []
+    if number == 0 then codes "the four files" else option_map_or file_name (which_numbered number) []
 
 abbrev pub version : List ℕ
 version = codes "0.1.0"

@@ -3,10 +3,12 @@
 ghost use Rattle.std.specs.Prelude.{◌≡◌};
 ghost use Rattle.lbk_calls.specs.Padding.{padded};
 ghost use Rattle.lbk_ucd.specs.ClaimTexts.{remedy_text};
-ghost use Rattle.lbk_c.specs.ClaimTexts.{IsClaimText, which_numbered};
+ghost use Rattle.lbk_c.specs.ClaimTexts.{IsClaimText};
+ghost use Rattle.lbk_c.specs.Faults.{which_numbered};
 
+use crate::faults::which_numbered;
 use lbk_calls::{Text, padded};
-use lbk_ucd::{Which, claim_of, claim_text, remedy_text};
+use lbk_ucd::{claim_of, claim_text, remedy_text};
 
 /// Describes a file, by its number, that Unicode 15.0.0 did not publish: it is of another version, it was changed or
 /// truncated, or it is another file. ASCII, padded by zeros; only zeros for any other number.
@@ -30,18 +32,5 @@ pub extern "C" fn lbk_remedy_text() -> Text
 {
     Text {
         text: padded(remedy_text().as_bytes()),
-    }
-}
-
-/// The property file with a number.
-fn which_numbered(file: u32) -> Option<Which>
-    ensures { result ≡ which_numbered file }
-{
-    match file {
-        1 => Some(Which::LineBreak),
-        2 => Some(Which::EastAsianWidth),
-        3 => Some(Which::Category),
-        4 => Some(Which::Emoji),
-        _ => None,
     }
 }

@@ -1,7 +1,7 @@
 //! The numbers of faults.
 
 ghost use Rattle.std.specs.Prelude.{◌≡◌};
-ghost use Rattle.lbk_c.specs.Faults.{cause_number, file_number, given_fault, unpublished_fault};
+ghost use Rattle.lbk_c.specs.Faults.{cause_number, file_number, given_fault, unpublished_fault, which_numbered};
 
 use crate::interface::Fault;
 use lbk_ucd::{UcdCause, UcdFault, Which};
@@ -26,9 +26,8 @@ pub(crate) fn given_fault(fault: UcdFault) -> Fault
 
 /// Out of memory while a table was made from well-formed files.
 pub(crate) const UNMADE_FAULT: Fault = Fault {
-    file: 0,
-    line: 0,
     cause: 8,
+    ..NO_FAULT
 };
 
 /// A file is not the published one.
@@ -37,8 +36,8 @@ pub(crate) fn unpublished_fault(which: Which) -> Fault
 {
     Fault {
         file: file_number(which),
-        line: 0,
         cause: 10,
+        ..NO_FAULT
     }
 }
 
@@ -51,6 +50,19 @@ fn file_number(file: Which) -> u32
         Which::EastAsianWidth => 2,
         Which::Category => 3,
         Which::Emoji => 4,
+    }
+}
+
+/// The property file with a number.
+pub(crate) fn which_numbered(file: u32) -> Option<Which>
+    ensures { result ≡ which_numbered file }
+{
+    match file {
+        1 => Some(Which::LineBreak),
+        2 => Some(Which::EastAsianWidth),
+        3 => Some(Which::Category),
+        4 => Some(Which::Emoji),
+        _ => None,
     }
 }
 

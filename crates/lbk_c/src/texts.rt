@@ -5,8 +5,9 @@ ghost use Rattle.lbk_calls.specs.Padding.{padded};
 ghost use Rattle.lbk_calls.specs.RuleTexts.{rule_text_numbered};
 ghost use Rattle.lbk_c.specs.Texts.{cause_numbered, file_numbered, version};
 
+use crate::faults::which_numbered;
 use lbk_calls::{Text, padded};
-use lbk_ucd::{UcdCause, Which, cause_text, cut_text, file_name};
+use lbk_ucd::{UcdCause, cause_text, cut_text, file_name};
 
 /// What the cause with a number means: ASCII, padded by zeros. Only zeros for any other number.
 #[unsafe(no_mangle)]
@@ -75,12 +76,9 @@ fn file_numbered(number: u32) -> &'static str
     ensures name { result.now ≡ file_numbered number }
     ensures short { length result.now ≤ 95 }
 {
-    match number {
-        0 => "the four files",
-        1 => file_name(Which::LineBreak),
-        2 => file_name(Which::EastAsianWidth),
-        3 => file_name(Which::Category),
-        4 => file_name(Which::Emoji),
-        _ => "",
+    match which_numbered(number) {
+        Some(which) => file_name(which),
+        None if number == 0 => "the four files",
+        None => "",
     }
 }
