@@ -1,16 +1,16 @@
 //! The breaks and the positions of a text in each encoding, a block at a time.
 
-ghost use Rattle.std.specs.Prelude.{◌≡◌, ℕ, true, List, length, map};
+ghost use Rattle.std.specs.Prelude.{◌≡◌, ℕ, true, length, map};
 ghost use Rattle.std.specs.Str.{IsUtf8, all_scalars, chars, encode_utf8_all};
 ghost use Rattle.lbk_rules.specs.declared.Cell.{Cell};
 ghost use Rattle.lbk_values.specs.declared.profile.Profile.{Profile};
 ghost use Rattle.lbk_rules.specs.Breaks.{breaks};
 ghost use Rattle.lbk_bytes.specs.Bytes.{breaks_of_bytes};
-ghost use Rattle.lbk_calls.specs.Calls.{GivesBreaks, GivesBreaksOf, GivesPositionsOf};
-ghost use Rattle.lbk_units.specs.Encodings.{encode_utf16_all, placed_in};
+ghost use Rattle.lbk_units.specs.Encodings.{AreThoseOfScalars, encode_utf16_all, placed_in};
 ghost use Rattle.lbk_units.specs.Units.{breaks_of_utf16, breaks_of_utf32, pieces_of_utf16, pieces_of_utf32};
 ghost use Rattle.bstr.specs.Utf8.{pieces};
-ghost use Rattle.lbk_units.specs.Positions.{breaks_among, positions_of_bytes, positions_of_utf16, positions_of_utf32};
+ghost use Rattle.lbk_units.specs.Positions.{positions_of_bytes, positions_of_utf16, positions_of_utf32};
+ghost use Rattle.lbk_calls.specs.Calls.{AreAmong, GivesBreaks, GivesBreaksOf, GivesPositionsOf};
 
 use lbk_bytes::RawBreak;
 use lbk_calls::{State, give_breaks, next_of};
@@ -55,10 +55,7 @@ pub extern "C" fn lbk_breaks_utf16(
     ensures gives { GivesBreaksOf pieces_of_utf16 table.now text.now state.old state.new
         (length out.old) out.new result }
     // Of well-formed text the breaks are those of its scalars.
-    ensures well_formed { (cell : ℕ → Cell) (profile : Profile) (scalars : List ℕ) → all_scalars scalars ≡ true
-        → text.now ≡ encode_utf16_all scalars
-        → breaks_of_utf16 profile cell text.now
-        ≡ map (placed_in encode_utf16_all scalars) (breaks_of_utf32 profile cell scalars) }
+    ensures well_formed { AreThoseOfScalars encode_utf16_all breaks_of_utf16 breaks_of_utf32 }
 {
     lbk_calls::lbk_breaks_utf16(table, state, text, out)
 }
@@ -104,13 +101,9 @@ pub extern "C" fn lbk_positions(
 ) -> usize
     ensures gives { GivesPositionsOf pieces table.now text.now state.old state.new (length out.old) out.new result }
     // The breaks of a text are those of its positions where a line may or must end.
-    ensures breaks { (cell : ℕ → Cell) (profile : Profile)
-        → breaks_among (positions_of_bytes profile cell text.now) ≡ breaks_of_bytes profile cell text.now }
+    ensures breaks { AreAmong positions_of_bytes breaks_of_bytes text.now }
     // Of well-formed text the positions are those of its scalars.
-    ensures well_formed { (cell : ℕ → Cell) (profile : Profile) (scalars : List ℕ) → all_scalars scalars ≡ true
-        → text.now ≡ encode_utf8_all scalars
-        → positions_of_bytes profile cell text.now
-        ≡ map (placed_in encode_utf8_all scalars) (positions_of_utf32 profile cell scalars) }
+    ensures well_formed { AreThoseOfScalars encode_utf8_all positions_of_bytes positions_of_utf32 }
 {
     lbk_calls::lbk_positions(table, state, text, out)
 }
@@ -131,13 +124,9 @@ pub extern "C" fn lbk_positions_utf16(
     ensures gives { GivesPositionsOf pieces_of_utf16 table.now text.now state.old state.new
         (length out.old) out.new result }
     // The breaks of a text are those of its positions where a line may or must end.
-    ensures breaks { (cell : ℕ → Cell) (profile : Profile)
-        → breaks_among (positions_of_utf16 profile cell text.now) ≡ breaks_of_utf16 profile cell text.now }
+    ensures breaks { AreAmong positions_of_utf16 breaks_of_utf16 text.now }
     // Of well-formed text the positions are those of its scalars.
-    ensures well_formed { (cell : ℕ → Cell) (profile : Profile) (scalars : List ℕ) → all_scalars scalars ≡ true
-        → text.now ≡ encode_utf16_all scalars
-        → positions_of_utf16 profile cell text.now
-        ≡ map (placed_in encode_utf16_all scalars) (positions_of_utf32 profile cell scalars) }
+    ensures well_formed { AreThoseOfScalars encode_utf16_all positions_of_utf16 positions_of_utf32 }
 {
     next_of::<Positions, u16>(table, state, text, out)
 }
@@ -158,8 +147,7 @@ pub extern "C" fn lbk_positions_utf32(
     ensures gives { GivesPositionsOf pieces_of_utf32 table.now text.now state.old state.new
         (length out.old) out.new result }
     // The breaks of a text are those of its positions where a line may or must end.
-    ensures breaks { (cell : ℕ → Cell) (profile : Profile)
-        → breaks_among (positions_of_utf32 profile cell text.now) ≡ breaks_of_utf32 profile cell text.now }
+    ensures breaks { AreAmong positions_of_utf32 breaks_of_utf32 text.now }
 {
     next_of::<Positions, u32>(table, state, text, out)
 }

@@ -14,23 +14,29 @@ use Rattle.lbk_values.specs.declared.profile.Profile.TheVariants.{First, Second}
 use Rattle.lbk_rules.specs.Breaks.{breaks}
 use Rattle.lbk_rules.specs.Joins.{moved}
 use Rattle.lbk_rules.specs.FlatTable.{IsFlatOf, KnowsTaken}
+use Rattle.lbk_rules.specs.Rows.{IsPlace}
 use Rattle.lbk_rules.proofs.FlatLemmas.{left-start}
 use Rattle.lbk_bytes.specs.declared.fill_state.FillState.{FillState}
 use Rattle.lbk_bytes.specs.declared.raw_break.RawBreak.{RawBreak}
 use Rattle.lbk_bytes.specs.Bytes.{AtEnd, breaks_of_bytes, breaks_of_part, end_in}
-use Rattle.lbk_bytes.specs.Order.{AreInOrder, ArePositionsInOrder}
-use Rattle.lbk_bytes.specs.Reached.{Onward, ReachedBy, onward_all, onward_to, position_end_in}
+use Rattle.lbk_bytes.specs.Order.{AreInOrderBy, IsBreak}
+use Rattle.lbk_bytes.specs.Reached.{IsInOrderBy, Onward, ReachedBy, onward_all, onward_to, position_end_in}
 use Rattle.lbk_bytes.specs.Shown.{given_in}
+use Rattle.lbk_bytes.specs.Steps as step
 use Rattle.lbk_units.specs.Encodings.{placed_in}
+use Rattle.lbk_units.specs.Filling.{Fills}
 use Rattle.lbk_units.specs.Reached.{UnitsReachedBy, on_from}
-use Rattle.lbk_units.specs.Units.{breaks_of_utf32}
+use Rattle.lbk_units.specs.Positions.{positions_of_part_of, positions_of_pieces}
+use Rattle.lbk_units.specs.Units.{breaks_of_part_of, breaks_of_pieces, breaks_of_utf32}
 use Rattle.lbk_units.proofs.PositionLemmas.{all-part, all-start, pieces-part}
 use Rattle.lbk_units.proofs.EncodingLemmas as encoding
 use Rattle.lbk_calls.specs.declared.interface.State.{State}
-use Rattle.lbk_calls.specs.State.{goes_on, part_start, plain, profile_number, profile_numbered, start_in}
-use Rattle.lbk_calls.specs.Coming.{ComeOf, IsGoing, IsSpent, PositionsCome, PutsEnd, UnitsCome, UnitsComeBy, UnitsGo, UnitsOnto, from_state}
-use Rattle.lbk_calls.specs.Calls.{BreaksComeAtStart, ComeAtStart, GivesBreaks, GivesBreaksOf, GivesNext, GivesPositionsOf, GoesOver}
+use Rattle.lbk_calls.specs.State.{goes_on, part_start, plain, plain_number, profile_number, profile_numbered, start_in}
+use Rattle.lbk_calls.specs.Coming.{ComeOf, IsGoing, IsSpent, UnitsComeBy, UnitsGo, UnitsOnto, from_state, start_by}
+use Rattle.lbk_calls.specs.Calls.{AreGivenWhole, BreaksComeAtStart, ComeAtStart, Gives, GoesOver}
 use Rattle.lbk_calls.proofs.ComingLemmas.{breaks-utf8, gives, same-profile}
+use Rattle.lbk_calls.proofs.GoingLemmas.{over-none}
+use Rattle.lbk_bytes.proofs.OrderLemmas.{AreInOrder-none}
 use Rattle.lbk_bytes.proofs.PartLemmas.{part-onward}
 use Rattle.lbk_bytes.proofs.ReachedLemmas.{given-many, onward-start, profile-same}
 
@@ -194,14 +200,6 @@ breaks-scalars profile cell cs all =
     sym (breaks-utf8 profile cell (encode_utf8_all cs) (cs, (all, refl)) ∙ ap (λ l. breaks profile cell l) (chars-encodes cs all))
     ∙ encoding.breaks-utf8 profile cell cs all
 
--- what a text that spells some scalars has: by what their spelling has
-pub encoded : (encode : List ℕ → List ℕ) (of of_scalars : Profile → (ℕ → Cell) → List ℕ → List Break)
-    → ((profile : Profile) (cell : ℕ → Cell) (cs : List ℕ) → scalars cs ≡ true → of profile cell (encode cs) ≡ map (placed_in encode cs) (of_scalars profile cell cs))
-    → (text : List ℕ) (cell : ℕ → Cell) (profile : Profile) (cs : List ℕ) → scalars cs ≡ true → text ≡ encode cs
-    → of profile cell text ≡ map (placed_in encode cs) (of_scalars profile cell cs)
-encoded encode of of_scalars is text cell profile cs all same =
-    subst (λ t. of profile cell t ≡ map (placed_in encode cs) (of_scalars profile cell cs)) (sym same) (is profile cell cs all)
-
 -- all of a text come from the state at its start, and those of a part from the state there
 module _ {A : Type 0} (onward : AtEnd → Onward) (end_in : Bool → AtEnd) (pieces_of : List A → List Decoded) (whole : Profile → (ℕ → Cell) → List A → List Break)
     (part_of : Bool → Profile → (ℕ → Cell) → List A → List Break) where
@@ -214,29 +212,85 @@ module _ {A : Type 0} (onward : AtEnd → Onward) (end_in : Bool → AtEnd) (pie
         units-part (λ goes. onward (end_in goes)) pieces_of cell table text goes profile at state _ flat within starts (is_part goes profile cell at (drop at text));
   }
 
--- what a call says of all that comes, and of what it gives of it
-module _ {A : Type 0} (pieces_of : List A → List Decoded) (table : FlatTable) (text : List A) (old new : State) (room : ℕ) (out : List RawBreak) (result : ℕ) where
-  pub gives-breaks : GoesOver AreInOrder old new (length text) room out result
-      → ((cell : ℕ → Cell) (to_come : List Break) → UnitsCome pieces_of cell table text old to_come → GivesNext (UnitsCome pieces_of cell table text) new room out result to_come)
-      → GivesBreaksOf pieces_of table text old new room out result
-  gives-breaks goes gives = record {
-    goes_over = goes;
-    begins =
-        come-at-start onward_to end_in pieces_of _ _ (λ profile cell text. onward-start profile cell (pieces_of text))
-        (λ goes profile cell at part. pieces-part goes profile cell at (pieces_of part)) table text old;
-    gives = gives;
+-- the same by what pieces have
+pub units-begin : {A : Type 0} (onward : AtEnd → Onward) (end_in : Bool → AtEnd) (pieces_of : List A → List Decoded) (whole : Profile → (ℕ → Cell) → List Decoded → List Break)
+    (part_of : Bool → Profile → (ℕ → Cell) → List Decoded → List Break)
+    → AreGivenWhole onward end_in whole part_of
+    → (table : FlatTable) (text : List A) (state : State)
+    → ComeAtStart (ComeOf onward end_in pieces_of) (λ profile cell text. whole profile cell (pieces_of text)) (λ goes profile cell part. part_of goes profile cell (pieces_of part)) table text state
+units-begin onward end_in pieces_of whole part_of given =
+    come-at-start onward end_in pieces_of (λ profile cell text. whole profile cell (pieces_of text)) (λ goes profile cell part. part_of goes profile cell (pieces_of part))
+    (λ profile cell text. given.starts profile cell (pieces_of text)) (λ goes profile cell at part. given.parts goes profile cell at (pieces_of part))
+
+pub breaks-given : AreGivenWhole onward_to end_in breaks_of_pieces breaks_of_part_of
+breaks-given = record { starts = onward-start; parts = pieces-part }
+
+pub positions-given : AreGivenWhole onward_all position_end_in positions_of_pieces positions_of_part_of
+positions-given = record { starts = all-start; parts = all-part }
+
+-- what a call gives from a state on
+module _ {A : Type 0} (Is : RawBreak → Type 0) (onward : AtEnd → Onward) (end_in : Bool → AtEnd) (pieces_of : List A → List Decoded) (whole : Profile → (ℕ → Cell) → List A → List Break)
+    (part_of : Bool → Profile → (ℕ → Cell) → List A → List Break) (table : FlatTable) (text : List A) (old : State)
+    (begins : ComeAtStart (ComeOf onward end_in pieces_of) whole part_of table text old) where
+  abbrev GivesTo : State → ℕ → List RawBreak → ℕ → Type 0
+  GivesTo = Gives (ComeOf onward end_in pieces_of) whole part_of (AreInOrderBy Is) table text old
+
+  abbrev from : Onward
+  from = onward (end_in (goes_on old.profile))
+
+  -- of a spent state nothing
+  pub gives-none : (room : ℕ) (out : List RawBreak) → IsSpent (plain old) (length text) → GivesTo old room out 0
+  gives-none room out spent = record {
+    goes_over = over-none Is old (length text) room out spent;
+    begins = begins;
+    gives = λ cell to_come comes.
+        let none = ap length (units-none from pieces_of cell table text (plain old) to_come spent comes) in
+        record { count = omega arith; front = refl; rest = comes };
   }
 
-  pub gives-positions : GoesOver ArePositionsInOrder old new (length text) room out result
-      → ((cell : ℕ → Cell) (to_come : List Break) → PositionsCome pieces_of cell table text old to_come → GivesNext (PositionsCome pieces_of cell table text) new room out result to_come)
-      → GivesPositionsOf pieces_of table text old new room out result
-  gives-positions goes gives = record {
-    goes_over = goes;
-    begins =
-        come-at-start onward_all position_end_in pieces_of _ _ (λ profile cell text. all-start profile cell (pieces_of text))
-        (λ goes profile cell at part. all-part goes profile cell at (pieces_of part)) table text old;
-    gives = gives;
+  -- of another what comes, and what is left comes from the next state on
+  gives-some : (profile : Profile) (new : State) (room : ℕ) (out : List RawBreak) (result : ℕ) → IsGoing profile (plain old) (length text)
+      → GoesOver (AreInOrderBy Is) old new (length text) room out result
+      → ((cell : ℕ → Cell) (to_come : List Break) → IsFlatOf table cell → UnitsReachedBy from profile cell (on_from pieces_of text) to_come (from_state (plain old)) []
+      → UnitsGo from pieces_of profile cell text to_come (plain new) (given_in out result) result room)
+      → GivesTo new room out result
+  gives-some profile new room out result going over goes = record {
+    goes_over = over;
+    begins = begins;
+    gives = λ cell to_come comes.
+        let kept = over.advances.profile_same in
+        let gone = units-go from pieces_of profile cell table text (plain old) (plain new) to_come (given_in out result) result room goes going comes in
+        record {
+          count = gone.counted;
+          front = gone.front;
+          rest =
+              subst (λ n. UnitsComeBy (onward (end_in (goes_on n))) pieces_of cell table text (plain new) (drop result to_come)) (sym kept)
+              (units-next from pieces_of profile cell table text (plain old) (plain new) to_come (given_in out result) result room going (ap plain_number kept) comes gone);
+        };
   }
+
+  -- a block was filled from the state on, and the state was moved to where the call got
+  pub gives-filled : (profile : Profile) (start here : FillState) (block filled : List RawBreak) (new : State) (out : List RawBreak) (result : ℕ)
+      → IsGoing profile (plain old) (length text) → start ≡ start_by old → (IsPlace old.row → start ≡ from_state old) → length filled ≡ length block
+      → Fills Is onward pieces_of table profile text block start filled here
+      → ((profile : Profile) → IsGoing profile (plain old) (length text) → IsInOrderBy Is filled here.count old.at here.at
+      → (length filled ≡ 0 → here ≡ start_by old)
+      → GoesOver (AreInOrderBy Is) old new (length text) (length filled) out result)
+      → ((profile : Profile) (cell : ℕ → Cell) (to_come : List Break) → IsPlace old.row
+      → UnitsReachedBy from profile cell (on_from pieces_of text) to_come here (given_in filled here.count)
+      → UnitsGo from pieces_of profile cell text to_come (plain new) (given_in out result) result (length filled))
+      → GivesTo new (length block) out result
+  gives-filled profile start here block filled new out result going starts same room fills over goes =
+      subst (λ n. GivesTo new n out result) room
+      (gives-some profile new (length filled) out result going
+      (over profile going
+      (fills.in_order old.at
+      (subst (λ (s : FillState). IsInOrderBy Is block s.count old.at s.at) (sym starts) (omega arith, AreInOrder-none block old.at old.at)))
+      (λ empty. fills.no_room (omega arith) ∙ starts))
+      (λ cell to_come flat were.
+      goes profile cell to_come were.knows.0
+      (fills.reached cell (record { breaks = to_come; end = end_in (goes_on old.profile) }) flat
+      (subst (λ (s : FillState). UnitsReachedBy from profile cell (on_from pieces_of text) to_come s (given_in block s.count)) (sym (same were.knows.0)) were))))
 
 -- Bytes
 
@@ -251,9 +305,15 @@ module _ (from : Onward) (profile : Profile) (cell : ℕ → Cell) (text : List 
   pub of-units : UnitsReachedBy from profile cell (on_from pieces text) all here given → ReachedBy from profile cell text all here given
   of-units r = record { taken = r.taken; knows = r.knows; some = r.some; joined = r.joined }
 
--- what comes at an end, where nothing is read of no units
-pub end-read : (Is : RawBreak → Type 0) (from : Onward) (none : List Decoded) (row : ℕ) (old new : List RawBreak) (count at result : ℕ) → none ≡ []
-    → PutsEnd Is (λ profile cell taken at. from profile cell taken at []) row old new count at result
-    → PutsEnd Is (λ profile cell taken at. from profile cell taken at none) row old new count at result
-end-read Is from none row old new count at result empty puts =
-    subst (λ ps. PutsEnd Is (λ profile cell taken at. from profile cell taken at ps) row old new count at result) (sym empty) puts
+-- a block was filled with breaks of bytes, as with those of units of eight bits
+pub fills-bytes : (table : FlatTable) (profile : Profile) (text : List ℕ) (old : List RawBreak) (start : FillState) (new : List RawBreak) (here : FillState)
+    → step.Fills profile table.kinds table.pairs text old start new here → Fills IsBreak onward_to pieces table profile text old start new here
+fills-bytes table profile text old start new here fills = record {
+  within = fills.within;
+  stops = fills.stops;
+  no_room = fills.no_room;
+  in_order = fills.in_order;
+  reached = λ cell all flat were.
+      of-bytes (onward_to all.end) profile cell text all.breaks here (given_in new here.count)
+      (fills.reached cell all flat (of-units (onward_to all.end) profile cell text all.breaks start (given_in old start.count) were));
+}

@@ -1,5 +1,5 @@
 -- What the calls promise that put the next breaks or positions of a text into a block: each set of clauses once.
-use Rattle.std.specs.Prelude.{◌≡◌, ℕ, Bool, suc, ◌<◌, ◌≤◌, ◌⊎◌, List, drop, length, map, min, take}
+use Rattle.std.specs.Prelude.{◌≡◌, ℕ, Bool, false, suc, ◌<◌, ◌≤◌, ◌⊎◌, List, [], drop, length, map, min, take}
 use Rattle.bstr.specs.Utf8.{Decoded}
 use Rattle.lbk_rules.specs.declared.Break.{Break}
 use Rattle.lbk_rules.specs.declared.Cell.{Cell}
@@ -8,13 +8,14 @@ use Rattle.lbk_values.specs.declared.profile.Profile.{Profile}
 use Rattle.lbk_rules.specs.FlatTable.{IsFlatOf}
 use Rattle.lbk_rules.specs.Joins.{moved}
 use Rattle.lbk_bytes.specs.declared.raw_break.RawBreak.{RawBreak}
-use Rattle.lbk_bytes.specs.Bytes.{breaks_of_bytes, breaks_of_part}
-use Rattle.lbk_bytes.specs.Order.{AreInOrder, ArePositionsInOrder}
+use Rattle.lbk_bytes.specs.Bytes.{AtEnd, breaks_of_bytes, breaks_of_part, end_in}
+use Rattle.lbk_bytes.specs.Order.{AreInOrder, AreInOrderBy, IsBreak, IsPosition}
+use Rattle.lbk_bytes.specs.Reached.{Onward, onward_all, onward_to, position_end_in}
 use Rattle.lbk_bytes.specs.Shown.{given_in}
-use Rattle.lbk_units.specs.Positions.{positions_of_part_of, positions_of_pieces}
+use Rattle.lbk_units.specs.Positions.{breaks_among, positions_of_part_of, positions_of_pieces}
 use Rattle.lbk_units.specs.Units.{breaks_of_part_of, breaks_of_pieces}
 use Rattle.lbk_calls.specs.declared.interface.State.{State}
-use Rattle.lbk_calls.specs.Coming.{Comes, PositionsCome, UnitsCome}
+use Rattle.lbk_calls.specs.Coming.{ComeOf, Comes}
 use Rattle.lbk_calls.specs.State.{part_start, start_in}
 
 -- how a call moves the state, with any table and state: the text has `size` units, the block has room for `room`
@@ -78,15 +79,38 @@ BreaksComeAtStart = ComeAtStart Comes breaks_of_bytes breaks_of_part
 abbrev pub GivesBreaks : FlatTable → List ℕ → State → State → ℕ → List RawBreak → ℕ → Type 0
 GivesBreaks = Gives Comes breaks_of_bytes breaks_of_part AreInOrder
 
--- the breaks of units, and their positions, by what is read of them
+-- what pieces have as a whole text, and as a part of one, is what is given from their first on
+pub record AreGivenWhole (onward : AtEnd → Onward) (end_in : Bool → AtEnd)
+    (whole : Profile → (ℕ → Cell) → List Decoded → List Break)
+    (part_of : Bool → Profile → (ℕ → Cell) → List Decoded → List Break) : Type 0 where
+  pub starts : (profile : Profile) (cell : ℕ → Cell) (ps : List Decoded)
+      → whole profile cell ps ≡ onward (end_in false) profile cell [] 0 ps
+  pub parts : (goes_on : Bool) (profile : Profile) (cell : ℕ → Cell) (at : ℕ) (ps : List Decoded)
+      → map (moved at) (part_of goes_on profile cell ps) ≡ onward (end_in goes_on) profile cell [] at ps
+
+-- of units, by what is read of them: what is true of the entries, what is given from a unit on and comes at an end, and
+-- what pieces have as a text and as a part of one
+abbrev pub GivesBy : {A : Type 0} → (RawBreak → Type 0) → (AtEnd → Onward) → (Bool → AtEnd)
+    → (Profile → (ℕ → Cell) → List Decoded → List Break)
+    → (Bool → Profile → (ℕ → Cell) → List Decoded → List Break) → (List A → List Decoded) → FlatTable → List A
+    → State → State → ℕ → List RawBreak → ℕ → Type 0
+GivesBy Is onward end_in whole part_of pieces_of =
+    Gives (ComeOf onward end_in pieces_of) (λ profile cell text. whole profile cell (pieces_of text))
+    (λ goes_on profile cell part. part_of goes_on profile cell (pieces_of part)) (AreInOrderBy Is)
+
+-- their breaks
 abbrev pub GivesBreaksOf : {A : Type 0} → (List A → List Decoded) → FlatTable → List A → State → State → ℕ
     → List RawBreak → ℕ → Type 0
-GivesBreaksOf pieces_of =
-    Gives (UnitsCome pieces_of) (λ profile cell text. breaks_of_pieces profile cell (pieces_of text))
-    (λ goes_on profile cell part. breaks_of_part_of goes_on profile cell (pieces_of part)) AreInOrder
+GivesBreaksOf pieces_of = GivesBy IsBreak onward_to end_in breaks_of_pieces breaks_of_part_of pieces_of
 
+-- and their positions
 abbrev pub GivesPositionsOf : {A : Type 0} → (List A → List Decoded) → FlatTable → List A → State → State → ℕ
     → List RawBreak → ℕ → Type 0
 GivesPositionsOf pieces_of =
-    Gives (PositionsCome pieces_of) (λ profile cell text. positions_of_pieces profile cell (pieces_of text))
-    (λ goes_on profile cell part. positions_of_part_of goes_on profile cell (pieces_of part)) ArePositionsInOrder
+    GivesBy IsPosition onward_all position_end_in positions_of_pieces positions_of_part_of pieces_of
+
+-- the breaks of a text are those of its positions where a line may or must end
+abbrev pub AreAmong : (Profile → (ℕ → Cell) → List ℕ → List Break)
+    → (Profile → (ℕ → Cell) → List ℕ → List Break) → List ℕ → Type 0
+AreAmong positions breaks text =
+    (cell : ℕ → Cell) (profile : Profile) → breaks_among (positions profile cell text) ≡ breaks profile cell text

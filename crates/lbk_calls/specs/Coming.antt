@@ -7,6 +7,7 @@ use Rattle.lbk_rules.specs.declared.Cell.{Cell}
 use Rattle.lbk_rules.specs.declared.flat_table.FlatTable.{FlatTable}
 use Rattle.lbk_values.specs.declared.profile.Profile.{Profile}
 use Rattle.lbk_rules.specs.FlatTable.{IsFlatOf, KnowsTaken}
+use Rattle.lbk_rules.specs.Rows.{place_by}
 use Rattle.lbk_bytes.specs.declared.fill_state.FillState.{FillState}
 use Rattle.lbk_bytes.specs.declared.raw_break.RawBreak.{RawBreak}
 use Rattle.lbk_calls.specs.declared.interface.State.{State}
@@ -21,6 +22,10 @@ use Rattle.lbk_units.specs.Reached.{UnitsReachedBy, on_from}
 -- where a state stands in a text
 abbrev pub from_state : State → FillState
 from_state state = record { count = 0; row = state.row; at = state.at }
+
+-- where a call starts: at a row, whatever number the state has
+abbrev pub start_by : State → FillState
+start_by state = record { count = 0; row = place_by state.row; at = state.at }
 
 -- no break comes from the state on: it names no profile, has given all, or is past the text
 abbrev pub IsSpent : State → ℕ → Type 0

@@ -1,20 +1,20 @@
 //! The breaks and the positions of a text in each encoding, a block at a time.
 
-ghost use Rattle.std.specs.Prelude.{◌≡◌, ℕ, true, List, MatchOption, length, map};
-ghost use Rattle.std.specs.Str.{IsUtf8, all_scalars, chars, encode_utf8_all};
+ghost use Rattle.std.specs.Prelude.{◌≡◌, ℕ, MatchOption, length};
+ghost use Rattle.std.specs.Str.{IsUtf8, chars, encode_utf8_all};
 ghost use Rattle.lbk_rules.specs.declared.Cell.{Cell};
 ghost use Rattle.lbk_values.specs.declared.profile.Profile.{Profile};
 ghost use Rattle.lbk_rules.specs.Breaks.{breaks};
 ghost use Rattle.lbk_bytes.specs.Bytes.{breaks_of_bytes};
-ghost use Rattle.lbk_calls.specs.Calls.{GivesBreaks, GivesBreaksOf, GivesPositionsOf};
-ghost use Rattle.lbk_calls.specs.Coming.{IsGoing, IsSpent};
-ghost use Rattle.lbk_calls.specs.State.{plain};
-ghost use Rattle.lbk_units.specs.Encodings.{encode_utf16_all, placed_in};
+ghost use Rattle.lbk_units.specs.Encodings.{AreThoseOfScalars, encode_utf16_all};
 ghost use Rattle.lbk_units.specs.Units.{breaks_of_utf16, breaks_of_utf32, pieces_of_utf16};
 ghost use Rattle.bstr.specs.Utf8.{pieces};
-ghost use Rattle.lbk_units.specs.Positions.{breaks_among, positions_of_bytes, positions_of_utf32};
+ghost use Rattle.lbk_units.specs.Positions.{positions_of_bytes, positions_of_utf32};
+ghost use Rattle.lbk_calls.specs.Calls.{AreAmong, GivesBreaks, GivesBreaksOf, GivesPositionsOf};
+ghost use Rattle.lbk_calls.specs.Coming.{IsGoing, IsSpent};
+ghost use Rattle.lbk_calls.specs.State.{plain};
 
-use crate::giving::{BreaksOfBytes, next_of};
+use crate::giving::{give_breaks, next_of};
 use crate::interface::State;
 use lbk_bytes::{RawBreak, plain_number, profile_numbered};
 use lbk_rules::{FlatTable, Profile};
@@ -39,18 +39,6 @@ pub extern "C" fn lbk_breaks(
         → breaks_of_bytes profile cell text.now ≡ breaks profile cell (chars text.now) }
 {
     give_breaks::<false>(table, state, text, out)
-}
-
-/// Puts the next breaks of a text into the front of the block, as `lbk_breaks` does, and returns how many.
-pub fn give_breaks<const MASKS: bool>(
-    table: &FlatTable,
-    state: &mut State,
-    text: &[u8],
-    out: &mut [RawBreak],
-) -> usize
-    ensures { GivesBreaks table.now text.now state.old state.new (length out.old) out.new result }
-{
-    next_of::<BreaksOfBytes<MASKS>, u8>(table, state, text, out)
 }
 
 /// The state with only the profile in its profile number.
@@ -93,10 +81,7 @@ pub extern "C" fn lbk_breaks_utf16(
     ensures gives { GivesBreaksOf pieces_of_utf16 table.now text.now state.old state.new
         (length out.old) out.new result }
     // Of well-formed text the breaks are those of its scalars.
-    ensures well_formed { (cell : ℕ → Cell) (profile : Profile) (scalars : List ℕ) → all_scalars scalars ≡ true
-        → text.now ≡ encode_utf16_all scalars
-        → breaks_of_utf16 profile cell text.now
-        ≡ map (placed_in encode_utf16_all scalars) (breaks_of_utf32 profile cell scalars) }
+    ensures well_formed { AreThoseOfScalars encode_utf16_all breaks_of_utf16 breaks_of_utf32 }
 {
     next_of::<Breaks, u16>(table, state, text, out)
 }
@@ -118,13 +103,9 @@ pub extern "C" fn lbk_positions(
 ) -> usize
     ensures gives { GivesPositionsOf pieces table.now text.now state.old state.new (length out.old) out.new result }
     // The breaks of a text are those of its positions where a line may or must end.
-    ensures breaks { (cell : ℕ → Cell) (profile : Profile)
-        → breaks_among (positions_of_bytes profile cell text.now) ≡ breaks_of_bytes profile cell text.now }
+    ensures breaks { AreAmong positions_of_bytes breaks_of_bytes text.now }
     // Of well-formed text the positions are those of its scalars.
-    ensures well_formed { (cell : ℕ → Cell) (profile : Profile) (scalars : List ℕ) → all_scalars scalars ≡ true
-        → text.now ≡ encode_utf8_all scalars
-        → positions_of_bytes profile cell text.now
-        ≡ map (placed_in encode_utf8_all scalars) (positions_of_utf32 profile cell scalars) }
+    ensures well_formed { AreThoseOfScalars encode_utf8_all positions_of_bytes positions_of_utf32 }
 {
     next_of::<Positions, u8>(table, state, text, out)
 }

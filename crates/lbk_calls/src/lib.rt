@@ -15,7 +15,6 @@ mod columns;
 mod giving;
 mod interface;
 mod labels;
-mod last_position;
 mod packed_tables;
 mod packing;
 mod padding;
@@ -24,13 +23,11 @@ mod rule_texts;
 mod runs;
 mod unpacking;
 
-pub use breaking::{
-    give_breaks, going_profile, lbk_breaks, lbk_breaks_utf16, lbk_positions, plain,
-};
+pub use breaking::{going_profile, lbk_breaks, lbk_breaks_utf16, lbk_positions, plain};
 pub use checking::lbk_check;
 pub use class_labels::lbk_class;
 pub use columns::lbk_columns;
-pub use giving::{Given, next_of};
+pub use giving::{Given, give_breaks, next_of, start_of};
 pub use interface::{ClassLabel, RuleLabel, State, Text};
 pub use labels::lbk_label;
 pub use packed_tables::{lbk_pack, lbk_unpack};

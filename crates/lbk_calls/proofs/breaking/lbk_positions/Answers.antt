@@ -1,15 +1,13 @@
-use Rattle.std.specs.Str.{encode_utf8_all}
 use Rattle.bstr.specs.Utf8.{pieces}
-use Rattle.lbk_units.specs.Positions.{positions_of_bytes, positions_of_utf32}
 use Rattle.lbk_units.proofs.EncodingLemmas.{breaks-among, positions-utf8}
-use Rattle.lbk_calls.proofs.UnitsComingLemmas.{encoded, gives-positions}
+use Rattle.lbk_calls.proofs.UnitsComingLemmas.{positions-given}
 use Rattle.lbk_calls.proofs.breaking.lbk_positions.Goals as goal
 
 pub returns-clause-breaks : goal.returns-clause-breaks
 returns-clause-breaks c = λ cell profile. breaks-among profile cell (pieces c.args.text.now)
 
 pub returns-clause-well_formed : goal.returns-clause-well_formed
-returns-clause-well_formed c = encoded encode_utf8_all positions_of_bytes positions_of_utf32 positions-utf8 c.args.text.now
+returns-clause-well_formed c = positions-utf8
 
 pub returns-clause-gives : goal.returns-clause-gives
-returns-clause-gives c = gives-positions pieces c.args.table.now c.args.text.now c.args.state.now c.next_of.new.state _ c.next_of.new.out c.next_of.result c.next_of.ensures.goes_over c.next_of.ensures.gives
+returns-clause-gives c = c.next_of.ensures _ _ positions-given

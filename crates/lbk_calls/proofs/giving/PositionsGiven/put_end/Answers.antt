@@ -8,8 +8,8 @@ use Rattle.lbk_bytes.specs.Reached.{position_end_in}
 use Rattle.lbk_bytes.specs.Shown.{given_in}
 use Rattle.lbk_bytes.proofs.OrderLemmas.{AreInOrder-wider}
 use Rattle.lbk_units.proofs.PositionLemmas.{not-back, put-end, put-start}
-use Rattle.lbk_calls.proofs.last_position.put_last.Goals as goal
-use Rattle.lbk_calls.proofs.last_position.put_last.Goals.{then-row-eq0, else-row-eq0}
+use Rattle.lbk_calls.proofs.giving.PositionsGiven.put_end.Goals as goal
+use Rattle.lbk_calls.proofs.giving.PositionsGiven.put_end.Goals.{then-row-eq0, else-row-eq0}
 
 pub put_position-requires-2-clause-shown : goal.put_position-requires-2-clause-shown
 put_position-requires-2-clause-shown c = elim c.if-row-eq0.branch [
