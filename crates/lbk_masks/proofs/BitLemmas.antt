@@ -29,23 +29,21 @@ get_or-lanes is v n i long =
 pub set-none : (i : ℕ) → is_set 0 i ≡ false
 set-none i = ap (λ n. n == 1) (bit_at-zero i)
 
+-- what is so of each two bits is so of two numbers below 2
+pub of-bits : (Is : ℕ → ℕ → Type 0) → Is 0 0 → Is 0 1 → Is 1 0 → Is 1 1 → (m n : ℕ) → m < 2 → n < 2 → Is m n
+of-bits Is a b c d zero zero l r = a
+of-bits Is a b c d zero (suc zero) l r = b
+of-bits Is a b c d (suc zero) zero l r = c
+of-bits Is a b c d (suc zero) (suc zero) l r = d
+of-bits Is a b c d (suc (suc m)) n l r = absurd (omega (arith, l))
+of-bits Is a b c d zero (suc (suc n)) l r = absurd (omega (arith, r))
+of-bits Is a b c d (suc zero) (suc (suc n)) l r = absurd (omega (arith, r))
+
 least-one : (m n : ℕ) → m < 2 → n < 2 → (min m n == 1) ≡ ((m == 1) && (n == 1))
-least-one zero zero l r = refl
-least-one zero (suc zero) l r = refl
-least-one (suc zero) zero l r = refl
-least-one (suc zero) (suc zero) l r = refl
-least-one (suc (suc m)) n l r = absurd (omega (arith, l))
-least-one zero (suc (suc n)) l r = absurd (omega (arith, r))
-least-one (suc zero) (suc (suc n)) l r = absurd (omega (arith, r))
+least-one = of-bits (λ m n. (min m n == 1) ≡ ((m == 1) && (n == 1))) refl refl refl refl
 
 most-one : (m n : ℕ) → m < 2 → n < 2 → (max m n == 1) ≡ ((m == 1) || (n == 1))
-most-one zero zero l r = refl
-most-one zero (suc zero) l r = refl
-most-one (suc zero) zero l r = refl
-most-one (suc zero) (suc zero) l r = refl
-most-one (suc (suc m)) n l r = absurd (omega (arith, l))
-most-one zero (suc (suc n)) l r = absurd (omega (arith, r))
-most-one (suc zero) (suc (suc n)) l r = absurd (omega (arith, r))
+most-one = of-bits (λ m n. (max m n == 1) ≡ ((m == 1) || (n == 1))) refl refl refl refl
 
 other-one : (n : ℕ) → n < 2 → (1 - n == 1) ≡ not (n == 1)
 other-one zero l = refl

@@ -7,7 +7,7 @@ use Rattle.std.proofs.lemmas.Bool.{and_left, and_parts, and_right, cases_lt, le-
 use Rattle.std.proofs.lemmas.Nat.Bits.{bit_at-lt, bit_at_xor}
 use Rattle.ucd_table.proofs.Facts.{same_from_beq}
 use Rattle.ucd_table.proofs.TrieCheck.{all_below, all_below-at}
-use Rattle.lbk_masks.proofs.BitLemmas.{set-and, set-down, set-not, set-up, set-up-first}
+use Rattle.lbk_masks.proofs.BitLemmas.{of-bits, set-and, set-down, set-not, set-up, set-up-first}
 use Rattle.lbk_masks.specs.Bits.{AreCleared, AreKeptFrom, IsLowest}
 use Rattle.lbk_masks.specs.Sets.{is_in, is_set}
 use Rattle.lbk_words.specs.declared.blocks.Edges.{Edges}
@@ -17,13 +17,7 @@ use Rattle.lbk_words.specs.Blocks.{AreEdges, begins_at, class_of, differ, runs_a
 -- Bits
 
 differ-one : (m n : ℕ) → m < 2 → n < 2 → ((m + n) % 2 == 1) ≡ differ (m == 1) (n == 1)
-differ-one zero zero l r = refl
-differ-one zero (suc zero) l r = refl
-differ-one (suc zero) zero l r = refl
-differ-one (suc zero) (suc zero) l r = refl
-differ-one (suc (suc m)) n l r = absurd (omega (arith, l))
-differ-one zero (suc (suc n)) l r = absurd (omega (arith, r))
-differ-one (suc zero) (suc (suc n)) l r = absurd (omega (arith, r))
+differ-one = of-bits (λ m n. ((m + n) % 2 == 1) ≡ differ (m == 1) (n == 1)) refl refl refl refl
 
 pub set-xor : (a b i : ℕ) → is_set (bit_xor a b) i ≡ differ (is_set a i) (is_set b i)
 set-xor a b i = ap (λ n. n == 1) (bit_at_xor a b i) ∙ differ-one (bit_at a i) (bit_at b i) (bit_at-lt a i) (bit_at-lt b i)
