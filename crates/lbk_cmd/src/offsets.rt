@@ -56,16 +56,34 @@ impl Offsets {
         }
     }
 
-    /// Writes an offset to a buffer, and returns the index after it.
+    /// The digits of the offsets that share all except the last four with this one.
+    #[cold]
+    #[inline(never)]
+    fn around(offset: u64) -> Offsets
+        requires { (10000 ≤ offset) × (offset < 2 ^ 63) }
+        ensures { (result.base ≤ offset) × (offset < result.base + 10000) }
+    {
+        let high = offset / RANGE;
+        Offsets {
+            base: high * RANGE,
+            digits: digits_of(high),
+        }
+    }
+
+    /// Writes an offset to a buffer, and returns the index after it. Keeps its digits if it has more than four.
     #[inline(always)]
     pub fn place(&mut self, buf: &mut [u8], at: usize, offset: u64) -> usize
         requires { (offset < 2 ^ 63) × (at + 20 ≤ length buf.old) }
         ensures { PlacedIn buf.old buf.new at 20 (decimal offset) result }
     {
-        if offset.wrapping_sub(self.base) < RANGE {
-            return self.place_known(buf, at, offset);
+        if offset.wrapping_sub(self.base) >= RANGE {
+            if offset < RANGE {
+                let digits = digits_of(offset);
+                return place_front(buf, at, digits.bytes, digits.len);
+            }
+            *self = Offsets::around(offset);
         }
-        self.place_other(buf, at, offset)
+        self.place_known(buf, at, offset)
     }
 
     /// Writes one of the offsets that share the kept digits.
@@ -77,24 +95,5 @@ impl Offsets {
     {
         let next = place_front(buf, at, self.digits.bytes, self.digits.len);
         place_four(buf, next, offset - self.base)
-    }
-
-    /// Writes any offset, and keeps its digits if it has more than four.
-    #[cold]
-    #[inline(never)]
-    fn place_other(&mut self, buf: &mut [u8], at: usize, offset: u64) -> usize
-        requires { (offset < 2 ^ 63) × (at + 20 ≤ length buf.old) }
-        ensures { PlacedIn buf.old buf.new at 20 (decimal offset) result }
-    {
-        let high = offset / RANGE;
-        if high == 0 {
-            let digits = digits_of(offset);
-            return place_front(buf, at, digits.bytes, digits.len);
-        }
-        *self = Offsets {
-            base: high * RANGE,
-            digits: digits_of(high),
-        };
-        self.place_known(buf, at, offset)
     }
 }
