@@ -1,5 +1,5 @@
 -- The result of `break_text`, by the files and by what it read.
-use Rattle.std.specs.Prelude.{◌≡◌, ◌⊎◌, ℕ, List, map, Option, Result, Ok, Err, IfSome, IsUtf8}
+use Rattle.std.specs.Prelude.{◌≡◌, ◌⊎◌, ℕ, List, map, Option, Result, Ok, Err, IfSome, IfErr, OnOk, IsUtf8}
 use Rattle.std.specs.Str.{chars}
 use Rattle.lbk_ucd.specs.Files.{AreLawful}
 use Rattle.lbk_ucd.specs.declared.tables.Files.{Files}
@@ -67,3 +67,10 @@ IsLinesFault files limit profile before after (files_fault fault) = IsCellsRefus
 IsLinesFault files limit profile before after (text_fault fault) = (cell : ℕ → Cell) × AreCellsOf files cell
     × (ShowStops cell limit profile before after fault
     ⊎ ((fault ≡ Memory) × Shows cell limit profile before after (Ok tt)))
+
+-- what was read of a text, and why it is refused: as `Refuses` says
+pub record ReadsBy {X : Type 0} (Refuses : Files → ℕ → Profile → Devices → Devices → BreakFault → Type 0)
+    (files : Files) (limit : ℕ) (profile : Profile) (before after : Devices)
+    (result : Result X BreakFault) : Type 0 where
+  pub whole : OnOk result (ReadsWhole files limit profile before after)
+  pub refused : IfErr result (Refuses files limit profile before after)

@@ -1,12 +1,12 @@
 //! Breaks a text in one call: from the bytes of four property files and of a text to what is read back from the lines
 //! of `show`.
 
-ghost use Rattle.std.specs.Prelude.{◌≡◌, ◌++◌, ◌∷◌, List, Ok, IfNone, IfSome, IfOk, IfErr, MatchResult, OnOk};
+ghost use Rattle.std.specs.Prelude.{◌≡◌, ◌++◌, ◌∷◌, List, Ok, IfNone, IfSome, IfOk, MatchResult};
 ghost use Rattle.lbk_rules.specs.CellPages.{page_cell};
 ghost use Rattle.lbk_notation.specs.Stream.{HasNoLineEnd};
 ghost use Rattle.lbk_passage.specs.Marks.{Marked};
 ghost use Rattle.lbk_cmd.specs.Acts.{Shows};
-ghost use Rattle.lbk_cmd.specs.Broken.{IsBroken, IsLinesFault, ReadsWhole, ShowStops};
+ghost use Rattle.lbk_cmd.specs.Broken.{IsBroken, IsLinesFault, ReadsBy, ShowStops};
 ghost use Rattle.lbk_cmd.specs.declared.broken.BreakFault.TheVariants.{Files as files_fault, Text as text_fault};
 ghost use Rattle.lbk_cmd.specs.Devices.{reader_alone};
 ghost use Rattle.lbk_cmd.specs.Engines.{showing};
@@ -69,11 +69,8 @@ pub fn break_text<R: Source>(
     // The bytes read are a text, and the lines are its passages by the cells of the files.
     ensures broken { IfOk result (λ lines. IsBroken files.entry profile (R.unread reader.old) lines.items) }
 
-    // What was read, and why a text is refused.
-    ensures whole { OnOk result (ReadsWhole files.entry limit profile
-        (reader_alone R.Source reader.old) (reader_alone R.Source reader.new)) }
-    ensures refused { IfErr result (IsLinesFault files.entry limit profile
-        (reader_alone R.Source reader.old) (reader_alone R.Source reader.new)) }
+    ensures reads { ReadsBy IsLinesFault files.entry limit profile
+        (reader_alone R.Source reader.old) (reader_alone R.Source reader.new) result }
 {
     let cells = read_cells(alloc, files)?;
     let text = shown_text(alloc, reader, &cells, limit, profile)?;

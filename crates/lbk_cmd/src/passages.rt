@@ -3,7 +3,7 @@
 ghost use Rattle.std.specs.Prelude.{◌≡◌, [], ◌∷◌, ◌++◌, Ok, Err, IfOk, IfErr, OnOk};
 ghost use Rattle.lbk_rules.specs.CellPages.{page_cell};
 ghost use Rattle.lbk_cmd.specs.Acts.{Shows};
-ghost use Rattle.lbk_cmd.specs.Broken.{IsBreakFault, ReadsWhole};
+ghost use Rattle.lbk_cmd.specs.Broken.{IsBreakFault, ReadsBy};
 ghost use Rattle.lbk_cmd.specs.Devices.{reader_alone};
 ghost use Rattle.lbk_passage.specs.Next.{IsPlaced};
 ghost use Rattle.lbk_cmd.specs.Owned.{AreOwned, AreRead, lent_as};
@@ -36,11 +36,9 @@ pub fn read_passages<R: Source>(
     // The bytes read are a text, and these are its passages by the cells of the files.
     ensures passages { IfOk result (λ list. AreRead files.entry profile (R.unread reader.old) list.items) }
 
-    // What was read, and why a text is refused: as in `show`.
-    ensures whole { OnOk result (ReadsWhole files.entry limit profile
-        (reader_alone R.Source reader.old) (reader_alone R.Source reader.new)) }
-    ensures refused { IfErr result (IsBreakFault files.entry limit profile
-        (reader_alone R.Source reader.old) (reader_alone R.Source reader.new)) }
+    // As in `show`.
+    ensures reads { ReadsBy IsBreakFault files.entry limit profile
+        (reader_alone R.Source reader.old) (reader_alone R.Source reader.new) result }
 {
     let cells = read_cells(alloc, files)?;
     let mut passages = Vec::new(alloc);

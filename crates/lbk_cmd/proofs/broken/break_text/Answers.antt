@@ -13,20 +13,26 @@ read_lines-requires g c =
     (readable (page_cell c.in_ok-cells.cells) c.args.limit c.args.profile _ _ c.in_ok-text.ensures.1 (g.R.Source.unread c.args.reader.now)
     c.in_ok-text.text.items c.in_ok-text.ensures.0)
 
-pub returns-in_err-text-clause-refused : goal.returns-in_err-text-clause-refused
-returns-in_err-text-clause-refused g c =
+pub returns-in_err-text-clause-reads : goal.returns-in_err-text-clause-reads
+returns-in_err-text-clause-reads g c =
     let exit = err_from_is_err_and c.from_residual-in_err-text.result c.from_residual-in_err-text.ensures.1 in
-    show_stopped c.args.files (page_cell c.in_ok-cells.cells) c.args.limit c.args.profile
-    (reader_alone g.R.Source c.args.reader.now) (reader_alone g.R.Source c.shown_text.new.reader)
-    c.from_residual-in_err-text.result exit.0 c.in_err-text.field-0.0 exit.1 exit.2 c.in_ok-cells.ensures.cells c.in_err-text.ensures
+    record {
+      whole = rw exit.1 tt;
+      refused = show_stopped c.args.files (page_cell c.in_ok-cells.cells) c.args.limit c.args.profile
+          (reader_alone g.R.Source c.args.reader.now) (reader_alone g.R.Source c.shown_text.new.reader)
+          c.from_residual-in_err-text.result exit.0 c.in_err-text.field-0.0 exit.1 exit.2 c.in_ok-cells.ensures.cells c.in_err-text.ensures;
+    }
 
-pub returns-in_err-lines-clause-refused : goal.returns-in_err-lines-clause-refused
-returns-in_err-lines-clause-refused g c =
+pub returns-in_err-lines-clause-reads : goal.returns-in_err-lines-clause-reads
+returns-in_err-lines-clause-reads g c =
     let exit = err_from_is_err_and c.from_residual-in_err-lines.result c.from_residual-in_err-lines.ensures.1 in
-    out_of_memory c.args.files (page_cell c.in_ok-cells.cells) c.args.limit c.args.profile
-    (reader_alone g.R.Source c.args.reader.now) (reader_alone g.R.Source c.shown_text.new.reader)
-    c.from_residual-in_err-lines.result exit.0 exit.1 (exit.2 ∙ ap text_fault c.in_err-lines.ensures)
-    c.in_ok-cells.ensures.cells c.in_ok-text.ensures.1
+    record {
+      whole = rw exit.1 tt;
+      refused = out_of_memory c.args.files (page_cell c.in_ok-cells.cells) c.args.limit c.args.profile
+          (reader_alone g.R.Source c.args.reader.now) (reader_alone g.R.Source c.shown_text.new.reader)
+          c.from_residual-in_err-lines.result exit.0 exit.1 (exit.2 ∙ ap text_fault c.in_err-lines.ensures)
+          c.in_ok-cells.ensures.cells c.in_ok-text.ensures.1;
+    }
 
 pub returns-clause-broken : goal.returns-clause-broken
 returns-clause-broken g c =
