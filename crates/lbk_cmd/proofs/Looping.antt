@@ -423,29 +423,17 @@ module _ (e : Writing) (u0 w0 : Option (List ℕ)) (reads0 : Reads) where
         (λ from to may. may) w' put wrote comes (λ from to may. comes)
 
   -- nothing was read, where the segmenter could not be made
-  ran_none : e.Settled [] [] → (X : Type 0) (has_ended : Bool) → Ran false u0 u0 w0 w0 (Ends {X = X} e reads0 reads0 has_ended u0 (λ begin end. Unit {0}) (Err (cmd.Passage fault.Memory)))
-  ran_none none_settled X has_ended = record {
+  ran_nothing : e.Settled [] [] → {X : Type 0} (has_ended : Bool) (answer : Result X CmdFault) → ComesTo e has_ended answer [] []
+      → ((begin end : ℕ) → RangeComesTo e begin end has_ended (IsTrue has_ended × IsAtEnd u0) answer [] [])
+      → Ran false u0 u0 w0 w0 (Ends e reads0 reads0 has_ended u0 (λ begin end. Unit {0}) answer)
+  ran_nothing none_settled has_ended answer comes in_range = record {
     read = [];
     out = [];
     took = Consumes-nil u0;
     put = Appends-nil w0;
     so = record {
-      comes = inl (refl, refl);
-      in_range = λ begin end may. inl (refl, refl);
-      keeps_up = keeps_none e reads0 none_settled;
-      before = λ begin end may. before_none e reads0 none_settled end;
-    };
-  }
-
-  ran_limit : e.Settled [] [] → (X : Type 0) (has_ended : Bool) → Ran false u0 u0 w0 w0 (Ends {X = X} e reads0 reads0 has_ended u0 (λ begin end. Unit {0}) (Err (cmd.Passage fault.Limit)))
-  ran_limit none_settled X has_ended = record {
-    read = [];
-    out = [];
-    took = Consumes-nil u0;
-    put = Appends-nil w0;
-    so = record {
-      comes = (refl, refl);
-      in_range = λ begin end may. (refl, refl);
+      comes = comes;
+      in_range = λ begin end may. in_range begin end;
       keeps_up = keeps_none e reads0 none_settled;
       before = λ begin end may. before_none e reads0 none_settled end;
     };
@@ -459,7 +447,10 @@ module _ (e : Writing) (u0 w0 : Option (List ℕ)) (reads0 : Reads) (X : Type 0)
       → Ran (is_failed_read answer) u0 u0 w0 w0 (Ends e reads0 reads0 has_ended u0 (λ begin end. Unit {0}) answer)
   run_none none_settled why has_ended is one =
       subst (λ r. Ran (is_failed_read r) u0 u0 w0 w0 (Ends e reads0 reads0 has_ended u0 (λ begin end. Unit {0}) r)) (sym is)
-      (⊎_elim (λ limit. none limit (ran_limit e u0 w0 reads0 none_settled X has_ended)) (λ memory. none memory (ran_none e u0 w0 reads0 none_settled X has_ended)) one)
+      (⊎_elim
+      (λ limit. none limit (ran_nothing e u0 w0 reads0 none_settled {X = X} has_ended (Err (cmd.Passage fault.Limit)) (refl, refl) (λ begin end. (refl, refl))))
+      (λ memory. none memory (ran_nothing e u0 w0 reads0 none_settled {X = X} has_ended (Err (cmd.Passage fault.Memory)) (inl (refl, refl)) (λ begin end. inl (refl, refl))))
+      one)
     where
       none : {known : PassageFault} → why ≡ known
           → Ran (is_failed_read {X = X} (Err (cmd.Passage known))) u0 u0 w0 w0 (Ends {X = X} e reads0 reads0 has_ended u0 (λ begin end. Unit {0}) (Err (cmd.Passage known)))
