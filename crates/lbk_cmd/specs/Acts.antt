@@ -153,6 +153,13 @@ abbrev pub RangeEnds : Part → TextEngine → Devices → Devices → Ending �
 RangeEnds part engine before after ending =
     (answer : Result (Unit {0}) CmdFault) × RangeRuns part engine before after answer × (ending ≡ ending_of_text answer)
 
+-- these lines are written for each passage, or for those that begin in a range, and the run ends as its result says
+abbrev pub LinesEnd : Option Part → Lines → (ℕ → Cell) → ℕ → Profile → Devices → Devices → Ending → Type 0
+LinesEnd None lines cell limit profile before after ending = (answer : Result (Unit {0}) CmdFault)
+    × Writes lines cell limit profile before after answer × (ending ≡ ending_of_text answer)
+LinesEnd (Some part) lines cell limit profile before after ending =
+    RangeEnds part (engine_of lines cell profile limit) before after ending
+
 -- the engine runs over a text, or over a range of it; `replay` has no ranges
 abbrev pub RunsOver : Option Part → Engine → List ℕ → Profile → (ℕ → Cell) → Devices → Devices → Ending → Type 0
 RunsOver None engine mark profile cell = EngineRuns engine mark profile cell

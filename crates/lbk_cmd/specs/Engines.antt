@@ -8,7 +8,8 @@ use Rattle.lbk_cmd.specs.Run.{Engine}
 use Rattle.lbk_cmd.specs.Segment.{segmented_passage}
 use Rattle.lbk_cmd.specs.Show.{shown_passage}
 use Rattle.lbk_cmd.specs.declared.engine.Lines.{Lines}
-use Rattle.lbk_cmd.specs.declared.engine.Lines.TheVariants.{Signed, Shown, Segmented}
+use Rattle.lbk_cmd.specs.declared.engine.Lines.TheVariants.{Text, Segmented}
+use Rattle.lbk_cmd.specs.declared.engine.TextLines.TheVariants.{Signed, Shown}
 
 -- that of `mark`, with this sign
 abbrev pub marking : List ℕ → (ℕ → Cell) → Profile → ℕ → Engine
@@ -26,8 +27,8 @@ segmenting cell profile limit = record { lines = segmented_passage cell; cell = 
 
 -- the lines that each writes
 abbrev pub lines_of : Lines → (ℕ → Cell) → ℕ → List Marked → List ℕ
-lines_of (Signed mark) cell start ms = signed_passage mark.now cell ms
-lines_of Shown cell start ms = shown_passage ms
+lines_of (Text (Signed mark)) cell start ms = signed_passage mark.now cell ms
+lines_of (Text Shown) cell start ms = shown_passage ms
 lines_of Segmented cell start ms = segmented_passage cell start ms
 
 abbrev pub engine_of : Lines → (ℕ → Cell) → Profile → ℕ → Engine

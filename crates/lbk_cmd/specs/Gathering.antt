@@ -1,6 +1,6 @@
 -- Lines that are buffered until the next read.
 use Rattle.std.specs.Prelude.{◌≡◌, ◌⊎◌, ℕ, ◌+◌, Bool, true, false, List, [], ◌++◌, length, Option, None, Some, Result}
-use Rattle.std.specs.Prelude.{Ok, Err}
+use Rattle.std.specs.Prelude.{◌<◌, Ok, Err, OnOk, vec_len}
 use Rattle.std.specs.Io.KnownBytes.{Appends}
 use Rattle.lbk_feed.specs.Devices.{Reads}
 use Rattle.lbk_feed.specs.declared.traits.Source.{Ghosts as SourceMembers}
@@ -10,12 +10,18 @@ use Rattle.lbk_passage.specs.State.{State}
 use Rattle.lbk_passage.specs.declared.faults.PassageFault.{PassageFault}
 use Rattle.lbk_passage.specs.declared.passage.Passage.{Passage as LentPassage}
 use Rattle.lbk_cmd.specs.Run.{Engine}
+use Rattle.lbk_cmd.specs.declared.gathered.Gathered.{Gathered}
 use Rattle.lbk_cmd.specs.declared.faults.CmdFault.{CmdFault}
 use Rattle.lbk_cmd.specs.declared.faults.CmdFault.TheVariants.{Memory, Passage}
 
 -- the buffered lines were written, and none is left
 abbrev pub HasWritten : Option (List ℕ) → Option (List ℕ) → List ℕ → List ℕ → Type 0
 HasWritten written written' before after = (after ≡ []) × Appends written written' before
+
+-- after a call that writes, fewer bytes of lines than `room` are buffered; the next passage is the same
+pub record Leaves {Y : Type 0} (room : ℕ) (old new : Gathered) (result : Result (Unit {0}) Y) : Type 0 where
+  pub few : OnOk result (vec_len new.lines < room)
+  pub at : new.at ≡ old.at
 
 -- the lines of the passage that a segmenter lent were appended to the buffer, if one was lent and memory could grow for
 -- them; `at` is then the offset after it

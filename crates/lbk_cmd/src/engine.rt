@@ -44,7 +44,7 @@ pub fn mark_with<R: Source, W: Sink, C: CellSource>(
         (devices_of R.Source W.Sink reader.old writer.old) (devices_of R.Source W.Sink reader.new writer.new) result }
 {
     write_lines(
-        Lines::Signed { sign },
+        Lines::Text(TextLines::Signed { sign }),
         alloc,
         reader,
         writer,
@@ -72,7 +72,8 @@ pub fn show<R: Source, W: Sink, C: CellSource>(
     ensures { Shows (C.cell_of cells.now) limit profile
         (devices_of R.Source W.Sink reader.old writer.old) (devices_of R.Source W.Sink reader.new writer.new) result }
 {
-    write_lines(Lines::Shown, alloc, reader, writer, cells, limit, profile)
+    let lines = Lines::Text(TextLines::Shown);
+    write_lines(lines, alloc, reader, writer, cells, limit, profile)
 }
 
 /// Writes the segments and words of a text: for each passage a line `P` with its first byte and the byte after its
@@ -105,16 +106,23 @@ pub fn segment<R: Source, W: Sink, C: CellSource>(
 /// What to write for a passage.
 #[derive(Clone, Copy)]
 pub(crate) enum Lines<'a> {
-    /// Its text, with a sign at each position where a line may end.
-    Signed { sign: &'a str },
-    /// Its marks, scalars and rules, in one line.
-    Shown,
+    /// What the rules decided, in its text.
+    Text(TextLines<'a>),
     /// Its offsets, its segments and its words.
     Segmented,
 }
 
+/// How to write a passage with what the rules decided.
+#[derive(Clone, Copy)]
+pub(crate) enum TextLines<'a> {
+    /// Its text, with a sign at each position where a line may end.
+    Signed { sign: &'a str },
+    /// Its marks, scalars and rules, in one line.
+    Shown,
+}
+
 /// Reads a text to its end, and writes the lines of each passage before the next read.
-fn write_lines<R: Source, W: Sink, C: CellSource>(
+pub fn write_lines<R: Source, W: Sink, C: CellSource>(
     lines: Lines<'_>,
     alloc: Global,
     reader: &mut R,

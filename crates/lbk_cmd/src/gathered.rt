@@ -1,6 +1,6 @@
 //! Lines that are buffered until the next read.
 
-ghost use Rattle.std.specs.Prelude.{ℕ, ◌≡◌, ◌≤◌, ◌<◌, ◌⊎◌, ◌^◌, ◌++◌, List, [], length, take, true, vec_len, Err};
+ghost use Rattle.std.specs.Prelude.{ℕ, ◌≡◌, ◌≤◌, ◌<◌, ◌⊎◌, ◌^◌, ◌++◌, List, [], length, take, true, Err};
 ghost use Rattle.std.specs.Prelude.{OnOk};
 ghost use Rattle.lbk_rules.specs.declared.Cell.{Cell};
 ghost use Rattle.lbk_values.specs.declared.profile.Profile as specs;
@@ -14,11 +14,11 @@ ghost use Rattle.lbk_passage.specs.declared.faults.PassageFault.{PassageFault};
 ghost use Rattle.lbk_cmd.specs.Engines.{engine_of, lines_of};
 ghost use Rattle.lbk_cmd.specs.declared.engine.Lines.TheVariants as kinds;
 ghost use Rattle.lbk_cmd.specs.Deciding.{IsPassageText};
-ghost use Rattle.lbk_cmd.specs.Gathering.{PutsRead, end_of};
+ghost use Rattle.lbk_cmd.specs.Gathering.{Leaves, PutsRead, end_of};
 ghost use Rattle.lbk_cmd.specs.Ranges.{within};
 ghost use Rattle.lbk_cmd.specs.Writing.{WritesDue, WritesOut};
 
-use super::engine::Lines;
+use super::engine::{Lines, TextLines};
 use super::faults::CmdFault;
 use super::offsets::Offsets;
 use super::segmented::push_segmented;
@@ -74,8 +74,7 @@ impl Gathered {
     ) -> Result<(), Failed>
         ensures writes { WritesDue W.Sink writer.old writer.new (state_of C.cell_of segmenter.old)
             (state_of C.cell_of segmenter.new) self.old.lines.items self.new.lines.items result }
-        ensures few { OnOk result (vec_len self.new.lines < 2 ^ 16) }
-        ensures at { self.new.at ≡ self.old.at }
+        ensures left { Leaves (2 ^ 16) self.old self.new result }
     {
         if segmenter.look_ahead() && self.lines.len() < WAITING {
             return Ok(());
@@ -86,8 +85,7 @@ impl Gathered {
     /// Writes the lines.
     pub fn write<W: Sink>(&mut self, writer: &mut W) -> Result<(), Failed>
         ensures out { WritesOut W.Sink writer.old writer.new self.old.lines.items self.new.lines.items result }
-        ensures few { OnOk result (vec_len self.new.lines ≡ 0) }
-        ensures at { self.new.at ≡ self.old.at }
+        ensures left { Leaves 1 self.old self.new result }
     {
         write_all(writer, &self.lines)?;
         self.lines.clear();
@@ -110,9 +108,7 @@ impl Gathered {
     {
         match lines {
             Lines::Segmented => self.put_segmented(segmenter, reader),
-            Lines::Signed { .. } | Lines::Shown => self.put_text(
-                lines, segmenter, reader, cells, profile,
-            ),
+            Lines::Text(lines) => self.put_text(lines, segmenter, reader, cells, profile),
         }
     }
 
@@ -146,14 +142,13 @@ impl Gathered {
     /// Appends those of its text, without looking for segments or words.
     fn put_text<R: Source, C: CellSource>(
         &mut self,
-        lines: Lines<'_>,
+        lines: TextLines<'_>,
         segmenter: &mut Segmenter<'_, C>,
         reader: &mut R,
         cells: &C,
         profile: Profile,
     ) -> Result<bool, CmdFault>
-        requires { ¬ (lines ≡ kinds.Segmented) }
-        ensures { (limit : ℕ) → PutsRead R.Source (engine_of lines.entry (C.cell_of cells.now) profile limit)
+        ensures { (limit : ℕ) → PutsRead R.Source (engine_of (kinds.Text lines.entry) (C.cell_of cells.now) profile limit)
             (state_of C.cell_of segmenter.old) (state_of C.cell_of segmenter.new) reader.old reader.new
             self.old.lines.items self.new.lines.items self.new.at result }
     {
@@ -177,23 +172,23 @@ impl Gathered {
     /// appended.
     fn push_text<C: CellSource>(
         &mut self,
-        lines: Lines<'_>,
+        lines: TextLines<'_>,
         cells: &C,
         profile: Profile,
         text: &str,
         end: Verdict,
     ) -> Result<(), AllocError>
-        requires kind { ¬ (lines ≡ kinds.Segmented) }
-        requires text { IsPassageText text.now }
+        requires { IsPassageText text.now }
         ensures text { OnOk result ((s : State) (ms : List Marked) (p : Passage) → s.cell ≡ C.cell_of cells.now
             → s.profile ≡ profile
             → IsPassage s ms p → p.text.now ≡ text.now → p.end ≡ end → is_must end.kind ≡ true
-            → self.new.lines.items ≡ self.old.lines.items ++ lines_of lines.entry (C.cell_of cells.now) p.start ms) }
+            → self.new.lines.items
+            ≡ self.old.lines.items ++ lines_of (kinds.Text lines.entry) (C.cell_of cells.now) p.start ms) }
         ensures kept { take (length self.old.lines.items) self.new.lines.items ≡ self.old.lines.items }
         ensures at { self.new.at ≡ self.old.at }
     {
         match lines {
-            Lines::Signed { sign } => push_signed(
+            TextLines::Signed { sign } => push_signed(
                 &mut self.lines,
                 sign,
                 cells,
@@ -201,11 +196,10 @@ impl Gathered {
                 text,
                 &mut self.block,
             ),
-            Lines::Shown => {
+            TextLines::Shown => {
                 decide(cells, profile, text, end, &mut self.verdicts)?;
                 push_shown(&mut self.lines, text, &self.verdicts)
             }
-            Lines::Segmented => unreachable!(),
         }
     }
 

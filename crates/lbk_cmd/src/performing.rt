@@ -2,19 +2,18 @@
 
 ghost use Rattle.std.specs.Prelude.{◌≡◌, map};
 ghost use Rattle.lbk_rules.specs.CellPages.{page_cell};
-ghost use Rattle.lbk_cmd.specs.Acts.{ChunksEnd, EngineRuns, RangeEnds, RunsOver, RunsReady, form_of};
+ghost use Rattle.lbk_cmd.specs.Acts.{ChunksEnd, LinesEnd, RunsOver, RunsReady, form_of};
 ghost use Rattle.lbk_cmd.specs.Chunk.{limits_of};
 ghost use Rattle.lbk_cmd.specs.Devices.{devices_of};
-ghost use Rattle.lbk_cmd.specs.Engines.{engine_of};
 ghost use Rattle.lbk_cmd.specs.Operands.{Reads, ReadsText, ReadsTexts, RunsTexts, refused_after};
 
 use super::chunked::{Asked, chunk};
 use super::ending::{Ending, RunFault};
-use super::engine::{Lines, mark_with, segment, show};
+use super::engine::{Lines, TextLines, write_lines};
 use super::operands::Texts;
 use super::ranges::write_range;
 use super::titles::write_title;
-use lbk_args::{Engine, Part, Sizes};
+use lbk_args::{Engine, Sizes};
 use lbk_chunks::Limits;
 use lbk_feed::{Sink, Source};
 use lbk_files::{LoadFault, Opens, Ready};
@@ -133,54 +132,35 @@ fn perform_one<R: Source, W: Sink>(
     ensures { RunsOver ready.now.part ready.now.engine ready.now.sign.now ready.now.profile (page_cell ready.now.cells)
         (devices_of R.Source W.Sink reader.old writer.old) (devices_of R.Source W.Sink reader.new writer.new) result }
 {
-    let Some(part) = ready.part else {
-        return perform_whole(alloc, ready, reader, writer);
-    };
     match ready.engine {
-        Engine::Mark { limit } => perform_range(
-            alloc,
-            Lines::Signed { sign: ready.sign },
-            part,
-            limit,
-            ready,
-            reader,
-            writer,
-        ),
-        Engine::Show { limit } => perform_range(
-            alloc,
-            Lines::Shown,
-            part,
-            limit,
-            ready,
-            reader,
-            writer,
-        ),
-        Engine::Segment { limit } => perform_range(
-            alloc,
-            Lines::Segmented,
-            part,
-            limit,
-            ready,
-            reader,
-            writer,
-        ),
+        Engine::Mark { limit } => {
+            let lines = Lines::Text(TextLines::Signed { sign: ready.sign });
+            perform_lines(alloc, lines, limit, ready, reader, writer)
+        }
+        Engine::Show { limit } => {
+            let lines = Lines::Text(TextLines::Shown);
+            perform_lines(alloc, lines, limit, ready, reader, writer)
+        }
+        Engine::Segment { limit } => {
+            perform_lines(alloc, Lines::Segmented, limit, ready, reader, writer)
+        }
         Engine::Chunk {
             limit,
             sizes,
             texts,
-        } => perform_chunk(
+        } => {
+            let range = ready.part;
+            let asked = Asked { range, texts };
+            perform_chunk(alloc, asked, sizes, limit, ready, reader, writer)
+        }
+        Engine::Replay { kinds } => Ending::of_replay(replay(
             alloc,
-            Asked {
-                range: Some(part),
-                texts,
-            },
-            sizes,
-            limit,
-            ready,
             reader,
             writer,
-        ),
-        Engine::Replay { .. } => perform_whole(alloc, ready, reader, writer),
+            &ready.cells,
+            form(kinds),
+            ready.profile,
+        )),
     }
 }
 
@@ -222,90 +202,25 @@ fn limits(sizes: Sizes) -> Limits
     }
 }
 
-/// Writes these lines for the passages that begin in a range of one text.
+/// Writes these lines for the passages of one text, or for those that begin in its range of it.
 #[tactic(none)]
-fn perform_range<R: Source, W: Sink>(
+fn perform_lines<R: Source, W: Sink>(
     alloc: Global,
     lines: Lines<'_>,
-    part: Part,
     limit: u32,
     ready: &Ready<'_>,
     reader: &mut R,
     writer: &mut W,
 ) -> Ending
-    ensures { RangeEnds part (engine_of lines.entry (page_cell ready.now.cells) ready.now.profile limit)
-        (devices_of R.Source W.Sink reader.old writer.old) (devices_of R.Source W.Sink reader.new writer.new) result }
-{
-    Ending::of_text(write_range(
-        lines,
-        part,
-        alloc,
-        reader,
-        writer,
-        &ready.cells,
-        limit,
-        ready.profile,
-    ))
-}
-
-/// Runs the engine over one whole text.
-#[tactic(none)]
-fn perform_whole<R: Source, W: Sink>(
-    alloc: Global,
-    ready: &Ready<'_>,
-    reader: &mut R,
-    writer: &mut W,
-) -> Ending
-    ensures { EngineRuns ready.now.engine ready.now.sign.now ready.now.profile (page_cell ready.now.cells)
+    ensures { LinesEnd ready.now.part lines.entry (page_cell ready.now.cells) limit ready.now.profile
         (devices_of R.Source W.Sink reader.old writer.old) (devices_of R.Source W.Sink reader.new writer.new) result }
 {
     let cells = &ready.cells;
-    match ready.engine {
-        Engine::Mark { limit } => Ending::of_text(mark_with(
-            ready.sign,
-            alloc,
-            reader,
-            writer,
-            cells,
-            limit,
-            ready.profile,
-        )),
-        Engine::Show { limit } => Ending::of_text(show(
-            alloc,
-            reader,
-            writer,
-            cells,
-            limit,
-            ready.profile,
-        )),
-        Engine::Segment { limit } => Ending::of_text(segment(
-            alloc,
-            reader,
-            writer,
-            cells,
-            limit,
-            ready.profile,
-        )),
-        Engine::Chunk {
-            limit,
-            sizes,
-            texts,
-        } => perform_chunk(
-            alloc,
-            Asked { range: None, texts },
-            sizes,
-            limit,
-            ready,
-            reader,
-            writer,
-        ),
-        Engine::Replay { kinds } => Ending::of_replay(replay(
-            alloc,
-            reader,
-            writer,
-            cells,
-            form(kinds),
-            ready.profile,
+    let profile = ready.profile;
+    match ready.part {
+        None => Ending::of_text(write_lines(lines, alloc, reader, writer, cells, limit, profile)),
+        Some(part) => Ending::of_text(write_range(
+            lines, part, alloc, reader, writer, cells, limit, profile,
         )),
     }
 }

@@ -96,7 +96,7 @@ returns-in-Some g c =
     let run = range_run (ends e _ _ _ _ _ _ _ _ _ _ _ _ _ _ _ _ _ _ d.going d.wait put c.in-Some.answer answer _ c.in_ok-write.ensures.out.written.1)
     c.args.part.from c.args.part.to (
       (omega (arith, d.start, l.invariant.at, c.loop-part-test.true, c.at.ensures, c.from.ensures), d.before c.args.part.to l.invariant.before),
-      λ full. (let late = c.put_within-put.ensures.memory full in omega (arith, late, c.write_due.ensures.at, l.invariant.at, d.start)),
+      λ full. (let late = c.put_within-put.ensures.memory full in omega (arith, late, c.write_due.ensures.left.at, l.invariant.at, d.start)),
     ) in
     record {
       shown = known_range c.args.part _ _ _ _ c.in-Some.answer _ _ _ _ run;

@@ -5,6 +5,7 @@ use Rattle.lbk_passage.specs.Marks.{marks, ended}
 use Rattle.lbk_passage.specs.Passages.{is_must}
 use Rattle.lbk_cmd.specs.Engines.{lines_of}
 use Rattle.lbk_cmd.specs.Mark.{signed_passage}
+use Rattle.lbk_cmd.specs.declared.engine.Lines.TheVariants.{Text}
 use Rattle.lbk_cmd.specs.Show.{verdicts_of}
 use Rattle.lbk_cmd.proofs.PassageLines.{shown-is}
 use Rattle.lbk_cmd.proofs.Signing.{passage_signed, text_signed}
@@ -23,7 +24,7 @@ returns-in-Signed-clause-text g c =
     (text_signed profile cell text c.utf8.text mark
     ∙ ap (λ l. signed_passage mark cell (marks profile cell (chars l))) (sym bytes)
     ∙ passage_signed mark s ms p cell profile cell_is profile_is of (ap (λ v. is_must v.kind) end ∙ must)
-    ∙ ap (λ k. lines_of k cell p.start ms) (sym c.in-Signed.is)))
+    ∙ ap (λ k. lines_of (Text k) cell p.start ms) (sym c.in-Signed.is)))
     c.push_signed.ensures.all
 
 pub returns-in_ok-decide-in-Shown-clause-text : goal.returns-in_ok-decide-in-Shown-clause-text
@@ -38,5 +39,5 @@ returns-in_ok-decide-in-Shown-clause-text g c =
     (ap (λ l. passage_line (chars text) l ++ 10 ∷ []) (c.deref.ensures.value ∙ c.in_ok-decide-in-Shown.ensures.verdicts)
     ∙ ap₂ (λ t v. passage_line (chars t) (verdicts_of (ended v (marks profile cell (chars t)))) ++ 10 ∷ []) (sym bytes) (sym end)
     ∙ shown-is cell profile s ms p cell_is profile_is of
-    ∙ ap (λ k. lines_of k cell p.start ms) (sym c.in-Shown.is)))
+    ∙ ap (λ k. lines_of (Text k) cell p.start ms) (sym c.in-Shown.is)))
     c.push_shown.ensures.all
