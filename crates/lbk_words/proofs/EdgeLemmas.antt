@@ -72,7 +72,7 @@ is-classed byte few =
     }
 
 -- before the first byte of a block is nothing, and the class of the first byte itself does as well
-pub mark-between : (i : ℕ) (mid before after : Bool) → (i ≡ 0 → (mid && before) ≡ false) → (mid && ((nat_lt 0 i && before) && after)) ≡ (mid && (before && after))
+mark-between : (i : ℕ) (mid before after : Bool) → (i ≡ 0 → (mid && before) ≡ false) → (mid && ((nat_lt 0 i && before) && after)) ≡ (mid && (before && after))
 mark-between zero mid before after apart = by mid before (apart refl)
   where
     by : (m b : Bool) → (m && b) ≡ false → (m && ((false && b) && after)) ≡ (m && (b && after))
@@ -80,6 +80,16 @@ mark-between zero mid before after apart = by mid before (apart refl)
     by true false e = refl
     by true true e = absurd (let never : ⊥ = cc in never)
 mark-between (suc i) mid before after apart = ap (λ b. mid && ((b && before) && after)) (lt-ltb 0 (suc i) (omega arith))
+
+-- bits that are between two of the others stand for bytes between two of the other class
+pub mid-at : (found bits others : ℕ) (mid other : ℕ → Bool) (i : ℕ) → i < 63
+    → is_set found i ≡ (is_set bits i && ((nat_lt 0 i && is_set others (i - 1)) && is_set others (i + 1)))
+    → is_set bits i ≡ mid i → ((j : ℕ) → j < 64 → is_set others j ≡ other j) → (mid i && other i) ≡ false
+    → is_set found i ≡ (mid i && (other (i - 1) && other (i + 1)))
+mid-at found bits others mid other i few is mids same apart =
+    is
+    ∙ ap₂ (λ a b. a && b) mids (ap₂ (λ a b. (nat_lt 0 i && a) && b) (same (i - 1) (omega arith)) (same (i + 1) (omega arith)))
+    ∙ mark-between i (mid i) (other (i - 1)) (other (i + 1)) (λ zero_is. ap (λ n. mid i && other n) (let e : i - 1 ≡ i = omega arith in e) ∙ apart)
 
 -- Edges
 

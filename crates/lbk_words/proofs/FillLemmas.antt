@@ -93,12 +93,12 @@ from_bool-few true = omega arith
 from_bool-few false = omega arith
 
 -- how many were given, which, and the others
-pub record Gives (all front more : List Word) (count room : ℕ) : Type 0 where
+pub record Gives {A : Type 0} (all front more : List A) (count room : ℕ) : Type 0 where
   pub counted : count ≡ min room (length all)
   pub same : front ≡ take count all
   pub left : more ≡ drop count all
 
-pub gives : (all front more : List Word) (count room : ℕ) → all ≡ front ++ more → length front ≡ count → count ≤ room
+pub gives : {A : Type 0} (all front more : List A) (count room : ℕ) → all ≡ front ++ more → length front ≡ count → count ≤ room
     → (count ≡ room) ⊎ (more ≡ []) → Gives all front more count room
 gives all front more count room joined many within full = record {
   counted =

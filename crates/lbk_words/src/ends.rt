@@ -1,6 +1,6 @@
 //! Where the parts of a text end: its cutting at word boundaries (UAX #29, section 4).
 
-ghost use Rattle.std.specs.Prelude.{◌≡◌, ℕ, ◌+◌, ◌-◌, ◌<◌, ◌≤◌, ◌^◌, ◌++◌, List, get_or, length, replicate, take};
+ghost use Rattle.std.specs.Prelude.{◌≡◌, ℕ, ◌+◌, ◌-◌, ◌<◌, ◌≤◌, ◌^◌, List, get_or, length, take};
 ghost use Rattle.lbk_masks.specs.Sets.{is_set};
 ghost use Rattle.lbk_words.specs.Ends.{AreEnds, AreParts, AreTold, PutsOn, is_pair};
 
@@ -79,10 +79,9 @@ fn put_by_steps(text: &[u8], start: usize, count: usize, out: &mut [usize]) -> u
         if count == out.len() {
             return count;
         }
-        if may_tell(text, at) {
-            if next.step.cuts {
-                return count;
-            }
+        let ends_here = may_tell(&text[at..]) & next.step.cuts;
+        if ends_here {
+            return count;
         }
         at = next.end;
         row = next.step.next;
@@ -119,45 +118,37 @@ fn ends_from(text: &[u8], start: usize) -> u64
     requires { start < length text.now }
     ensures { 0 < result → AreTold text.now start result }
 {
-    if !may_tell(text, start) {
+    let rest = &text[start..];
+    if !may_tell(rest) {
         return 0;
     }
-    let rest = &text[start..];
     if rest.len() < BLOCK {
         return ends_of_few(rest);
     }
     ends_in(rest)
 }
 
-/// The ends that bits tell of the parts of a text of fewer than 64 bytes, but for the last.
+/// The ends that bits tell of the parts of a text of fewer than 64 bytes, but for the last. They are those of the text
+/// and zeros behind it.
 fn ends_of_few(text: &[u8]) -> u64
     requires { length text.now < 64 }
     ensures { (stop : ℕ) × (stop ≤ length text.now) × AreEnds text.now 0 stop result }
 {
-    kept_below(ends_in(&padded(text)), text.len())
-}
-
-/// The bytes of a text, and zeros behind them.
-#[inline(always)]
-fn padded(text: &[u8]) -> [u8; BLOCK]
-    requires { length text.now < 64 }
-    ensures { result ≡ text.now ++ replicate (64 - length text.now) 0 }
-{
     let mut bytes = [0; BLOCK];
     bytes[..text.len()].copy_from_slice(text);
-    bytes
+    kept_below(ends_in(&bytes), text.len())
 }
 
-/// Whether bits are likely to tell the end of the part that begins at a byte.
+/// Whether bits are likely to tell the end of the part at the front of some bytes.
 #[inline(always)]
-fn may_tell(text: &[u8], start: usize) -> bool
-    requires { start < length text.now }
+fn may_tell(bytes: &[u8]) -> bool
+    requires { 0 < length bytes.now }
 {
-    let first = text[start];
-    if LONG <= first || text.len() - start < FEW {
+    let first = bytes[0];
+    if LONG <= first || bytes.len() < FEW {
         return false;
     }
-    is_usual(first) && (0x80 <= first || is_usual(text[start + 1]))
+    is_usual(first) && (0x80 <= first || is_usual(bytes[1]))
 }
 
 /// Whether a byte is below 128, or one with which most letters of two bytes begin.

@@ -1,4 +1,5 @@
-use Rattle.std.proofs.Common.{◌≡◌, ℕ, ◌-◌, get_or, length, min, ap, ◌∙◌, arith}
+use Rattle.std.proofs.Common.{ℕ, ◌-◌, ◌++◌, List, get_or, length, min, ap, ap₂, ◌∙◌, arith}
+use Rattle.std.proofs.lemmas.List.{drop-replicate}
 use Rattle.lbk_words.proofs.SameLemmas.{ends-same, same-padded}
 use Rattle.lbk_words.proofs.ends.ends_of_few.Goals as goal
 
@@ -6,8 +7,9 @@ pub returns : goal.returns
 returns c =
     let text = c.args.text.now in
     let found = c.ends_in.ensures in
-    let same : (i : ℕ) → get_or c.padded.result i 0 ≡ get_or text i 0 = λ i. ap (λ bytes. get_or bytes i 0) c.padded.ensures ∙ same-padded text (64 - length text) i in (
+    let is = ap₂ (λ (a b : List ℕ). a ++ b) c.copy_from_slice.ensures.after (drop-replicate (length text) 64 0) in
+    let same = λ (i : ℕ). ap (λ (bytes : List ℕ). get_or bytes i 0) is ∙ same-padded text (64 - length text) i in (
       min found.0 (length text),
       omega arith,
-      ends-same c.padded.result text same 0 found.0 (length text) c.ends_in.result c.kept_below.result c.requires found.1 c.kept_below.ensures,
+      ends-same _ text same 0 found.0 (length text) c.ends_in.result c.kept_below.result c.requires found.1 c.kept_below.ensures,
     )

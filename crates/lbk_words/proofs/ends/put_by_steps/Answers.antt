@@ -1,5 +1,6 @@
 use Rattle.std.proofs.Common.{ℕ, List, ◌≡◌, ◌+◌, ◌<◌, length, sym, subst, ap, arith}
 use Rattle.std.specs.Int.{from_bool}
+use Rattle.std.proofs.lemmas.Bool.{and_parts}
 use Rattle.std.proofs.Math.ListN.{length-set, set}
 use Rattle.lbk_words.specs.declared.steps.NextStep.{NextStep}
 use Rattle.lbk_words.specs.Ends.{IsReading}
@@ -39,26 +40,15 @@ returns-then-count-out c = record {
   parts = λ from parts. let r = taken c.next_step-next.ensures c.scalars.invariant.count.1 c.from-count.ensures (c.scalars.invariant.reads from parts) in (r.begin, r.parts);
 }
 
-pub returns-then-next : goal.returns-then-next
-returns-then-next c = record {
-  more = (let one = ap from_bool c.if-next.true in omega (arith, c.scalars.invariant.count, c.from-count.ensures));
+pub returns-then-ends_here : goal.returns-then-ends_here
+returns-then-ends_here c = record {
+  more = (let one : from_bool c.next_step-next.result.step.cuts ≡ 1 = ap from_bool (and_parts _ _ c.if-ends_here.true).1 in omega (arith, c.scalars.invariant.count, c.from-count.ensures));
   within = omega (arith, length-set {A = ℕ}, c.scalars.invariant.count, c.from-count.ensures, from_bool-few);
   parts = λ from parts. let r = taken c.next_step-next.ensures c.scalars.invariant.count.1 c.from-count.ensures (c.scalars.invariant.reads from parts) in (r.begin, r.parts);
 }
 
 pub scalars-preserved : goal.scalars-preserved
 scalars-preserved c =
-    let l = c.scalars in
-    let next = c.next_step-next.ensures in
-    record {
-      few = next.step.next;
-      within = next.read.within;
-      count = (omega (arith, l.invariant.count), omega (arith, l.invariant.count, length-set {A = ℕ}, c.from-count.ensures, from_bool-few));
-      reads = λ from parts. taken next l.invariant.count.1 c.from-count.ensures (l.invariant.reads from parts);
-    }
-
-pub scalars-preserved-else-next : goal.scalars-preserved-else-next
-scalars-preserved-else-next c =
     let l = c.scalars in
     let next = c.next_step-next.ensures in
     record {

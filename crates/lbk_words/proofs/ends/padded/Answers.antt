@@ -1,6 +1,0 @@
-use Rattle.std.proofs.Common.{◌++◌, ap₂, length}
-use Rattle.std.proofs.lemmas.List.{drop-replicate}
-use Rattle.lbk_words.proofs.ends.padded.Goals as goal
-
-pub returns : goal.returns
-returns c = ap₂ (λ a b. a ++ b) c.copy_from_slice.ensures.after (drop-replicate (length c.args.text.now) 64 0)
