@@ -1,9 +1,9 @@
 -- The breaks of a text, of which some were found.
-use Rattle.std.proofs.Common.{◌≡◌, ℕ, suc, ◌+◌, ◌-◌, ◌≤◌, ◌<◌, min, true, false, cond, ◌⊎◌, inl, inr, ⊎_elim, List, [], ◌∷◌, ◌++◌, length, map, take, drop, refl, sym, ap, ap₂, subst, ◌∙◌, arith, lit<}
+use Rattle.std.proofs.Common.{◌≡◌, ℕ, suc, ◌+◌, ◌-◌, ◌≤◌, ◌<◌, min, true, false, cond, ◌⊎◌, inl, inr, List, [], ◌∷◌, ◌++◌, length, map, take, drop, refl, sym, ap, ap₂, subst, ◌∙◌, arith, lit<}
 use Rattle.std.specs.Char.{encode_utf8}
 use Rattle.std.specs.Str.{IsUtf8, chars, encode_utf8_all}
 use Rattle.std.proofs.lemmas.Bool.{false≢true}
-use Rattle.std.proofs.lemmas.List.{append-nil, get_or-take, length-append, length-drop, length-map, length-take-le, take-append-drop, take_at}
+use Rattle.std.proofs.lemmas.List.{append-nil, get_or-take, length-append, length-drop, length-map, length-take-le, take-append-drop}
 use Rattle.std.proofs.lemmas.Str.{chars-encodes, encodes-chars, length-le-encodes}
 use Rattle.std.proofs.Math.Seq.{drop-append-add, drop-append_seam, drop-drop, drop-length}
 use lib.Utf8.{scalars}
@@ -19,6 +19,7 @@ use Rattle.lbk_rules.specs.Marks.{Marked, marks, marks_behind, scalars_of}
 use Rattle.lbk_rules.specs.Rows.{IsPlace}
 use Rattle.lbk_rules.proofs.FlatLemmas.{left-start}
 use Rattle.lbk_rules.proofs.MarkLemmas.{scalars-behind}
+use Rattle.lbk_words.proofs.FillLemmas.{gives}
 use Rattle.lbk_words.proofs.WellFormedLemmas.{good_of, pieces-encode}
 use Rattle.lbk_bytes.specs.declared.fill_state.FillState.{FillState}
 use Rattle.lbk_bytes.specs.declared.raw_break.RawBreak.{RawBreak}
@@ -105,27 +106,22 @@ within-more n count all front more within joined many =
     let whole = ap length joined in
     omega (arith, length-drop n all, length-append front more)
 
--- how many of those to come a call gives, and which
-pub record Gives (to_come front : List Break) (count room : ℕ) : Type 0 where
-  pub counted : count ≡ min room (length to_come)
-  pub same : front ≡ take count to_come
-
-gives : (to_come front more : List Break) (count room : ℕ) → to_come ≡ front ++ more → length front ≡ count → count ≤ room
-    → (count ≡ room) ⊎ (more ≡ []) → Gives to_come front count room
-gives to_come front more count room joined many within full = record {
-  counted =
-      let whole = ap length joined in
-      let sum = length-append front more in
-      ⊎_elim (λ (same : count ≡ room). omega arith) (λ (none : more ≡ []). (let no = ap length none in omega arith)) full;
-  same = sym (ap (take count) joined ∙ take_at front more count many);
-}
-
-module _ (profile : Profile) (cell : ℕ → Cell) (text : List ℕ) (from : Progress) (found : IsFound profile cell text from) where
+module _ {profile : Profile} {cell : ℕ → Cell} {text : List ℕ} {from : Progress} (found : IsFound profile cell text from) where
   abbrev pub all : List Break
   all = breaks profile cell (chars text)
 
   abbrev pub to_come : List Break
   to_come = left_after profile cell text from
+
+  -- a call goes on from where the first breaks were found to, over bytes that are those of the text
+  pub reached-on : from.ended ≡ false → (bytes : List ℕ) → bytes ≡ text → {here : FillState} {front : List Break}
+      → (Reached profile cell bytes (record { breaks = to_come; end = closed_end }) (record { count = 0; row = from.row; at = from.at }) []
+      → Reached profile cell bytes (record { breaks = to_come; end = closed_end }) here front)
+      → Reached profile cell text (record { breaks = to_come; end = closed_end }) here front
+  reached-on goes_on bytes same {here} {front} fill =
+      subst (λ t. Reached profile cell t (record { breaks = to_come; end = closed_end }) here front) same
+      (fill (subst (λ t. Reached profile cell t (record { breaks = to_come; end = closed_end }) (record { count = 0; row = from.row; at = from.at }) []) (sym same)
+      (found.goes_on goes_on)))
 
   same-count : (count : ℕ) → from.found + count - from.found ≡ count
   same-count count = omega arith
@@ -232,7 +228,7 @@ module _ (profile : Profile) (cell : ℕ → Cell) (text : List ℕ) (from : Pro
   end-few here before out count utf8 r ends put few = found-few here out count [] utf8 (at-end here before out count r ends put) few
 
 -- what a call found, and what comes behind it, is what was left
-module _ (profile : Profile) (cell : ℕ → Cell) (text : List ℕ) (from to : Progress) (room : ℕ) (out : List RawBreak)
+module _ {profile : Profile} {cell : ℕ → Cell} {text : List ℕ} {from to : Progress} {room : ℕ} {out : List RawBreak}
     (f : FindsNext profile cell text from to room out) where
   pub left-on : left_after profile cell text to ≡ drop (to.found - from.found) (left_after profile cell text from)
   left-on =

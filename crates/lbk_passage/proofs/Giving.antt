@@ -1,5 +1,6 @@
 -- What a call of `next` leaves, by the answer of the call that fills a paragraph.
-use Rattle.std.proofs.Common.{◌≡◌, ◌⊎◌, ℕ, ◌-◌, ◌<◌, Bool, true, false, ◌||◌, List, [], ◌∷◌, ◌++◌, length, Option, None, Some, Result, Ok, Err, is_ok, OnOk, OnErr, string_bytes, string_len, encode_utf8_all, chars, IsUtf8, if◌then◌else◌, refl, sym, ap, subst, ◌∙◌, arith, inl, inr, ⊎_elim}
+use Rattle.std.proofs.Common.{◌≡◌, ◌⊎◌, ℕ, ◌+◌, ◌-◌, ◌*◌, ◌<◌, ◌≤◌, Bool, true, false, ◌||◌, List, [], ◌∷◌, ◌++◌, length, Option, None, Some, Result, Ok, Err, is_ok, max, OnOk, OnErr, string_bytes, string_len, encode_utf8_all, chars, IsUtf8, if◌then◌else◌, refl, sym, ap, subst, ◌∙◌, arith, inl, inr, ⊎_elim}
+use Rattle.std.proofs.Math.Nat.{le-max_left}
 use Rattle.std.proofs.lemmas.Str.{chars-nil, encodes-chars, IsUtf8-string_bytes}
 use Rattle.std.specs.Io.KnownBytes.{prepend_known}
 use Rattle.lbk_feed.specs.Devices.{Reads}
@@ -10,10 +11,10 @@ use Rattle.lbk_rules.specs.declared.Verdict.{Verdict}
 use Rattle.lbk_passage.specs.Marks.{Marked, marks, ended, scalars_of, text_of}
 use Rattle.lbk_passage.specs.Segments.{segments_of}
 use Rattle.lbk_passage.specs.Pieces.{pieces_of}
-use Rattle.lbk_passage.specs.Shown.{Found, LacksRoom}
+use Rattle.lbk_passage.specs.Shown.{Found, KeepsRoom, LacksRoom}
 use Rattle.lbk_passage.specs.State.{State, state_with, text_held}
-use Rattle.lbk_passage.specs.Next.{Answers, AfterNext, IsPlaced, Lends, ComesFirst, GoesOn, IsLast, Stops, KeepsAhead, WereDue}
-use Rattle.lbk_passage.specs.Gathering.{Fills, FillAnswers, IsFirst, IsSame}
+use Rattle.lbk_passage.specs.Next.{fault_in, lends as is_lent, lent_text, Answers, AfterNext, IsPlaced, Lends, ComesFirst, GoesOn, GoesOnce, IsDone, IsLast, Stops, KeepsAhead, WereDue}
+use Rattle.lbk_passage.specs.Gathering.{Asks, Fills, FillAnswers, IsFirst, IsSame}
 use Rattle.lbk_passage.specs.declared.faults.PassageFault.{PassageFault}
 use Rattle.lbk_passage.specs.declared.faults.PassageFault.TheVariants.{Limit, Memory, Read, NotUtf8, TextTooLong, ParagraphTooLong, Spent}
 use Rattle.lbk_passage.specs.declared.paragraph.Paragraph.{Paragraph}
@@ -21,6 +22,7 @@ use Rattle.lbk_passage.specs.declared.passage.Passage.{Passage}
 use Rattle.lbk_passage.proofs.Finding.{Shows}
 use Rattle.lbk_rules.proofs.MarkLemmas.{scalars-behind, scalars-ended}
 use Rattle.lbk_passage.proofs.Gathered.{Shows-of}
+use Rattle.lbk_passage.proofs.Settling.{ok_err, some_none}
 use Rattle.lbk_passage.proofs.Taking.{string_len-is}
 
 pub or-cases : (a b : Bool) → (a || b) ≡ true → (a ≡ true) ⊎ (b ≡ true)
@@ -41,76 +43,82 @@ pub on_err : {T E : Type 0} (P : Type 0) (r : Result T E) → is_ok r ≡ false 
 on_err P (Ok x) is h = cc
 on_err P (Err e) is h = h
 
--- a fault is `Spent` only where one was answered before
-pub spent_by : (s : State) (p : Paragraph) (was : Bool) (fault : PassageFault) → FillAnswers s p was (Err fault) → fault ≡ Spent → was ≡ true
-spent_by s p was fault answer is =
-    ⊎_elim (λ a. a.1) (λ stops. absurd (let at_spent : Stops s Spent = subst (Stops s) is stops in at_spent.lies)) answer
-
 -- no fault is none of memory
 pub no_fault : (P : Type 0) → None ≡ Some Memory → P
 no_fault P is = cc
 
--- a paragraph is gathered in memory that is there
-pub never_memory : (s : State) (p : Paragraph) (was : Bool) (fault : PassageFault) → FillAnswers s p was (Err fault) → ¬ (fault ≡ Memory)
-never_memory s p was fault answer is =
-    ⊎_elim (λ a. let e : Spent ≡ Memory = sym a.0 ∙ is in cc) (λ stops. let at_memory : Stops s Memory = subst (Stops s) is stops in at_memory.lies) answer
+-- room for at most twice so many
+pub most_of : (room had : ℕ) {n m : ℕ} → n ≡ m → room ≤ max had (2 * n) → room ≤ max had (2 * m)
+most_of room had same most = subst (λ k. room ≤ max had (2 * k)) same most
 
-module _ (cell : ℕ → Cell) (profile : Profile) (old p : Paragraph) (u v : Option (List ℕ)) (e e' : Bool) (reads reads' : Reads) where
-  fault-answers : (s : State) (fault : PassageFault) → FillAnswers s p old.is_spent (Err fault) → Answers (state_with cell profile old) s (Err fault)
-  fault-answers s Limit (inl h) = absurd (let e = h.0 in cc)
-  fault-answers s Limit (inr h) = h
-  fault-answers s Memory (inl h) = absurd (let e = h.0 in cc)
-  fault-answers s Memory (inr h) = absurd h.lies
-  fault-answers s Read (inl h) = absurd (let e = h.0 in cc)
-  fault-answers s Read (inr h) = h
-  fault-answers s (NotUtf8 at) (inl h) = absurd (let e = h.0 in cc)
-  fault-answers s (NotUtf8 at) (inr h) = h
-  fault-answers s TextTooLong (inl h) = absurd (let e = h.0 in cc)
-  fault-answers s TextTooLong (inr h) = h
-  fault-answers s (ParagraphTooLong start) (inl h) = absurd (let e = h.0 in cc)
-  fault-answers s (ParagraphTooLong start) (inr h) = h
-  fault-answers s Spent (inl h) = h.1
-  fault-answers s Spent (inr h) = absurd h.lies
+-- room stays where nothing is found
+pub Keeps-same : (found : Found) (s : State) (fault : Option PassageFault) → ¬ (fault ≡ Some Memory) → KeepsRoom found found s fault
+Keeps-same found s fault other = record {
+  for_segments = omega arith;
+  for_pieces = omega arith;
+  few_segments = le-max_left found.room_for_segments (2 * length found.segments);
+  few_pieces = le-max_left found.room_for_pieces (2 * length found.pieces);
+  memory = λ is. absurd (other is);
+}
 
-  pub After-fault : (fault : PassageFault) → Fills cell profile old p u v e e' reads reads' (Err fault)
-      → AfterNext (state_with cell profile old) (state_with cell profile p) u v e e' reads reads' (Err fault)
-  After-fault fault f = record {
+fault-answers : (old s : State) (p : Paragraph) (fault : PassageFault) → FillAnswers s p old.is_spent (Err fault) → Answers old s (Err fault)
+fault-answers old s p Limit (inl h) = absurd (let e = h.0 in cc)
+fault-answers old s p Limit (inr h) = h
+fault-answers old s p Memory (inl h) = absurd (let e = h.0 in cc)
+fault-answers old s p Memory (inr h) = absurd h.lies
+fault-answers old s p Read (inl h) = absurd (let e = h.0 in cc)
+fault-answers old s p Read (inr h) = h
+fault-answers old s p (NotUtf8 at) (inl h) = absurd (let e = h.0 in cc)
+fault-answers old s p (NotUtf8 at) (inr h) = h
+fault-answers old s p TextTooLong (inl h) = absurd (let e = h.0 in cc)
+fault-answers old s p TextTooLong (inr h) = h
+fault-answers old s p (ParagraphTooLong start) (inl h) = absurd (let e = h.0 in cc)
+fault-answers old s p (ParagraphTooLong start) (inr h) = h
+fault-answers old s p Spent (inl h) = h.1
+fault-answers old s p Spent (inr h) = absurd h.lies
+
+module _ {cell : ℕ → Cell} {profile : Profile} {old p : Paragraph} {u v : Option (List ℕ)} {e e' : Bool} {reads reads' : Reads} where
+  -- a fault is `Spent` only where one was answered before
+  spent_by : {fault : PassageFault} → Fills cell profile old p u v e e' reads reads' (Err fault) → fault ≡ Spent → old.is_spent ≡ true
+  spent_by f is = ⊎_elim (λ a. a.1) (λ stops. absurd (let at_spent : Stops (state_with cell profile p) Spent = subst (Stops (state_with cell profile p)) is stops in at_spent.lies)) f.answer
+
+  -- a paragraph is gathered in memory that is there
+  pub never_memory : {fault : PassageFault} → Fills cell profile old p u v e e' reads reads' (Err fault) → ¬ (fault ≡ Memory)
+  never_memory f is =
+      ⊎_elim (λ a. let e : Spent ≡ Memory = sym a.0 ∙ is in cc)
+      (λ stops. let at_memory : Stops (state_with cell profile p) Memory = subst (Stops (state_with cell profile p)) is stops in at_memory.lies) f.answer
+
+  -- an answer that lends nothing, and is of the fault of the call that filled the paragraph, if any
+  after-nothing : {r : Result (Option Verdict) PassageFault} (answer : Result (Option Passage) PassageFault) → lent_text answer ≡ [] → is_lent answer ≡ false
+      → fault_in answer ≡ fault_in r → Answers (state_with cell profile old) (state_with cell profile p) answer
+      → Fills cell profile old p u v e e' reads reads' r
+      → AfterNext (state_with cell profile old) (state_with cell profile p) u v e e' reads reads' answer
+  after-nothing answer none out same says f = record {
     alike = record { cell = refl; profile = refl; limit = f.limit };
-    answer = fault-answers (state_with cell profile p) fault f.answer;
-    start = omega (arith, f.start);
-    spent = f.spent;
-    settled = f.in_hand;
+    answer = says;
+    start = omega (arith, f.start, ap length none);
+    spent = rw same f.spent;
+    settled = rw out f.in_hand;
     got = f.got;
-    grown = f.grown;
-    ahead_kept = f.ahead_kept;
-    begins = f.begins;
-    costs = f.costs;
+    grown = rw none f.grown;
+    ahead_kept = rw (none, same) f.ahead_kept;
+    begins = rw none f.begins;
+    costs = rw (none, same) f.costs;
     agrees = f.agrees;
     notices = f.notices;
-    quiet = f.quiet;
-    still = f.still;
+    quiet = rw (none, same) f.quiet;
+    still = rw (none, same) f.still;
   }
+
+  pub After-fault : {fault : PassageFault} → Fills cell profile old p u v e e' reads reads' (Err fault)
+      → AfterNext (state_with cell profile old) (state_with cell profile p) u v e e' reads reads' (Err fault)
+  After-fault {fault} f = after-nothing (Err fault) refl refl refl (fault-answers (state_with cell profile old) (state_with cell profile p) p fault f.answer) f
 
   pub After-none : Fills cell profile old p u v e e' reads reads' (Ok None)
       → AfterNext (state_with cell profile old) (state_with cell profile p) u v e e' reads reads' (Ok None)
-  After-none f = record {
-    alike = record { cell = refl; profile = refl; limit = f.limit };
-    answer = f.answer;
-    start = omega (arith, f.start);
-    spent = f.spent;
-    settled = f.in_hand;
-    got = f.got;
-    grown = f.grown;
-    ahead_kept = f.ahead_kept;
-    begins = f.begins;
-    costs = f.costs;
-    agrees = f.agrees;
-    notices = f.notices;
-    quiet = f.quiet;
-    still = f.still;
-  }
+  After-none f = after-nothing (Ok None) refl refl refl f.answer f
 
-  module _ (end : Verdict) (f : Fills cell profile old p u v e e' reads reads' (Ok (Some end))) where
+  module _ {end : Verdict} (f : Fills cell profile old p u v e e' reads reads' (Ok (Some end))) where
     shows : Shows (state_with cell profile p) p
     shows = Shows-of cell profile p f.in_hand
 
@@ -279,3 +287,36 @@ module _ (cell : ℕ → Cell) (profile : Profile) (old p : Paragraph) (u v : Op
 
       pub After-lent : AfterNext (state_with cell profile old) (state_with cell profile q) u v e e' reads reads' (Ok (Some pg)) × IsPlaced pg
       After-lent = (After-passage, lent_placed)
+
+-- what a call that goes to the next passage answers, and how often it reads, by the call that fills a paragraph
+module _ {R X : Type 0} {cell : ℕ → Cell} {profile : Profile} {old p : Paragraph} {u v : Option (List ℕ)} {e e' : Bool} {reads reads' : Reads}
+    {reader reader' : R} {made made' : ℕ} {r : Result (Option Verdict) PassageFault} (f : Fills cell profile old p u v e e' reads reads' r)
+    {failure_count : R → ℕ} (asks : Asks failure_count old reader reader' made made' r)
+    (again : IsDone (state_with cell profile old) → old.is_spent ≡ false → r ≡ Ok None) where
+  goes : (answer : Result (Option X) PassageFault) → (r ≡ Err Spent → answer ≡ Err Spent) → (answer ≡ Err Spent → old.is_spent ≡ true)
+      → (r ≡ Ok None → answer ≡ Ok None) → GoesOnce (state_with cell profile old) reader reader' made made' answer
+  goes answer refuses only none = record {
+    spent = λ was. refuses (asks.refused was);
+    spent_only = only;
+    again = λ done unspent. none (again done unspent);
+    settled = λ seen. ⊎_elim asks.quiet asks.spent (or-cases old.is_held old.is_spent seen);
+    ended = asks.ended;
+    reads = omega (arith, asks.reads);
+  }
+
+  pub Goes-fault : {fault : PassageFault} → r ≡ Err fault → GoesOnce {X = X} (state_with cell profile old) reader reader' made made' (Err fault)
+  Goes-fault {fault} was =
+      goes (Err fault) (λ is. let same : fault ≡ Spent = cc in ap (λ (f : PassageFault). Err f) same)
+      (λ is. spent_by (subst (Fills cell profile old p u v e e' reads reads') was f) (let same : fault ≡ Spent = cc in same))
+      (λ is. absurd (ok_err r None fault is was))
+
+  pub Goes-none : r ≡ Ok None → GoesOnce {X = X} (state_with cell profile old) reader reader' made made' (Ok None)
+  Goes-none was = goes (Ok None) (λ is. absurd (ok_err r None Spent was is)) (λ is. absurd (ok_err (Ok None) None Spent refl is)) (λ is. refl)
+
+  pub Goes-some : {end : Verdict} → r ≡ Ok (Some end) → (answer : Result (Option X) PassageFault) → ¬ (answer ≡ Err Spent)
+      → GoesOnce (state_with cell profile old) reader reader' made made' answer
+  Goes-some {end} was answer other =
+      goes answer (λ is. absurd (ok_err r (Some end) Spent was is)) (λ is. absurd (other is)) (λ is. absurd (some_none r end was is))
+
+  pub Goes-lent : {end : Verdict} (lent : X) → r ≡ Ok (Some end) → GoesOnce (state_with cell profile old) reader reader' made made' (Ok (Some lent))
+  Goes-lent lent was = Goes-some was (Ok (Some lent)) (λ is. ok_err (Ok (Some lent)) (Some lent) Spent refl is)

@@ -62,7 +62,7 @@ IsKept-start profile cell text block size utf8 = record {
   given = (0, refl);
 }
 
-module _ (profile : Profile) (cell : ℕ → Cell) (text : List ℕ) (kept : Kept) (is : IsKept profile cell text kept) where
+module _ {profile : Profile} {cell : ℕ → Cell} {text : List ℕ} {kept : Kept} (is : IsKept profile cell text kept) where
   -- some of the block are given
   module _ (some : ℕ) (few : some ≤ kept.left) where
     abbrev pub front : List Break
@@ -94,14 +94,14 @@ module _ (profile : Profile) (cell : ℕ → Cell) (text : List ℕ) (kept : Kep
     }
 
   -- the next breaks are found, where the block holds none
-  module _ (none : kept.left ≡ 0) (room : ℕ) (to : Progress) (block : List RawBreak) (f : FindsNext profile cell text kept.progress to room block)
+  module _ (none : kept.left ≡ 0) {room : ℕ} {to : Progress} {block : List RawBreak} (f : FindsNext profile cell text kept.progress to room block)
       (size : length block ≡ 64) (few : to.found - kept.progress.found ≤ 64) where
     abbrev pub filled : Kept
     filled = record { progress = to; block = block; next = 0; left = to.found - kept.progress.found }
 
     pub filled-same : to_give profile cell text filled ≡ to_give profile cell text kept
     filled-same =
-        rest-on profile cell text kept.progress to room block f
+        rest-on f
         ∙ ap (λ n. given_in (drop kept.next kept.block) n ++ left_after profile cell text kept.progress) (sym none)
 
     pub IsKept-filled : IsKept profile cell text filled

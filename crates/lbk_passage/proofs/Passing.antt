@@ -46,12 +46,33 @@ chars-byte text utf8 some ascii =
     (reads text (drop 1 text) 0 byte utf8 (IsCharBoundary-from_drop text 0 (omega arith) utf8)
     (drop_more text 0 0 some ∙ ap (λ l. l ++ drop 1 text) (sym (encode_ascii byte ascii)))).begins
 
-module _ (cell : ℕ → Cell) (first : Option Class) (piece : List ℕ) (room : ℕ) (utf8 : IsUtf8 piece) where
+-- a scalar that stands before a place where one begins ends there or before
+fits : (piece : List ℕ) → IsUtf8 piece → (len next c : ℕ) (more : List ℕ) → IsCharBoundary piece len → IsCharBoundary piece next → len < next
+    → drop len piece ≡ encode_utf8 c ++ more → len + length (encode_utf8 c) ≤ next
+fits piece utf8 len next c more here there before splits =
+    let text = IsUtf8-between piece len next utf8 (omega arith) here there in
+    let size : length (take (next - len) (drop len piece)) ≡ next - len =
+    length-take-le (next - len) (drop len piece) (omega (arith, length-drop len piece, there.0)) in
+    first_of text.0 text.1.1 size
+  where
+    first_of : (ds : List ℕ) → encode_utf8_all ds ≡ take (next - len) (drop len piece) → length (take (next - len) (drop len piece)) ≡ next - len
+        → len + length (encode_utf8 c) ≤ next
+    first_of [] spelt size = let none : 0 ≡ next - len = ap length spelt ∙ size in absurd (let impossible : ⊥ = omega (arith, none) in impossible)
+    first_of (d ∷ ds) spelt size =
+        let whole : drop len piece ≡ encode_utf8 d ++ (encode_utf8_all ds ++ drop (next - len) (drop len piece)) =
+        sym (take-append-drop (next - len) (drop len piece)) ∙ ap (λ l. l ++ drop (next - len) (drop len piece)) (sym spelt)
+        ∙ append_assoc (encode_utf8 d) (encode_utf8_all ds) (drop (next - len) (drop len piece)) in
+        let same = encode_same c d more (encode_utf8_all ds ++ drop (next - len) (drop len piece)) (sym splits ∙ whole) in
+        let long : length (encode_utf8 d) + length (encode_utf8_all ds) ≡ next - len =
+        sym (length-append (encode_utf8 d) (encode_utf8_all ds)) ∙ ap length spelt ∙ size in
+        omega (arith, ap (λ x. length (encode_utf8 x)) same.0, long)
+
+module _ {cell : ℕ → Cell} {first : Option Class} {piece : List ℕ} {room : ℕ} (utf8 : IsUtf8 piece) where
   -- one more scalar
-  pub Passes-more : (len : ℕ) (last : Option Class) (c : ℕ) (more : List ℕ) → Passes cell first piece room len last
+  pub Passes-more : {len : ℕ} {last : Option Class} {c : ℕ} (more : List ℕ) → Passes cell first piece room len last
       → drop len piece ≡ encode_utf8 c ++ more → ends_at last (cell c).class ≡ false → length piece - length more ≤ room
       → Passes cell first piece room (length piece - length more) (Some (cell c).class)
-  Passes-more len last c more passes splits none within =
+  Passes-more {len} {last} {c} more passes splits none within =
       let r = reads piece more len c utf8 passes.place splits in
       record {
         taken = passes.taken ++ c ∷ [];
@@ -100,27 +121,6 @@ module _ (cell : ℕ → Cell) (first : Option Class) (piece : List ℕ) (room :
       (passes.last_is ∙ ap (last_class cell first) same ∙ last_class-append cell first (chars rest) (c ∷ []))
       passes
 
-  -- a scalar that stands before a place where one begins ends there or before
-  fits : (len next c : ℕ) (more : List ℕ) → IsCharBoundary piece len → IsCharBoundary piece next → len < next
-      → drop len piece ≡ encode_utf8 c ++ more → len + length (encode_utf8 c) ≤ next
-  fits len next c more here there before splits =
-      let text = IsUtf8-between piece len next utf8 (omega arith) here there in
-      let size : length (take (next - len) (drop len piece)) ≡ next - len =
-      length-take-le (next - len) (drop len piece) (omega (arith, length-drop len piece, there.0)) in
-      first_of text.0 text.1.1 size
-    where
-      first_of : (ds : List ℕ) → encode_utf8_all ds ≡ take (next - len) (drop len piece) → length (take (next - len) (drop len piece)) ≡ next - len
-          → len + length (encode_utf8 c) ≤ next
-      first_of [] spelt size = let none : 0 ≡ next - len = ap length spelt ∙ size in absurd (let impossible : ⊥ = omega (arith, none) in impossible)
-      first_of (d ∷ ds) spelt size =
-          let whole : drop len piece ≡ encode_utf8 d ++ (encode_utf8_all ds ++ drop (next - len) (drop len piece)) =
-          sym (take-append-drop (next - len) (drop len piece)) ∙ ap (λ l. l ++ drop (next - len) (drop len piece)) (sym spelt)
-          ∙ append_assoc (encode_utf8 d) (encode_utf8_all ds) (drop (next - len) (drop len piece)) in
-          let same = encode_same c d more (encode_utf8_all ds ++ drop (next - len) (drop len piece)) (sym splits ∙ whole) in
-          let long : length (encode_utf8 d) + length (encode_utf8_all ds) ≡ next - len =
-          sym (length-append (encode_utf8 d) (encode_utf8_all ds)) ∙ ap length spelt ∙ size in
-          omega (arith, ap (λ x. length (encode_utf8 x)) same.0, long)
-
   -- all scalars up to a place where one begins, where each of their bytes tells that a line must end behind none
   pub Passes-quiet : (is_quiet : List Bool) → AreQuiet cell is_quiet → (next : ℕ) → IsCharBoundary piece next → next ≤ room
       → (cs : List ℕ) (len : ℕ) (last : Option Class) → Passes cell first piece room len last → is_end last ≡ false
@@ -140,19 +140,19 @@ module _ (cell : ℕ → Cell) (first : Option Class) (piece : List ℕ) (room :
         let begins : slice_index_or piece len 0 ≡ first_byte c =
         ap (λ k. slice_index_or piece k 0) here ∙ sym (get_or-drop len piece 0 0) ∙ ap (λ l. slice_index_or l 0 0) splits ∙ get_or_append_left (encode_utf8 c) more 0 0 some in
         let quiet = are.first c (both-left _ _ all) (ap (λ b. slice_index_or is_quiet b false) (sym begins) ∙ passed len (omega arith) less) in
-        let ends = fits len next c more passes.place there less splits in
+        let ends = fits piece utf8 len next c more passes.place there less splits in
         let at : length piece - length more ≤ next = omega (arith, r.next_is, ends) in
         Passes-quiet is_quiet are next there within cs (length piece - length more) (Some (cell c).class)
-        (Passes-more len last c more passes splits (calm last (cell c).class calm_last) (omega (arith, at)))
+        (Passes-more more passes splits (calm last (cell c).class calm_last) (omega (arith, at)))
         quiet (both-right _ _ all) r.rest at
         (λ k from to. passed k (omega (arith, from, r.next_is)) to)
     | inr not_less ↦ let same : len ≡ next = omega (arith, not_less) in (last, subst (λ n. Passes cell first piece room n last) same passes)
   ]
 
   -- and no more
-  pub Passes-stops : (len : ℕ) (last : Option Class) (r : Reach) → Passes cell first piece room len last
+  pub Passes-stops : {len : ℕ} {last : Option Class} (r : Reach) → Passes cell first piece room len last
       → (r.len ≡ len) × (r.last ≡ last) → StopsBefore cell last len room r.stop (chars (drop len piece)) → Reaches cell first piece room r
-  Passes-stops len last r passes same stops = record {
+  Passes-stops {len} r passes same stops = record {
     taken = passes.taken;
     rest = chars (drop len piece);
     all = passes.all;

@@ -29,3 +29,7 @@ reads text more at c utf8 place splits =
       begins = chars_past_char (drop at text) more c here splits;
       place = IsCharBoundary-from_drop text (length text - length more) (omega arith) (subst IsUtf8 (sym rest) (IsUtf8-past_char (drop at text) more c here splits));
     }
+
+-- what is left of a text, and is read as a scalar and what an iterator has then, is that scalar and the text behind it
+pub next-splits : {behind text left more : List ℕ} (c : ℕ) → left ≡ behind → left ≡ encode_utf8 c ++ more → text ≡ more → behind ≡ encode_utf8 c ++ text
+next-splits c was splits is = sym was ∙ splits ∙ ap (λ bytes. encode_utf8 c ++ bytes) (sym is)

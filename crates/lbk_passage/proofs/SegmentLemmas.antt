@@ -1,5 +1,5 @@
 -- The segments of a passage, by the breaks of its text alone.
-use Rattle.std.proofs.Common.{◌≡◌, ℕ, ◌+◌, ◌<◌, Bool, true, false, cond, All, List, [], ◌∷◌, ◌++◌, map, length, take, encode_utf8_all, refl, sym, ap, ◌∙◌, arith}
+use Rattle.std.proofs.Common.{◌≡◌, ℕ, ◌+◌, ◌-◌, ◌<◌, Bool, true, false, cond, All, List, [], ◌∷◌, ◌++◌, map, length, take, encode_utf8_all, refl, sym, ap, ◌∙◌, arith}
 use Rattle.std.specs.Char.{encode_utf8}
 use Rattle.std.specs.Str.{IsUtf8, chars}
 use Rattle.std.proofs.lemmas.List.{append_cancel_left, length-append, length_push, map-append, take_at}
@@ -12,9 +12,12 @@ use Rattle.lbk_rules.specs.declared.Verdict.{Verdict}
 use Rattle.lbk_rules.specs.Verdict.{verdict_between_in}
 use Rattle.lbk_rules.proofs.EndLemmas.{must_at_end}
 use Rattle.lbk_bytes.specs.declared.raw_break.RawBreak.{RawBreak}
-use Rattle.lbk_bytes.specs.Shown.{shown}
+use Rattle.lbk_bytes.specs.Shown.{given_in, shown}
+use Rattle.lbk_passage.specs.declared.found.Progress.{Progress}
 use Rattle.lbk_passage.specs.declared.passage.Segment.{Segment}
 use Rattle.lbk_passage.specs.Breaks.{break_by, breaks, breaks_from, is_no}
+use Rattle.lbk_passage.specs.Found.{FindsNext, left_after}
+use Rattle.lbk_passage.proofs.FoundLemmas.{rest-on}
 use Rattle.lbk_passage.specs.Cuts.{cut_at, ending_by}
 use Rattle.lbk_passage.specs.Marks.{Marked, ended, marks, marks_behind, scalars_of}
 use Rattle.lbk_passage.specs.Segments.{segment_by, segments_from, segments_of}
@@ -25,6 +28,14 @@ use Rattle.lbk_rules.proofs.MarkLemmas.{scalars-behind}
 pub length-cut : (start : ℕ) (bs : List Break) → length (cut_at start bs) ≡ length bs
 length-cut start [] = refl
 length-cut start (b ∷ bs) = let rest = length-cut b.at bs in omega (arith, rest)
+
+-- the segments of a block of breaks, and those of the breaks behind it, are those of what was left
+pub cut-on : {profile : Profile} {cell : ℕ → Cell} {text : List ℕ} {from to : Progress} {room : ℕ} {out : List RawBreak}
+    → FindsNext profile cell text from to room out → (before after : List Segment) (start next : ℕ)
+    → ((more : List Break) → after ++ cut_at next more ≡ before ++ cut_at start (given_in out (to.found - from.found) ++ more))
+    → after ++ cut_at next (left_after profile cell text to) ≡ before ++ cut_at start (left_after profile cell text from)
+cut-on {profile} {cell} {text} {from} {to} f before after start next cut =
+    cut (left_after profile cell text to) ∙ ap (λ bs. before ++ cut_at start bs) (rest-on f)
 
 segments-cut : (start at : ℕ) (ms : List Marked) → segments_from start at ms ≡ cut_at start (breaks_from at ms)
 segments-cut start at [] = refl

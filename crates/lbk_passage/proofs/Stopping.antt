@@ -9,8 +9,9 @@ use Rattle.lbk_feed.specs.View.{AfterEach, CanGoOn, IsFront, LiesIn}
 use Rattle.lbk_passage.specs.Faults.{passage_fault}
 use Rattle.lbk_passage.specs.Stays.{ends_at, stays, last_class}
 use Rattle.lbk_passage.specs.State.{State}
-use Rattle.lbk_passage.specs.Next.{Stops}
-use Rattle.lbk_passage.specs.declared.faults.PassageFault.TheVariants.{ParagraphTooLong}
+use Rattle.lbk_passage.specs.Next.{IsAllSeen, LiesBehind, Stops}
+use Rattle.lbk_passage.specs.declared.faults.PassageFault.{PassageFault}
+use Rattle.lbk_passage.specs.declared.faults.PassageFault.TheVariants.{NotUtf8, ParagraphTooLong, Read, TextTooLong}
 use Rattle.lbk_passage.specs.declared.paragraph.Paragraph.{Paragraph}
 use Rattle.lbk_passage.proofs.Marking.{few_passages, begins_with_all}
 use Rattle.lbk_passage.proofs.Staying.{stays-snoc, length-encode_more}
@@ -48,49 +49,37 @@ module _ (s : State) (p : Paragraph) (shows : Shows s p) (none : stays s.cell No
   before : s.start + length (encode_utf8_all (chars (string_bytes p.text))) ≡ p.feed.given
   before = ap (λ l. s.start + length l) text_is ∙ shows.start
 
+  -- it stops behind the scalars of the paragraph
+  stops-behind : (fault : PassageFault) → p.feed.given ≤ longest_text → IsAllSeen fault s (chars (string_bytes p.text))
+      → LiesBehind fault s (chars (string_bytes p.text)) p.feed.held → Stops s fault
+  stops-behind fault few seen lies = record {
+    seen = chars (string_bytes p.text);
+    rest = p.feed.held;
+    bytes = bytes;
+    text = subst IsUtf8 (sym text_is) shows.text;
+    few = few_passages s.profile s.cell (chars (string_bytes p.text)) none;
+    unfinished = λ some more. begins_with_all s.profile s.cell (chars (string_bytes p.text)) more some none;
+    counted = omega (arith, before, few);
+    all_seen = seen;
+    lies = lies;
+  }
+
   pub Stops-feed : (e : FeedFault) → ¬ (Some e ≡ Some feed_fault.Spent) → p.feed.ready ≡ [] → IsFront p.feed → p.feed.given ≤ longest_text → LiesIn e p.feed
       → Stops s (passage_fault e)
-  Stops-feed feed_fault.Read unspent ready front few lies = record {
-    seen = chars (string_bytes p.text);
-    rest = p.feed.held;
-    bytes = bytes;
-    text = subst IsUtf8 (sym text_is) shows.text;
-    few = few_passages s.profile s.cell (chars (string_bytes p.text)) none;
-    unfinished = λ some more. begins_with_all s.profile s.cell (chars (string_bytes p.text)) more some none;
-    counted = omega (arith, before, few);
-    all_seen = all_seen ready front;
-    lies = (short, subst (λ n. CanGoOn n p.feed.held) (sym before) lies);
-  }
-  Stops-feed (feed_fault.NotUtf8 at) unspent ready front few lies = record {
-    seen = chars (string_bytes p.text);
-    rest = p.feed.held;
-    bytes = bytes;
-    text = subst IsUtf8 (sym text_is) shows.text;
-    few = few_passages s.profile s.cell (chars (string_bytes p.text)) none;
-    unfinished = λ some more. begins_with_all s.profile s.cell (chars (string_bytes p.text)) more some none;
-    counted = omega (arith, before, few);
-    all_seen = all_seen ready front;
-    lies = (
-      short,
-      behind (λ all. IsNotUtf8At (all ++ p.feed.held) p.feed.is_ended at) (λ used. IsNotUtf8At (used ++ s.held) s.is_ended at)
-          (λ used h. subst (λ l. IsNotUtf8At l s.is_ended at) (joined used) (subst (λ b. IsNotUtf8At ((used ++ string_bytes p.text) ++ p.feed.held) b at) (sym shows.is_ended) h)) lies,
-    );
-  }
-  Stops-feed feed_fault.TextTooLong unspent ready front few lies = record {
-    seen = chars (string_bytes p.text);
-    rest = p.feed.held;
-    bytes = bytes;
-    text = subst IsUtf8 (sym text_is) shows.text;
-    few = few_passages s.profile s.cell (chars (string_bytes p.text)) none;
-    unfinished = λ some more. begins_with_all s.profile s.cell (chars (string_bytes p.text)) more some none;
-    counted = omega (arith, before, few);
-    all_seen = all_seen ready front;
-    lies = (
-      short,
-      behind (λ all. IsTooLong (all ++ p.feed.held)) (λ used. IsTooLong (used ++ s.held))
-          (λ used h. subst IsTooLong (joined used) h) lies,
-    );
-  }
+  Stops-feed feed_fault.Read unspent ready front few lies =
+      stops-behind Read few (all_seen ready front) (short, subst (λ n. CanGoOn n p.feed.held) (sym before) lies)
+  Stops-feed (feed_fault.NotUtf8 at) unspent ready front few lies =
+      stops-behind (NotUtf8 at) few (all_seen ready front) (
+        short,
+        behind (λ all. IsNotUtf8At (all ++ p.feed.held) p.feed.is_ended at) (λ used. IsNotUtf8At (used ++ s.held) s.is_ended at)
+            (λ used h. subst (λ l. IsNotUtf8At l s.is_ended at) (joined used) (subst (λ b. IsNotUtf8At ((used ++ string_bytes p.text) ++ p.feed.held) b at) (sym shows.is_ended) h)) lies,
+      )
+  Stops-feed feed_fault.TextTooLong unspent ready front few lies =
+      stops-behind TextTooLong few (all_seen ready front) (
+        short,
+        behind (λ all. IsTooLong (all ++ p.feed.held)) (λ used. IsTooLong (used ++ s.held))
+            (λ used h. subst IsTooLong (joined used) h) lies,
+      )
   Stops-feed feed_fault.Spent unspent ready front few lies = absurd (unspent refl)
 
   -- the next scalar goes past the limit

@@ -217,6 +217,17 @@ pub record Fills (cell : ℕ → Cell) (profile : Profile) (old new : Paragraph)
       → IsStill (state_with cell profile old).held (state_with cell profile new).held reads reads'
       × (¬ (fault_in r ≡ Some Read))
 
+-- what a call that fills a paragraph does with its reader: a failed read is counted, and answered; none is made where
+-- the paragraph is held, a fault was answered, or a read gave no byte before
+pub record Asks {R : Type 0} (failure_count : R → ℕ) (p : Paragraph) (reader reader' : R) (made made' : ℕ)
+    (r : Result (Option Verdict) PassageFault) : Type 0 where
+  pub failures : failure_count reader' ≡ failures_with (failure_count reader) (fault_in r)
+  pub reads : made' ≤ made + (p.limit + 4)
+  pub quiet : p.is_held ≡ true → reader' ≡ reader
+  pub spent : p.is_spent ≡ true → reader' ≡ reader
+  pub ended : p.feed.is_ended ≡ true → reader' ≡ reader
+  pub refused : p.is_spent ≡ true → r ≡ Err Spent
+
 -- the same paragraph, but for whether it is held, and whether it is spent
 pub record IsSame (old new : Paragraph) (is_held is_spent : Bool) : Type 0 where
   pub feed : new.feed ≡ old.feed

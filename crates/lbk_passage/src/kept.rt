@@ -33,7 +33,8 @@ pub(crate) const NONE_FOUND: Kept = Kept {
 };
 
 impl Kept {
-    /// Finds the next breaks, if none are left of those found, and returns whether there is one to give.
+    /// Finds the next breaks, if none are left of those found: as many as the block holds or all. Returns whether there is
+    /// one to give.
     #[inline(always)]
     pub(crate) fn hold<C: CellSource>(&mut self, cells: &C, profile: Profile, text: &str) -> bool
         requires { IsKept profile (C.cell_of cells.now) text.now self.old }
@@ -43,25 +44,14 @@ impl Kept {
         ensures some { result ≡ true → 0 < self.new.left }
         ensures none { result ≡ false → to_give profile (C.cell_of cells.now) text.now self.new ≡ [] }
     {
-        if self.left == 0 {
-            self.refill(cells, profile, text);
+        if self.left != 0 {
+            return true;
         }
-        self.left != 0
-    }
-
-    /// Finds the next breaks, where none are left of those found: as many as the block holds or all.
-    fn refill<C: CellSource>(&mut self, cells: &C, profile: Profile, text: &str)
-        requires kept { IsKept profile (C.cell_of cells.now) text.now self.old }
-        requires none { self.old.left ≡ 0 }
-        ensures kept { IsKept profile (C.cell_of cells.now) text.now self.new }
-        ensures same { to_give profile (C.cell_of cells.now) text.now self.new
-            ≡ to_give profile (C.cell_of cells.now) text.now self.old }
-        ensures none { self.new.left ≡ 0 → to_give profile (C.cell_of cells.now) text.now self.new ≡ [] }
-    {
         let found = find(cells, profile, text, self.progress, &mut self.block);
         self.left = found.found - self.progress.found;
         self.next = 0;
         self.progress = found;
+        self.left != 0
     }
 
     /// Gives the next break.

@@ -35,9 +35,9 @@ impl Paragraph {
     ghost use Rattle.lbk_feed.specs.View.{IsFront, LendsFront};
     ghost use Rattle.lbk_passage.specs.State.{state_with, new_state};
     ghost use Rattle.lbk_passage.specs.Stays.{IsWhole};
-    ghost use Rattle.lbk_passage.specs.Gathering.{Reaches, Takes, Moves, ReadsOn, Settles, Gathering, Gathers, Fills};
+    ghost use Rattle.lbk_passage.specs.Gathering.{Asks, Reaches, Takes, Moves, ReadsOn, Settles, Gathering, Gathers, Fills};
     ghost use Rattle.lbk_passage.specs.Gathering.{IsSame};
-    ghost use Rattle.lbk_passage.specs.Next.{IsDone, IsOpen, failures_with, fault_in};
+    ghost use Rattle.lbk_passage.specs.Next.{IsDone, IsOpen};
     ghost use Rattle.lbk_rules.specs.declared.Cell.{Cell};
     ghost use Rattle.lbk_values.specs.declared.profile.Profile.{Profile};
 
@@ -101,12 +101,8 @@ impl Paragraph {
             (R.reads_made reader.old) (R.reads_made reader.new) result }
         ensures whole { self.new.is_held ≡ true → IsWhole (C.cell_of known.now.cells.now) self.new }
         ensures end { IfOk result (λ end. end ≡ self.new.end) }
-        ensures failures { R.failure_count reader.new ≡ failures_with (R.failure_count reader.old) (fault_in result) }
-        ensures reads { (R.reads_made reader.new).count ≤ (R.reads_made reader.old).count + (self.old.limit + 4) }
-        ensures quiet { self.old.is_held ≡ true → reader.new ≡ reader.old }
-        ensures spent { self.old.is_spent ≡ true → reader.new ≡ reader.old }
-        ensures ended { self.old.feed.is_ended ≡ true → reader.new ≡ reader.old }
-        ensures refused { self.old.is_spent ≡ true → result ≡ Err PassageFault.Spent }
+        ensures asks { Asks R.failure_count self.old reader.old reader.new (R.reads_made reader.old).count
+            (R.reads_made reader.new).count result }
         ensures again { (profile : Profile) → IsDone (state_with (C.cell_of known.now.cells.now) profile self.old)
             → self.old.is_spent ≡ false → result ≡ Ok None }
     {

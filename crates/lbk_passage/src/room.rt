@@ -15,17 +15,6 @@ pub(crate) fn make_room<T>(list: &mut Vec<T>, count: usize) -> Result<(), AllocE
     if count <= list.capacity().saturating_sub(list.len()) {
         return Ok(());
     }
-    double(list, count)
-}
-
-/// The same where there is too little room. It is seldom called, and stands apart, so that the test is all that a loop
-/// has of it.
-#[cold]
-#[inline(never)]
-fn double<T>(list: &mut Vec<T>, count: usize) -> Result<(), AllocError>
-    requires { vec_capacity list.old < vec_len list.old + count }
-    ensures makes { MakesRoom list.old list.new count result }
-{
     let wanted = list.len().saturating_add(count);
     list.reserve_exact(count.saturating_add(wanted))
 }

@@ -25,7 +25,7 @@ returns-clause-passes g c = λ first room enough passes.
     let text = IsUtf8-drop piece here.len c.utf8.piece passes.place in
     let calm : is_end here.last ≡ false = sym c.is_end.ensures ∙ c.if-is_end.false in
     let passed = subst (λ l. ArePassed is_quiet l here.len len) c.as_bytes.ensures.value c.past_quiet-len.ensures.passed in
-    let all = Passes-quiet cell first piece room c.utf8.piece is_quiet c.args.known.now.quiet len place (omega (arith, within.1, enough))
+    let all = Passes-quiet c.utf8.piece is_quiet c.args.known.now.quiet len place (omega (arith, within.1, enough))
     (chars (drop here.len piece)) here.len here.last passes calm (scalars-chars (drop here.len piece) text)
     (sym (encodes-chars (drop here.len piece) text)) within.0 passed in
     let is_scalar : IsScalar c.in-Some.last = search rules in
@@ -33,4 +33,4 @@ returns-clause-passes g c = λ first room enough passes.
     let from_start : len - 0 ≡ len = omega arith in
     let splits : take len piece ≡ rest ++ encode_utf8 c.in-Some.last =
     ap (λ n. take n piece) (sym from_start) ∙ sym (c.chars.ensures.rest ∙ c.range.ensures.value) ∙ c.in-Some.ensures.steps in
-    rw c.cell.ensures (Passes-last cell first piece room c.utf8.piece len all.0 rest c.in-Some.last all.1 is_scalar splits)
+    rw c.cell.ensures (Passes-last c.utf8.piece len all.0 rest c.in-Some.last all.1 is_scalar splits)

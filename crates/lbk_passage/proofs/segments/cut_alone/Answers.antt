@@ -4,8 +4,8 @@ use Rattle.std.proofs.lemmas.Result.{err_from_is_err_and}
 use Rattle.lbk_rules.specs.declared.Break.{Break}
 use Rattle.lbk_passage.specs.Cuts.{cut_at}
 use Rattle.lbk_passage.specs.Found.{left_after}
-use Rattle.lbk_passage.proofs.FoundLemmas.{IsFound-start, left-many, left-on, rest-on, taken-breaks, taken-many}
-use Rattle.lbk_passage.proofs.SegmentLemmas.{breaks-within, raw-within}
+use Rattle.lbk_passage.proofs.FoundLemmas.{IsFound-start, left-many, left-on, taken-breaks, taken-many}
+use Rattle.lbk_passage.proofs.SegmentLemmas.{breaks-within, cut-on, raw-within}
 use Rattle.lbk_passage.proofs.RoomLemmas.{Grows-none, Grows-on}
 use Rattle.lbk_passage.proofs.segments.cut_alone.Goals as goal
 
@@ -26,19 +26,15 @@ loop-start-preserved g c =
     let l = c.loop-start in
     let n = c.find-next.result.found - l.here.found in
     let left = left_after c.args.profile cell c.args.text.now l.here in
-    let behind = left_after c.args.profile cell c.args.text.now c.find-next.result in
-    let cut : c.cut_block.new.segments.items ++ cut_at c.in_ok-start.start behind ≡ l.segments.items ++ cut_at l.start left =
-    c.in_ok-start.ensures.cut behind
-    ∙ ap (λ bs. l.segments.items ++ cut_at l.start bs) (rest-on c.args.profile cell c.args.text.now c.loop-start.here c.find-next.result (length c.loop-start.block) c.find-next.new.out c.find-next.ensures) in
     record {
       found = c.find-next.ensures.found;
-      cut = cut ∙ l.invariant.cut;
-      within = subst (All (λ (one : Break). one.at < 4294967296)) (sym (left-on c.args.profile cell c.args.text.now c.loop-start.here c.find-next.result (length c.loop-start.block) c.find-next.new.out c.find-next.ensures)) (All-drop (λ (one : Break). one.at < 4294967296) n left l.invariant.within);
+      cut = cut-on c.find-next.ensures c.loop-start.segments.items c.cut_block.new.segments.items c.loop-start.start c.in_ok-start.start c.in_ok-start.ensures.cut ∙ l.invariant.cut;
+      within = subst (All (λ (one : Break). one.at < 4294967296)) (sym (left-on c.find-next.ensures)) (All-drop (λ (one : Break). one.at < 4294967296) n left l.invariant.within);
       count = omega (
         arith,
         c.in_ok-start.ensures.count,
-        taken-many c.args.profile cell c.args.text.now c.loop-start.here c.find-next.result (length c.loop-start.block) c.find-next.new.out c.find-next.ensures,
-        left-many c.args.profile cell c.args.text.now c.loop-start.here c.find-next.result (length c.loop-start.block) c.find-next.new.out c.find-next.ensures,
+        taken-many c.find-next.ensures,
+        left-many c.find-next.ensures,
         l.invariant.count,
       );
       grows = Grows-on c.args.segments.now l.segments c.cut_block.new.segments l.invariant.grows c.cut_block.ensures.grows;
@@ -46,13 +42,11 @@ loop-start-preserved g c =
 
 pub loop-start-smaller : goal.loop-start-smaller
 loop-start-smaller g c =
-    let cell = g.C.CellSource.cell_of c.args.cells.now in
-    omega (arith, left-many c.args.profile cell c.args.text.now c.loop-start.here c.find-next.result (length c.loop-start.block) c.find-next.new.out c.find-next.ensures, c.find-next.ensures.full c.if-next.false)
+    omega (arith, left-many c.find-next.ensures, c.find-next.ensures.full c.if-next.false)
 
 pub cut_block-requires-clause-breaks : goal.cut_block-requires-clause-breaks
 cut_block-requires-clause-breaks g c =
-    let cell = g.C.CellSource.cell_of c.args.cells.now in
-    (taken-breaks c.args.profile cell c.args.text.now c.loop-start.here c.find-next.result (length c.loop-start.block) c.find-next.new.out c.find-next.ensures)
+    taken-breaks c.find-next.ensures
 
 pub cut_block-requires-clause-few : goal.cut_block-requires-clause-few
 cut_block-requires-clause-few g c =
@@ -70,43 +64,33 @@ returns-in_err-start-clause-grows g c =
 
 pub returns-in_err-start-clause-full : goal.returns-in_err-start-clause-full
 returns-in_err-start-clause-full g c =
-    let cell = g.C.CellSource.cell_of c.args.cells.now in
     let p = err_from_is_err_and c.from_residual.result c.from_residual.ensures.1 in
     let full = c.in_err-start.ensures.full in
     let l = c.loop-start in
     rw p.1 (omega (
       arith,
       full,
-      taken-many c.args.profile cell c.args.text.now c.loop-start.here c.find-next.result (length c.loop-start.block) c.find-next.new.out c.find-next.ensures,
-      left-many c.args.profile cell c.args.text.now c.loop-start.here c.find-next.result (length c.loop-start.block) c.find-next.new.out c.find-next.ensures,
+      taken-many c.find-next.ensures,
+      left-many c.find-next.ensures,
       l.invariant.count,
       l.invariant.grows.room,
     ))
 
 pub returns-then-next-clause-cut : goal.returns-then-next-clause-cut
 returns-then-next-clause-cut g c =
-    let cell = g.C.CellSource.cell_of c.args.cells.now in
-    let l = c.loop-start in
-    let n = c.find-next.result.found - l.here.found in
-    let left = left_after c.args.profile cell c.args.text.now l.here in
-    let behind = left_after c.args.profile cell c.args.text.now c.find-next.result in
-    let cut : c.cut_block.new.segments.items ++ cut_at c.in_ok-start.start behind ≡ l.segments.items ++ cut_at l.start left =
-    c.in_ok-start.ensures.cut behind
-    ∙ ap (λ bs. l.segments.items ++ cut_at l.start bs) (rest-on c.args.profile cell c.args.text.now c.loop-start.here c.find-next.result (length c.loop-start.block) c.find-next.new.out c.find-next.ensures) in
     let held = c.cut_block.new.segments.items in
     sym (append-nil held)
     ∙ ap (λ bs. held ++ cut_at c.in_ok-start.start bs) (sym (c.find-next.ensures.found.none_left c.if-next.true))
-    ∙ cut ∙ l.invariant.cut
+    ∙ cut-on c.find-next.ensures c.loop-start.segments.items c.cut_block.new.segments.items c.loop-start.start c.in_ok-start.start c.in_ok-start.ensures.cut ∙ c.loop-start.invariant.cut
 
 pub returns-then-next-clause-count : goal.returns-then-next-clause-count
 returns-then-next-clause-count g c =
-    let cell = g.C.CellSource.cell_of c.args.cells.now in
     let l = c.loop-start in
     omega (
       arith,
       c.in_ok-start.ensures.count,
-      taken-many c.args.profile cell c.args.text.now c.loop-start.here c.find-next.result (length c.loop-start.block) c.find-next.new.out c.find-next.ensures,
-      left-many c.args.profile cell c.args.text.now c.loop-start.here c.find-next.result (length c.loop-start.block) c.find-next.new.out c.find-next.ensures,
+      taken-many c.find-next.ensures,
+      left-many c.find-next.ensures,
       ap length (c.find-next.ensures.found.none_left c.if-next.true),
       l.invariant.count,
     )

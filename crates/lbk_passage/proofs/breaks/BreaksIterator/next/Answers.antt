@@ -6,6 +6,5 @@ use Rattle.lbk_passage.proofs.breaks.BreaksIterator.next.Goals as goal
 pub invariant_of-self-2 : goal.invariant_of-self-2
 invariant_of-self-2 g c =
     let i = c.self.inside in
-    let cell = g.C.CellSource.cell_of i.cells.now in
-    subst (IsKept i.profile cell i.text.now) (sym c.give.ensures.rest)
-    (IsKept-skipped i.profile cell i.text.now c.hold.new.self c.hold.ensures.kept 1 (omega (arith, c.hold.ensures.some c.if-not-hold.false)))
+    subst (IsKept i.profile (g.C.CellSource.cell_of i.cells.now) i.text.now) (sym c.give.ensures.rest)
+    (IsKept-skipped c.hold.ensures.kept 1 (omega (arith, c.hold.ensures.some c.if-not-hold.false)))

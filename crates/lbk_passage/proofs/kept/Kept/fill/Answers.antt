@@ -42,14 +42,14 @@ loop-count-preserved g c =
     let now : to_give profile cell text k ≡ drop l.count whole = c.hold.ensures.same ∙ l.invariant.rest in
     let there : take (64 - k.next) (drop k.next k.block) ≡ drop k.next k.block = take_all (64 - k.next) (drop k.next k.block) (omega (arith, length-drop k.next k.block, c.hold.ensures.kept.size)) in
     record {
-      kept = IsKept-skipped profile cell text k c.hold.ensures.kept some few;
+      kept = IsKept-skipped c.hold.ensures.kept some few;
       long = omega (arith, l.invariant.long);
       within = omega arith;
       front =
           c.put_breaks.ensures
           ∙ ap (λ (taken : List Break). taken ++ given_in (take (64 - k.next) (drop k.next k.block)) some) l.invariant.front
           ∙ ap (λ (r : List RawBreak). take l.count whole ++ given_in r some) there
-          ∙ ap (λ (more : List Break). take l.count whole ++ more) (skipped-front profile cell text k c.hold.ensures.kept some few ∙ ap (take some) now)
+          ∙ ap (λ (more : List Break). take l.count whole ++ more) (skipped-front c.hold.ensures.kept some few ∙ ap (take some) now)
           ∙ sym (take-add l.count some whole);
-      rest = skipped-rest profile cell text k c.hold.ensures.kept some few ∙ ap (drop some) now ∙ drop-drop some l.count whole;
+      rest = skipped-rest c.hold.ensures.kept some few ∙ ap (drop some) now ∙ drop-drop some l.count whole;
     }

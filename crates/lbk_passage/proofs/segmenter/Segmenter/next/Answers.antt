@@ -1,108 +1,65 @@
-use Rattle.std.proofs.Common.{◌≡◌, ℕ, ◌*◌, ◌<◌, ◌≤◌, not, List, length, max, chars, Ok, Err, None, Some, string_bytes, vec_capacity, inl, inr, refl, sym, ap, subst, ◌∙◌, ⊎_elim, arith}
+use Rattle.std.proofs.Common.{◌≡◌, ℕ, ◌*◌, ◌<◌, not, List, length, chars, Ok, Err, None, Some, string_bytes, vec_capacity, inl, inr, refl, sym, ap, subst, ◌∙◌, arith}
 use Rattle.std.proofs.Math.Nat.{le-max_left}
 use Rattle.std.proofs.lemmas.Result.{err_from_is_err_and}
 use Rattle.lbk_passage.specs.Marks.{marks, ended}
 use Rattle.lbk_passage.specs.Segments.{segments_of}
 use Rattle.lbk_passage.specs.Pieces.{pieces_of}
 use Rattle.lbk_passage.specs.declared.faults.PassageFault.{PassageFault}
-use Rattle.lbk_passage.specs.declared.faults.PassageFault.TheVariants.{Memory, Spent}
+use Rattle.lbk_passage.specs.declared.faults.PassageFault.TheVariants.{Memory}
 use Rattle.lbk_passage.specs.Next.{failures_with, fault_in}
 use Rattle.lbk_passage.specs.Shown.{found_by}
 use Rattle.lbk_passage.specs.State.{state_with}
 use Rattle.lbk_passage.specs.Gathering.{IsFirst}
-use Rattle.lbk_passage.proofs.Giving.{or-cases, spent_by, never_memory, no_fault, After-fault, After-none, After-memory, After-lent, lacks_room, on_err, on_ok}
-use Rattle.lbk_passage.proofs.Settling.{ok_err, some_none}
+use Rattle.lbk_passage.proofs.Giving.{After-fault, After-lent, After-memory, After-none, Goes-fault, Goes-lent, Goes-none, Goes-some, Keeps-same, lacks_room, most_of, never_memory, no_fault, on_err, on_ok}
 use Rattle.lbk_passage.proofs.Taking.{string_len-is}
 use Rattle.lbk_passage.proofs.segmenter.Segmenter.next.Goals as goal
 
 pub returns-in_err-end : goal.returns-in_err-end
 returns-in_err-end g c =
-    let cell = g.C.CellSource.cell_of c.args.self.now.known.cells.now in
-    let profile = c.args.self.now.profile in
-    let old = c.args.self.now.paragraph in
-    let p = c.fill.new.self in
     let exit = err_from_is_err_and c.from_residual.result c.from_residual.ensures.1 in
+    let filled = c.fill.ensures.fills c.args.self.now.profile in
     let was = c.in_err-end.was ∙ ap Err (sym exit.2) in
-    let fills = rw was at (c.fill.ensures.fills profile) in
+    let fills = rw was at filled in
     rw exit.1 (
       (
         refl,
         (λ _. tt),
-        (
-          After-fault cell profile old p _ _ _ _ _ _ exit.0 fills,
-          record {
-            for_segments = omega arith;
-            for_pieces = omega arith;
-            few_segments = le-max_left (vec_capacity c.args.self.now.segments) (2 * length c.args.self.now.segments.items);
-            few_pieces = le-max_left (vec_capacity c.args.self.now.pieces) (2 * length c.args.self.now.pieces.items);
-            memory = λ is. absurd (never_memory (state_with cell profile p) p old.is_spent exit.0 fills.answer (let same : exit.0 ≡ Memory = cc in same));
-          },
-        ),
+        (After-fault fills, Keeps-same _ _ _ (λ is. never_memory fills (let same : exit.0 ≡ Memory = cc in same))),
       ),
       record {
         after_borrow = tt;
         lent = tt;
-        goes_on = record {
-          spent = λ spent. let told = sym was ∙ c.fill.ensures.refused spent in
-              let same : exit.0 ≡ Spent = cc in ap (λ (f : PassageFault). Err f) same;
-          spent_only = λ is. spent_by (state_with cell profile p) p old.is_spent exit.0 fills.answer (let same : exit.0 ≡ Spent = cc in same);
-          again = λ done unspent. absurd (ok_err c.fill.result None exit.0 (c.fill.ensures.again profile done unspent) was);
-          settled = λ seen. ⊎_elim (λ held. c.fill.ensures.quiet held) (λ spent. c.fill.ensures.spent spent) (or-cases old.is_held old.is_spent seen);
-          ended = λ h. c.fill.ensures.ended h;
-          reads = omega (arith, c.fill.ensures.reads);
-        };
-        failures = c.fill.ensures.failures ∙ ap (λ r. failures_with (g.R.Source.failure_count c.args.reader.now) (fault_in r)) was;
+        goes_on = Goes-fault filled c.fill.ensures.asks (c.fill.ensures.again c.args.self.now.profile) was;
+        failures = c.fill.ensures.asks.failures ∙ ap (λ r. failures_with (g.R.Source.failure_count c.args.reader.now) (fault_in r)) was;
       },
     )
 
 pub returns-in_default : goal.returns-in_default
 returns-in_default g c =
-    let cell = g.C.CellSource.cell_of c.args.self.now.known.cells.now in
-    let profile = c.args.self.now.profile in
-    let old = c.args.self.now.paragraph in
-    let p = c.fill.new.self in
+    let filled = c.fill.ensures.fills c.args.self.now.profile in
     let was = c.in_ok-end.was ∙ ap Ok c.in_default.is in
-    let fills = rw was at (c.fill.ensures.fills profile) in (
+    let fills = rw was at filled in (
       (
         refl,
         (λ _. tt),
-        (
-          After-none cell profile old p _ _ _ _ _ _ fills,
-          record {
-            for_segments = omega arith;
-            for_pieces = omega arith;
-            few_segments = le-max_left (vec_capacity c.args.self.now.segments) (2 * length c.args.self.now.segments.items);
-            few_pieces = le-max_left (vec_capacity c.args.self.now.pieces) (2 * length c.args.self.now.pieces.items);
-            memory = λ is. cc;
-          },
-        ),
+        (After-none fills, Keeps-same _ _ _ (λ is. cc)),
       ),
       record {
         after_borrow = tt;
         lent = tt;
-        goes_on = record {
-          spent = λ spent. absurd (let refused = c.fill.ensures.refused spent in cc);
-          spent_only = λ is. cc;
-          again = λ done unspent. refl;
-          settled = λ seen. ⊎_elim (λ held. c.fill.ensures.quiet held) (λ spent. c.fill.ensures.spent spent) (or-cases old.is_held old.is_spent seen);
-          ended = λ h. c.fill.ensures.ended h;
-          reads = omega (arith, c.fill.ensures.reads);
-        };
-        failures = c.fill.ensures.failures ∙ ap (λ r. failures_with (g.R.Source.failure_count c.args.reader.now) (fault_in r)) was;
+        goes_on = Goes-none filled c.fill.ensures.asks (c.fill.ensures.again c.args.self.now.profile) was;
+        failures = c.fill.ensures.asks.failures ∙ ap (λ r. failures_with (g.R.Source.failure_count c.args.reader.now) (fault_in r)) was;
       },
     )
 
 pub returns-then-is_err : goal.returns-then-is_err
 returns-then-is_err g c =
-    let cell = g.C.CellSource.cell_of c.args.self.now.known.cells.now in
-    let profile = c.args.self.now.profile in
-    let old = c.args.self.now.paragraph in
-    let p = c.fill.new.self in
+    let filled = c.fill.ensures.fills c.args.self.now.profile in
     let was = c.in_ok-end.was ∙ ap Ok c.in-Some.is in
-    let fills = rw was at (c.fill.ensures.fills profile) in
-    let first : IsFirst (state_with cell profile p) p c.in-Some.end = fills.answer in
-    let many = λ (l : List ℕ). length (segments_of (ended c.in-Some.end (marks profile cell (chars l)))) in
-    let lines : vec_capacity c.args.self.now.segments < many (string_bytes p.text) =
+    let fills = rw was at filled in
+    let first : IsFirst (state_with (g.C.CellSource.cell_of c.args.self.now.known.cells.now) c.args.self.now.profile c.fill.new.self) c.fill.new.self c.in-Some.end = fills.answer in
+    let many = λ (l : List ℕ). length (segments_of (ended c.in-Some.end (marks c.args.self.now.profile (g.C.CellSource.cell_of c.args.self.now.known.cells.now) (chars l)))) in
+    let lines : vec_capacity c.args.self.now.segments < many (string_bytes c.fill.new.self.text) =
     subst (λ l. vec_capacity c.args.self.now.segments < many l) c.text-text.ensures.text
     (on_err (vec_capacity c.args.self.now.segments < many c.text-text.result.now) c.cut_lines.result
     (c.is_err.ensures.negation ∙ ap not c.if-is_err.true) (c.cut_lines.ensures.full first.broken)) in (
@@ -110,72 +67,54 @@ returns-then-is_err g c =
         refl,
         (λ _. tt),
         (
-          After-memory cell profile old p _ _ _ _ _ _ c.in-Some.end fills,
+          After-memory fills,
           record {
             for_segments = omega (arith, c.cut_lines.ensures.room);
             for_pieces = omega arith;
-            few_segments = subst (λ n. vec_capacity c.cut_lines.new.segments ≤ max (vec_capacity c.args.self.now.segments) (2 * n)) c.cut_lines.new.segments.ok.0
-                (c.cut_lines.ensures.most first.broken);
+            few_segments = most_of (vec_capacity c.cut_lines.new.segments) (vec_capacity c.args.self.now.segments) c.cut_lines.new.segments.ok.0 (c.cut_lines.ensures.most first.broken);
             few_pieces = le-max_left (vec_capacity c.args.self.now.pieces) (2 * length c.args.self.now.pieces.items);
-            memory = λ is. lacks_room cell profile old p _ _ _ _ _ _ c.in-Some.end fills (found_by c.args.self.now) (inl lines);
+            memory = λ is. lacks_room fills (found_by c.args.self.now) (inl lines);
           },
         ),
       ),
       record {
         after_borrow = tt;
         lent = tt;
-        goes_on = record {
-          spent = λ spent. absurd (let refused = c.fill.ensures.refused spent in cc);
-          spent_only = λ is. cc;
-          again = λ done unspent. absurd (some_none c.fill.result c.in-Some.end was (c.fill.ensures.again profile done unspent));
-          settled = λ seen. ⊎_elim (λ held. c.fill.ensures.quiet held) (λ spent. c.fill.ensures.spent spent) (or-cases old.is_held old.is_spent seen);
-          ended = λ h. c.fill.ensures.ended h;
-          reads = omega (arith, c.fill.ensures.reads);
-        };
-        failures = c.fill.ensures.failures ∙ ap (λ r. failures_with (g.R.Source.failure_count c.args.reader.now) (fault_in r)) was;
+        goes_on = Goes-some filled c.fill.ensures.asks (c.fill.ensures.again c.args.self.now.profile) was (Err Memory) (λ is. cc);
+        failures = c.fill.ensures.asks.failures ∙ ap (λ r. failures_with (g.R.Source.failure_count c.args.reader.now) (fault_in r)) was;
       },
     )
 
 pub returns-then-is_err-2 : goal.returns-then-is_err-2
 returns-then-is_err-2 g c =
-    let cell = g.C.CellSource.cell_of c.args.self.now.known.cells.now in
-    let profile = c.args.self.now.profile in
-    let old = c.args.self.now.paragraph in
-    let p = c.fill.new.self in
+    let filled = c.fill.ensures.fills c.args.self.now.profile in
     let was = c.in_ok-end.was ∙ ap Ok c.in-Some.is in
-    let fills = rw was at (c.fill.ensures.fills profile) in
-    let first : IsFirst (state_with cell profile p) p c.in-Some.end = fills.answer in
-    let words : vec_capacity c.args.self.now.pieces < length (pieces_of cell (string_bytes p.text)) =
-    subst (λ l. vec_capacity c.args.self.now.pieces < length (pieces_of cell l)) c.text-text.ensures.text
-    (on_err (vec_capacity c.args.self.now.pieces < length (pieces_of cell c.text-text.result.now)) c.cut_words.result
+    let fills = rw was at filled in
+    let first : IsFirst (state_with (g.C.CellSource.cell_of c.args.self.now.known.cells.now) c.args.self.now.profile c.fill.new.self) c.fill.new.self c.in-Some.end = fills.answer in
+    let many = λ (l : List ℕ). length (pieces_of (g.C.CellSource.cell_of c.args.self.now.known.cells.now) l) in
+    let words : vec_capacity c.args.self.now.pieces < many (string_bytes c.fill.new.self.text) =
+    subst (λ l. vec_capacity c.args.self.now.pieces < many l) c.text-text.ensures.text
+    (on_err (vec_capacity c.args.self.now.pieces < many c.text-text.result.now) c.cut_words.result
     (c.is_err-2.ensures.negation ∙ ap not c.if-is_err-2.true) c.cut_words.ensures.full) in (
       (
         refl,
         (λ _. tt),
         (
-          After-memory cell profile old p _ _ _ _ _ _ c.in-Some.end fills,
+          After-memory fills,
           record {
             for_segments = omega (arith, c.cut_lines.ensures.room);
             for_pieces = omega (arith, c.cut_words.ensures.room);
-            few_segments = subst (λ n. vec_capacity c.cut_lines.new.segments ≤ max (vec_capacity c.args.self.now.segments) (2 * n)) c.cut_lines.new.segments.ok.0
-                (c.cut_lines.ensures.most first.broken);
-            few_pieces = subst (λ n. vec_capacity c.cut_words.new.pieces ≤ max (vec_capacity c.args.self.now.pieces) (2 * n)) c.cut_words.new.pieces.ok.0 c.cut_words.ensures.most;
-            memory = λ is. lacks_room cell profile old p _ _ _ _ _ _ c.in-Some.end fills (found_by c.args.self.now) (inr words);
+            few_segments = most_of (vec_capacity c.cut_lines.new.segments) (vec_capacity c.args.self.now.segments) c.cut_lines.new.segments.ok.0 (c.cut_lines.ensures.most first.broken);
+            few_pieces = most_of (vec_capacity c.cut_words.new.pieces) (vec_capacity c.args.self.now.pieces) c.cut_words.new.pieces.ok.0 c.cut_words.ensures.most;
+            memory = λ is. lacks_room fills (found_by c.args.self.now) (inr words);
           },
         ),
       ),
       record {
         after_borrow = tt;
         lent = tt;
-        goes_on = record {
-          spent = λ spent. absurd (let refused = c.fill.ensures.refused spent in cc);
-          spent_only = λ is. cc;
-          again = λ done unspent. absurd (some_none c.fill.result c.in-Some.end was (c.fill.ensures.again profile done unspent));
-          settled = λ seen. ⊎_elim (λ held. c.fill.ensures.quiet held) (λ spent. c.fill.ensures.spent spent) (or-cases old.is_held old.is_spent seen);
-          ended = λ h. c.fill.ensures.ended h;
-          reads = omega (arith, c.fill.ensures.reads);
-        };
-        failures = c.fill.ensures.failures ∙ ap (λ r. failures_with (g.R.Source.failure_count c.args.reader.now) (fault_in r)) was;
+        goes_on = Goes-some filled c.fill.ensures.asks (c.fill.ensures.again c.args.self.now.profile) was (Err Memory) (λ is. cc);
+        failures = c.fill.ensures.asks.failures ∙ ap (λ r. failures_with (g.R.Source.failure_count c.args.reader.now) (fault_in r)) was;
       },
     )
 
@@ -183,25 +122,24 @@ pub returns : goal.returns
 returns g c =
     let cell = g.C.CellSource.cell_of c.args.self.now.known.cells.now in
     let profile = c.args.self.now.profile in
-    let old = c.args.self.now.paragraph in
-    let p = c.fill.new.self in
+    let filled = c.fill.ensures.fills c.args.self.now.profile in
     let was = c.in_ok-end.was ∙ ap Ok c.in-Some.is in
-    let fills = rw was at (c.fill.ensures.fills profile) in
-    let first : IsFirst (state_with cell profile p) p c.in-Some.end = fills.answer in
+    let fills = rw was at filled in
+    let first : IsFirst (state_with cell profile c.fill.new.self) c.fill.new.self c.in-Some.end = fills.answer in
     let lines : c.cut_lines.new.segments.items ≡ segments_of (ended c.in-Some.end (marks profile cell (chars c.text-text.result.now))) =
     on_ok (c.cut_lines.new.segments.items ≡ segments_of (ended c.in-Some.end (marks profile cell (chars c.text-text.result.now))))
     c.cut_lines.result (c.is_err.ensures.negation ∙ ap not c.if-is_err.false) c.cut_lines.ensures.cut in
     let words : c.cut_words.new.pieces.items ≡ pieces_of cell c.text-text.result.now =
     on_ok (c.cut_words.new.pieces.items ≡ pieces_of cell c.text-text.result.now)
     c.cut_words.result (c.is_err-2.ensures.negation ∙ ap not c.if-is_err-2.false) c.cut_words.ensures.cut in
-    let given = After-lent cell profile old p _ _ _ _ _ _ c.in-Some.end fills c.release.new.self c.lend.result c.release.ensures (record {
+    let given = After-lent fills c.release.new.self c.lend.result c.release.ensures (record {
       start = omega (
         arith,
         c.lend.ensures.start,
         ap (λ f. f.given) c.release.ensures.feed,
         ap length c.release.ensures.text,
         string_len-is c.release.new.self.text,
-        string_len-is p.text,
+        string_len-is c.fill.new.self.text,
       );
       bytes = c.lend.ensures.text ∙ c.release.ensures.text;
       segments = c.lend.ensures.segments ∙ lines ∙ ap (λ l. segments_of (ended c.in-Some.end (marks profile cell (chars l)))) c.text-text.ensures.text;
@@ -216,9 +154,8 @@ returns g c =
           record {
             for_segments = omega (arith, c.cut_lines.ensures.room);
             for_pieces = omega (arith, c.cut_words.ensures.room);
-            few_segments = subst (λ n. vec_capacity c.cut_lines.new.segments ≤ max (vec_capacity c.args.self.now.segments) (2 * n)) c.cut_lines.new.segments.ok.0
-                (c.cut_lines.ensures.most first.broken);
-            few_pieces = subst (λ n. vec_capacity c.cut_words.new.pieces ≤ max (vec_capacity c.args.self.now.pieces) (2 * n)) c.cut_words.new.pieces.ok.0 c.cut_words.ensures.most;
+            few_segments = most_of (vec_capacity c.cut_lines.new.segments) (vec_capacity c.args.self.now.segments) c.cut_lines.new.segments.ok.0 (c.cut_lines.ensures.most first.broken);
+            few_pieces = most_of (vec_capacity c.cut_words.new.pieces) (vec_capacity c.args.self.now.pieces) c.cut_words.new.pieces.ok.0 c.cut_words.ensures.most;
             memory = λ is. no_fault _ is;
           },
         ),
@@ -226,14 +163,7 @@ returns g c =
       record {
         after_borrow = tt;
         lent = given.1;
-        goes_on = record {
-          spent = λ spent. absurd (ok_err c.fill.result (Some c.in-Some.end) Spent was (c.fill.ensures.refused spent));
-          spent_only = λ is. absurd (ok_err (Ok (Some c.lend.result)) (Some c.lend.result) Spent refl is);
-          again = λ done unspent. absurd (some_none c.fill.result c.in-Some.end was (c.fill.ensures.again profile done unspent));
-          settled = λ seen. ⊎_elim (λ held. c.fill.ensures.quiet held) (λ spent. c.fill.ensures.spent spent) (or-cases old.is_held old.is_spent seen);
-          ended = λ h. c.fill.ensures.ended h;
-          reads = omega (arith, c.fill.ensures.reads);
-        };
-        failures = c.fill.ensures.failures ∙ ap (λ r. failures_with (g.R.Source.failure_count c.args.reader.now) (fault_in r)) was;
+        goes_on = Goes-lent filled c.fill.ensures.asks (c.fill.ensures.again c.args.self.now.profile) c.lend.result was;
+        failures = c.fill.ensures.asks.failures ∙ ap (λ r. failures_with (g.R.Source.failure_count c.args.reader.now) (fault_in r)) was;
       },
     )
