@@ -63,31 +63,31 @@ stays-by n b c d c' d' size some second_c third_d closed high s =
     (λ (enough : size ≤ n). enough)
     (cases_lt n size)
 
+-- a piece of one byte, or of fewer than four that the first announces
+one-sized : (b c' d' : ℕ) (p q : Decoded) → q.size ≡ 1 → p ≡ q → Sized b c' d' p.size
+one-sized b c' d' p q one same =
+    let size : p.size ≡ 1 = ap (λ (r : Decoded). r.size) same ∙ one in
+    record { lead = λ more. absurd (omega arith); sec = λ more. absurd (omega arith); third = λ more. absurd (omega arith) }
+
+few-sized : (b c' d' : ℕ) (p q : Decoded) → q.size < 4 → second b c' ≡ true → q.size ≤ lead_len b → p ≡ q → Sized b c' d' p.size
+few-sized b c' d' p q few next lead same =
+    let size : p.size ≡ q.size = ap (λ (r : Decoded). r.size) same in
+    record { lead = λ more. omega arith; sec = λ more. next; third = λ more. absurd (omega arith) }
+
 sized : (m b c' d' e' : ℕ) → 0 < m → Sized b c' d' (decoded_by m b c' d' e').size
 sized m b c' d' e' some = by-shape m b c' d' e'
     (λ h. absurd (omega arith))
-    (λ h. let size : (decoded_by m b c' d' e').size ≡ 1 = ap (λ (p : Decoded). p.size) h.2 in
-    record { lead = λ more. absurd (omega arith); sec = λ more. absurd (omega arith); third = λ more. absurd (omega arith) })
-    (λ h. let size : (decoded_by m b c' d' e').size ≡ 1 = ap (λ (p : Decoded). p.size) h.3 in
-    record { lead = λ more. absurd (omega arith); sec = λ more. absurd (omega arith); third = λ more. absurd (omega arith) })
-    (λ h. let size : (decoded_by m b c' d' e').size ≡ 1 = ap (λ (p : Decoded). p.size) h.2 in
-    record { lead = λ more. absurd (omega arith); sec = λ more. absurd (omega arith); third = λ more. absurd (omega arith) })
-    (λ h. let size : (decoded_by m b c' d' e').size ≡ 1 = ap (λ (p : Decoded). p.size) h.4 in
-    record { lead = λ more. absurd (omega arith); sec = λ more. absurd (omega arith); third = λ more. absurd (omega arith) })
-    (λ h. let size : (decoded_by m b c' d' e').size ≡ 1 = ap (λ (p : Decoded). p.size) h.4 in
-    record { lead = λ more. absurd (omega arith); sec = λ more. absurd (omega arith); third = λ more. absurd (omega arith) })
-    (λ h. let size : (decoded_by m b c' d' e').size ≡ 2 = ap (λ (p : Decoded). p.size) h.4 in
-    let leads = leads-two b (omega arith) (omega arith) in record { lead = λ more. omega arith; sec = λ more. h.3; third = λ more. absurd (omega arith) })
-    (λ h. let size : (decoded_by m b c' d' e').size ≡ 2 = ap (λ (p : Decoded). p.size) h.5 in
-    let leads = leads-two b (omega arith) (omega arith) in record { lead = λ more. omega arith; sec = λ more. h.3; third = λ more. absurd (omega arith) })
-    (λ h. let size : (decoded_by m b c' d' e').size ≡ 2 = ap (λ (p : Decoded). p.size) h.5 in
-    let leads = leads-two b (omega arith) (omega arith) in record { lead = λ more. omega arith; sec = λ more. h.3; third = λ more. absurd (omega arith) })
-    (λ h. let size : (decoded_by m b c' d' e').size ≡ 3 = ap (λ (p : Decoded). p.size) h.5 in
-    let leads = leads-three b (omega arith) (omega arith) in record { lead = λ more. omega arith; sec = λ more. h.3; third = λ more. absurd (omega arith) })
-    (λ h. let size : (decoded_by m b c' d' e').size ≡ 3 = ap (λ (p : Decoded). p.size) h.6 in
-    let leads = leads-three b (omega arith) (omega arith) in record { lead = λ more. omega arith; sec = λ more. h.3; third = λ more. absurd (omega arith) })
-    (λ h. let size : (decoded_by m b c' d' e').size ≡ 3 = ap (λ (p : Decoded). p.size) h.6 in
-    let leads = leads-three b (omega arith) (omega arith) in record { lead = λ more. omega arith; sec = λ more. h.3; third = λ more. absurd (omega arith) })
+    (λ h. one-sized b c' d' _ _ refl h.2)
+    (λ h. one-sized b c' d' _ _ refl h.3)
+    (λ h. one-sized b c' d' _ _ refl h.2)
+    (λ h. one-sized b c' d' _ _ refl h.4)
+    (λ h. one-sized b c' d' _ _ refl h.4)
+    (λ h. few-sized b c' d' _ _ (omega arith) h.3 (leads-two b (omega arith) (omega arith)) h.4)
+    (λ h. few-sized b c' d' _ _ (omega arith) h.3 (leads-two b (omega arith) (omega arith)) h.5)
+    (λ h. few-sized b c' d' _ _ (omega arith) h.3 (leads-two b (omega arith) (omega arith)) h.5)
+    (λ h. few-sized b c' d' _ _ (omega arith) h.3 (leads-three b (omega arith) (omega arith)) h.5)
+    (λ h. few-sized b c' d' _ _ (omega arith) h.3 (leads-three b (omega arith) (omega arith)) h.6)
+    (λ h. few-sized b c' d' _ _ (omega arith) h.3 (leads-three b (omega arith) (omega arith)) h.6)
     (λ h. let size : (decoded_by m b c' d' e').size ≡ 4 = ap (λ (p : Decoded). p.size) h.6 in
     let leads = leads-four b h.1 h.2 in record { lead = λ more. omega arith; sec = λ more. h.3; third = λ more. h.4 })
 

@@ -1,4 +1,6 @@
 pub mod AheadLemmas
+pub mod UnitLemmas
+pub mod WideLemmas
 pub mod LoopLemmas
 pub mod OrderLemmas
 pub mod PieceLemmas
@@ -16,6 +18,7 @@ pub mod BlockLemmas
 pub mod BlockOrderLemmas
 pub mod BoundaryLemmas
 pub mod MarkLemmas
+pub mod MarkStepLemmas
 pub mod MarkPlaceLemmas
 pub mod MarkBitLemmas
 pub mod MarkBlockLemmas

@@ -1,16 +1,12 @@
 -- One more scalar, in the fast loop and behind it.
-use Rattle.std.proofs.Common.{◌≡◌, ℕ, ◌+◌, ◌<◌, List, [], ◌∷◌, ◌++◌, length, get_or, map, drop, refl, sym, ap, subst, ◌∙◌}
-use Rattle.std.specs.Char.{IsScalar}
-use Rattle.bstr.specs.Utf8.{decoded, lossy_chars, or_replacement}
+use Rattle.std.proofs.Common.{◌≡◌, ℕ, ◌+◌, ◌<◌, List, [], ◌++◌, length, get_or, drop, refl}
+use Rattle.bstr.specs.Utf8.{decoded}
 use Rattle.lbk_rules.specs.declared.Cell.{Cell}
 use Rattle.lbk_rules.specs.declared.steps.Step.{Step}
 use Rattle.lbk_rules.specs.declared.steps.TheConstants.{HELD}
 use Rattle.lbk_values.specs.declared.profile.Profile.{Profile}
-use Rattle.lbk_values.specs.declared.profile.Profile.TheVariants.{First}
 use Rattle.lbk_rules.specs.FlatTable.{AreFlatKinds, KnowsTaken}
-use Rattle.lbk_rules.specs.Kinds.{kind_cell, real_kind}
-use Rattle.lbk_rules.specs.Verdict.{verdict_between_in}
-use Rattle.lbk_rules.specs.Rows.{left_at, step_by, steps_in, verdict_shown}
+use Rattle.lbk_rules.specs.Rows.{step_by, steps_in, verdict_shown}
 use Rattle.lbk_bytes.specs.declared.deciding.Decided.{Decided}
 use Rattle.lbk_bytes.specs.declared.fill_state.FillState.{FillState}
 use Rattle.lbk_bytes.specs.declared.raw_break.RawBreak.{RawBreak}
@@ -21,28 +17,6 @@ use Rattle.lbk_bytes.specs.Shown.{given_in}
 use Rattle.lbk_bytes.proofs.AnyPieceLemmas.{as-read, read-decided}
 use Rattle.lbk_bytes.proofs.PieceLemmas.{Reads}
 use Rattle.lbk_bytes.proofs.ReachedLemmas.{Reached-step}
-use Rattle.lbk_bytes.proofs.StepLemmas.{IsSwiftStep, knows-more, swift-step}
-
-pub Decided-one : (profile : Profile) (cell : ℕ → Cell) (text taken kinds : List ℕ)
-    (row at c size shown : ℕ) (rest : List ℕ) (step : Step)
-    → AreFlatKinds kinds cell → IsScalar c
-    → c ≡ or_replacement (decoded (drop at text)).char → size ≡ (decoded (drop at text)).size → rest ≡ drop (at + size) text
-    → step ≡ step_by (steps_in First) row (get_or kinds c 0)
-    → verdict_shown shown ≡ verdict_between_in profile (map cell taken) (cell c ∷ map cell (lossy_chars rest))
-    → KnowsTaken cell row taken
-    → IsDecided profile cell text at taken (record { shown = shown; row = step.next; at = at + size })
-Decided-one profile cell text taken kinds row at c size shown rest step are scalar is_char is_size is_rest same decides known =
-    let kind = get_or kinds c 0 in
-    let here : IsSwiftStep First (left_at row) (kind_cell (real_kind kind)) step =
-    subst (λ s. IsSwiftStep First (left_at row) (kind_cell (real_kind kind)) s) (sym same) (swift-step First (steps_in First) row kind refl known.0) in
-    record {
-      moved = ap (λ n. at + n) is_size;
-      knows = subst (λ x. KnowsTaken cell step.next (taken ++ x ∷ [])) is_char
-          (knows-more cell row step.next c (real_kind kind) (are c scalar) here.begins here.leads taken known);
-      decides = decides
-          ∙ ap (λ l. verdict_between_in profile (map cell taken) (cell c ∷ map cell (lossy_chars l))) is_rest
-          ∙ ap (λ x. verdict_between_in profile (map cell taken) (cell x ∷ map cell (lossy_chars (drop (at + size) text)))) is_char;
-    }
 
 pub Reached-decided : (profile : Profile) (cell : ℕ → Cell) (text : List ℕ) (all : Ahead)
     (out after : List RawBreak) (here : FillState) (next : ℕ) (found : Decided)

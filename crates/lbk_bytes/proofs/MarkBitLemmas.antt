@@ -41,27 +41,16 @@ in-none : (index bits i : ℕ) → bits < 2 ^ 64 → (i / 64 < index / 64) ⊎ (
 in-none index bits i fits (inl before) = and_left (leb index i) (is_set bits (i - index)) (lt-leb index i (omega arith))
 in-none index bits i fits (inr past) = and_right (leb index i) (is_set bits (i - index)) (none-past bits (i - index) fits (omega arith))
 
-first-only : (index bits i : ℕ) → bits < 2 ^ 64 → index % 64 ≡ 0
+-- where no other word has it, the word of its index has it
+alone : (index bits i : ℕ) → bits < 2 ^ 64 → ((i / 64 ≡ index / 64 → ⊥) → (i / 64 < index / 64) ⊎ (index + 64 ≤ i))
     → ((i / 64 == index / 64) && is_set (bits * 2 ^ (index % 64) % 2 ^ 64) (i % 64)) ≡ (leb index i && is_set bits (i - index))
-first-only index bits i fits whole =
+alone index bits i fits no_other =
     ⊎_elim
     (λ (same : i / 64 ≡ index / 64).
     ap (λ b. b && is_set (bits * 2 ^ (index % 64) % 2 ^ 64) (i % 64)) (eq-eqb (i / 64) (index / 64) same) ∙ in-first index bits i same)
     (λ (apart : i / 64 ≡ index / 64 → ⊥).
     and_left (i / 64 == index / 64) (is_set (bits * 2 ^ (index % 64) % 2 ^ 64) (i % 64)) (ne_eqb (i / 64) (index / 64) apart)
-    ∙ sym (in-none index bits i fits
-    (⊎_elim (λ (less : i / 64 < index / 64). inl less) (λ (more : index / 64 ≤ i / 64). inr (omega arith)) (cases_lt (i / 64) (index / 64)))))
-    (cases_eq (i / 64) (index / 64))
-
-last-only : (index bits i : ℕ) → bits < 2 ^ 64 → i / 64 ≤ index / 64
-    → ((i / 64 == index / 64) && is_set (bits * 2 ^ (index % 64) % 2 ^ 64) (i % 64)) ≡ (leb index i && is_set bits (i - index))
-last-only index bits i fits within =
-    ⊎_elim
-    (λ (same : i / 64 ≡ index / 64).
-    ap (λ b. b && is_set (bits * 2 ^ (index % 64) % 2 ^ 64) (i % 64)) (eq-eqb (i / 64) (index / 64) same) ∙ in-first index bits i same)
-    (λ (apart : i / 64 ≡ index / 64 → ⊥).
-    and_left (i / 64 == index / 64) (is_set (bits * 2 ^ (index % 64) % 2 ^ 64) (i % 64)) (ne_eqb (i / 64) (index / 64) apart)
-    ∙ sym (in-none index bits i fits (inl (omega arith))))
+    ∙ sym (in-none index bits i fits (no_other apart)))
     (cases_eq (i / 64) (index / 64))
 
 both : (index bits i : ℕ) → bits < 2 ^ 64
@@ -91,7 +80,8 @@ both index bits i fits =
 pub marked-whole : (words new : List ℕ) (index bits i : ℕ) → bits < 2 ^ 64 → index % 64 ≡ 0
     → is_marked new i ≡ (is_marked words i || ((i / 64 == index / 64) && is_set (bits * 2 ^ (index % 64) % 2 ^ 64) (i % 64)))
     → is_marked new i ≡ (is_marked words i || (leb index i && is_set bits (i - index)))
-marked-whole words new index bits i fits whole once = once ∙ ap (λ b. is_marked words i || b) (first-only index bits i fits whole)
+marked-whole words new index bits i fits whole once = once ∙ ap (λ b. is_marked words i || b) (alone index bits i fits (λ apart.
+    ⊎_elim (λ (less : i / 64 < index / 64). inl less) (λ (more : index / 64 ≤ i / 64). inr (omega arith)) (cases_lt (i / 64) (index / 64))))
 
 pub marked-both : (words some new : List ℕ) (index bits i : ℕ) → bits < 2 ^ 64
     → is_marked some i ≡ (is_marked words i || ((i / 64 == index / 64) && is_set (bits * 2 ^ (index % 64) % 2 ^ 64) (i % 64)))
@@ -106,4 +96,4 @@ marked-both words some new index bits i fits once twice =
 pub marked-last : (words new : List ℕ) (index bits i : ℕ) → bits < 2 ^ 64 → i / 64 ≤ index / 64
     → is_marked new i ≡ (is_marked words i || ((i / 64 == index / 64) && is_set (bits * 2 ^ (index % 64) % 2 ^ 64) (i % 64)))
     → is_marked new i ≡ (is_marked words i || (leb index i && is_set bits (i - index)))
-marked-last words new index bits i fits within once = once ∙ ap (λ b. is_marked words i || b) (last-only index bits i fits within)
+marked-last words new index bits i fits within once = once ∙ ap (λ b. is_marked words i || b) (alone index bits i fits (λ apart. inl (omega arith)))

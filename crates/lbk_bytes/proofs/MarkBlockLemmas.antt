@@ -8,16 +8,19 @@ use Rattle.lbk_rules.specs.declared.Cell.{Cell}
 use Rattle.lbk_rules.specs.declared.Verdict.{Verdict}
 use Rattle.lbk_rules.specs.declared.steps.Step.{Step}
 use Rattle.lbk_rules.specs.declared.neighbours.Neighbours.{Neighbours}
+use Rattle.lbk_rules.specs.declared.flat_table.FlatTable.{FlatTable}
 use Rattle.lbk_values.specs.declared.profile.Profile.{Profile}
 use Rattle.lbk_rules.specs.Breaks.{break_by, is_no}
-use Rattle.lbk_rules.specs.Neighbours.{step_behind}
-use Rattle.lbk_rules.specs.Rows.{verdict_shown}
+use Rattle.lbk_rules.specs.FlatTable.{AreFlatKinds}
+use Rattle.lbk_rules.specs.Neighbours.{AreTold, step_behind}
+use Rattle.lbk_rules.specs.Rows.{IsPlace, steps_in, verdict_shown}
 use Rattle.lbk_bytes.specs.declared.fill_state.FillState.{FillState}
 use Rattle.lbk_masks.specs.Bits.{AreKeptBelow, AreKeptFrom}
-use Rattle.lbk_bytes.specs.Blocks.{IsBlock, IsByteTold, byte_at, place_at, row_before, stands_at}
+use Rattle.lbk_bytes.specs.declared.blocks.Marks.{Marks}
+use Rattle.lbk_bytes.specs.Blocks.{AreMarks, IsBlock, IsByteTold, byte_at, place_at, row_before, stands_at}
 use Rattle.lbk_bytes.specs.Bytes.{with_break}
-use Rattle.lbk_bytes.specs.Marking.{AreBelow, AreFrom}
-use Rattle.lbk_bytes.specs.Marks.{stands_among}
+use Rattle.lbk_bytes.specs.Marking.{AreBelow, AreClear, AreFrom, Marked, MarksOn}
+use Rattle.lbk_bytes.specs.Marks.{is_marked, stands_among}
 use Rattle.lbk_bytes.specs.Reached.{Ahead, Reached}
 use Rattle.lbk_bytes.specs.Shown.{given_in, raw_of, shown}
 use Rattle.lbk_bytes.proofs.BlockScalarLemmas.{arrive, begins-or, depart, end-low, scalar-more, stay}
@@ -25,6 +28,7 @@ use Rattle.lbk_bytes.proofs.MarkBitLemmas.{none-past}
 use Rattle.lbk_bytes.proofs.MarkLemmas.{among-append, below-append, below-none, below-wider, break-below, or-false}
 use Rattle.lbk_bytes.proofs.MarkPlaceLemmas.{break-from, from-none, from-wider}
 use Rattle.lbk_bytes.proofs.ShownLemmas.{shown-raw}
+use Rattle.lbk_bytes.proofs.StepLemmas.{told-as}
 
 -- A list of breaks as the front of a block
 
@@ -219,3 +223,45 @@ block-taken profile cell text more all steps kinds pairs row at begin taken stan
   where
     none-from : (kept taken k : ℕ) → kept < 2 ^ 64 → ((i : ℕ) → taken ≤ i → i < 64 → is_set kept i ≡ false) → taken ≤ k → is_set kept k ≡ false
     none-from kept taken k fits none outside = ⊎_elim (λ (few : k < 64). none k outside few) (λ (past : 64 ≤ k). none-past kept k fits past) (cases_lt k 64)
+
+-- Some bytes after others
+
+pub marks-on : {table : FlatTable} {steps : List (List Step)} {text : List ℕ} {from : ℕ} {old mid new : List ℕ} {start here there : FillState}
+    → MarksOn table steps text from old start mid here → MarksOn table steps text from mid here new there
+    → MarksOn table steps text from old start new there
+marks-on first next = record {
+  within = (next.within.0, omega (arith, first.within.1, next.within.1), next.within.2);
+  none = λ clear. next.none (first.none clear);
+  marked = λ profile cell more all swift flat begun. next.marked profile cell more all swift flat (first.marked profile cell more all swift flat begun);
+}
+
+-- bytes of a block that are taken by its marks
+pub masked-on : (table : FlatTable) (steps : List (List Step)) (text : List ℕ) (from at : ℕ) (marks : Marks) (old new : List ℕ) (here there : FillState)
+    → IsPlace there.row × (here.at ≤ there.at) × (there.at ≤ length text)
+    → ((i : ℕ) → there.at ≤ from + i → is_marked new i ≡ is_marked old i)
+    → AreMarks table.pairs text at marks
+    → ((profile : Profile) (cell : ℕ → Cell) (steps : List (List Step)) (kinds : List ℕ) (more : List ℕ) (all : Ahead) → steps ≡ steps_in profile
+    → AreFlatKinds kinds cell → AreTold steps kinds table.pairs → AreMarks table.pairs text at marks
+    → Marked profile cell (text ++ more) all from (length text) here old
+    → Marked profile cell (text ++ more) all from (length text) there new)
+    → MarksOn table steps text from old here new there
+masked-on table steps text from at marks old new here there within after are_marks marked = record {
+  within = within;
+  none = λ clear i past. after i past ∙ clear i (omega (arith, within.1));
+  marked = λ profile cell more all swift flat.
+      marked profile cell steps table.kinds more all swift flat.kinds (told-as profile table.kinds table.pairs table.pairs cell steps flat refl swift) are_marks;
+}
+
+-- bytes that are taken by steps
+pub stepped-on : (table : FlatTable) (steps : List (List Step)) (text : List ℕ) (from : ℕ) (old new : List ℕ) (here there : FillState)
+    → IsPlace there.row × (here.at ≤ there.at) × (there.at ≤ length text)
+    → (AreClear from here.at old → AreClear from there.at new)
+    → ((profile : Profile) (cell : ℕ → Cell) (more : List ℕ) (all : Ahead) → steps ≡ steps_in profile → AreFlatKinds table.kinds cell
+    → Marked profile cell (text ++ more) all from (length text) here old
+    → Marked profile cell (text ++ more) all from (length text) there new)
+    → MarksOn table steps text from old here new there
+stepped-on table steps text from old new here there within none marked = record {
+  within = within;
+  none = none;
+  marked = λ profile cell more all swift flat. marked profile cell more all swift flat.kinds;
+}

@@ -1,5 +1,5 @@
 -- Bits that are set for breaks.
-use Rattle.std.proofs.Common.{◌≡◌, ℕ, ◌+◌, ◌-◌, ◌*◌, ◌/◌, ◌%◌, ◌^◌, ◌==◌, ◌<◌, ◌≤◌, ◌&&◌, ◌||◌, Bool, true, false, cond, not, List, [], ◌∷◌, ◌++◌, length, take, drop, get_or, set, append_assoc, get_or-set_other, get_or-set_same, refl, sym, ap, ap₂, subst, ◌∙◌, ⊎_elim, arith}
+use Rattle.std.proofs.Common.{◌≡◌, ℕ, zero, suc, ◌+◌, ◌-◌, ◌*◌, ◌/◌, ◌%◌, ◌^◌, ◌==◌, ◌<◌, ◌≤◌, ◌&&◌, ◌||◌, Bool, true, false, cond, not, List, [], ◌∷◌, ◌++◌, length, take, drop, get_or, set, append_assoc, get_or-set_other, get_or-set_same, refl, sym, ap, ap₂, subst, ◌∙◌, ⊎_elim, arith}
 use Rattle.std.specs.Int.{from_bool}
 use Rattle.std.specs.Int.Bits.{bit_or}
 use Rattle.std.proofs.lemmas.Bool.{and_right, cases_eq, eq-eqb, ne_eqb}
@@ -12,11 +12,15 @@ use Rattle.lbk_masks.specs.Sets.{is_set}
 use Rattle.lbk_rules.specs.declared.Break.{Break}
 use Rattle.lbk_rules.specs.declared.Cell.{Cell}
 use Rattle.lbk_rules.specs.declared.Verdict.{Verdict}
+use Rattle.lbk_rules.specs.declared.steps.Step.{Step}
+use Rattle.lbk_rules.specs.declared.flat_table.FlatTable.{FlatTable}
 use Rattle.lbk_rules.specs.Breaks.{break_by, is_no}
+use Rattle.lbk_rules.specs.FlatTable.{IsFlatOf}
+use Rattle.lbk_rules.specs.Rows.{IsPlace, steps_in}
 use Rattle.lbk_values.specs.declared.profile.Profile.{Profile}
 use Rattle.lbk_bytes.specs.declared.fill_state.FillState.{FillState}
 use Rattle.lbk_bytes.specs.Bytes.{with_break}
-use Rattle.lbk_bytes.specs.Marking.{AreBelow, Marked, uncounted}
+use Rattle.lbk_bytes.specs.Marking.{AreBelow, AreClear, Marked, MarksFurther, MarksOn, uncounted}
 use Rattle.lbk_bytes.specs.Marks.{boundary_from, is_marked, stands_among}
 use Rattle.lbk_bytes.specs.Reached.{Ahead, Reached, onward_to}
 use Rattle.lbk_masks.proofs.BitLemmas.{set-none}
@@ -186,6 +190,15 @@ Marked-alone profile cell text all from stop here there old new further m =
     subst (λ t. Marked profile cell t all from stop there new) (append-nil text)
     (further (subst (λ t. Marked profile cell t all from stop here old) (sym (append-nil text)) m))
 
+-- one part by the front of a text, and then one where nothing follows it
+pub Marked-by-both : (profile : Profile) (cell : ℕ → Cell) (text : List ℕ) (all : Ahead) (from stop : ℕ) (here there past : FillState) (old mid new : List ℕ) → stop ≤ length text
+    → (Marked profile cell (take stop text ++ drop stop text) all from (length (take stop text)) here old
+    → Marked profile cell (take stop text ++ drop stop text) all from (length (take stop text)) there mid)
+    → (Marked profile cell (text ++ []) all from stop there mid → Marked profile cell (text ++ []) all from stop past new)
+    → Marked profile cell text all from stop here old → Marked profile cell text all from stop past new
+Marked-by-both profile cell text all from stop here there past old mid new within first second m =
+    Marked-alone profile cell text all from stop there past mid new second (Marked-by-front profile cell text all from stop here there old mid within first m)
+
 -- where nothing was given yet
 pub Marked-none : (profile : Profile) (cell : ℕ → Cell) (text : List ℕ) (all : Ahead) (stop : ℕ) (here : FillState) (words : List ℕ)
     → ((i : ℕ) → is_marked words i ≡ false) → Reached profile cell text all (uncounted here) []
@@ -224,3 +237,66 @@ pub Marked-counted : (profile : Profile) (cell : ℕ → Cell) (text : List ℕ)
 Marked-counted profile cell text all from stop here words one m =
     let n = subst (λ l. Marked profile cell text all from stop here l) (as-one words one) m in
     record { given = n.given; reached = n.reached; below = n.below; marked = n.marked; boundary = n.boundary }
+
+-- The bits so far
+
+-- the bits that a call has set so far
+pub record MarksSoFar (table : FlatTable) (profile : Profile) (text : List ℕ) (stop : ℕ) (start here : FillState) (words : List ℕ) : Type 0 where
+  pub row : IsPlace here.row
+  pub onward : start.at ≤ here.at
+  pub within : here.at ≤ length text
+  pub near : here.at ≤ stop + 3
+  pub none : AreClear start.at here.at words
+  pub marked : (cell : ℕ → Cell) (all : Ahead) → IsFlatOf table cell
+      → Reached profile cell text all (uncounted start) []
+      → Marked profile cell text all start.at stop here words
+
+pub marks-further : (table : FlatTable) (profile : Profile) (text : List ℕ) (stop : ℕ) (start here there : FillState) (old new : List ℕ)
+    → MarksSoFar table profile text stop start here old → MarksFurther table profile text start.at stop old here new there
+    → MarksSoFar table profile text stop start there new
+marks-further table profile text stop start here there old new so_far more = record {
+  row = more.within.0;
+  onward = omega (arith, so_far.onward, more.within.1);
+  within = more.within.2;
+  near = more.within.3;
+  none = more.none so_far.none;
+  marked = λ cell all flat begun. more.marked cell all flat (so_far.marked cell all flat begun);
+}
+
+-- no bit of a word of 0 is set
+zero-there : (k : ℕ) → ◌≡◌ {A = ℕ} (get_or (0 ∷ []) k 0) 0
+zero-there zero = refl
+zero-there (suc k) = refl
+
+zero-clear : (i : ℕ) → is_marked (0 ∷ []) i ≡ false
+zero-clear i = ap (λ n. is_set n (i % 64)) (zero-there (i / 64)) ∙ set-none (i % 64)
+
+-- one word, before anything was taken, and behind a block
+pub word-none : (table : FlatTable) (profile : Profile) (text : List ℕ) (stop : ℕ) (start : FillState) → IsPlace start.row → start.at ≤ stop → stop ≤ length text
+    → MarksSoFar table profile text stop start (uncounted start) (0 ∷ [])
+word-none table profile text stop start row before within = record {
+  row = row;
+  onward = omega arith;
+  within = omega arith;
+  near = omega arith;
+  none = λ i _. zero-clear i;
+  marked = λ cell all flat r. Marked-none profile cell text all stop (uncounted start) (0 ∷ []) zero-clear r;
+}
+
+pub word-begun : (table : FlatTable) (profile : Profile) (steps : List (List Step)) (text : List ℕ) (stop : ℕ) (start there : FillState) (new : List ℕ) → stop ≤ length text
+    → steps ≡ steps_in profile → length new ≡ 1 → MarksOn table steps (take stop text) start.at (0 ∷ []) start new there
+    → MarksSoFar table profile text stop start (record { count = get_or new 0 0; row = there.row; at = there.at }) (get_or new 0 0 ∷ [])
+word-begun table profile steps text stop start there new within swift one m =
+    let front = take stop text in
+    let ends = length-take-le stop text within in
+    record {
+      row = m.within.0;
+      onward = m.within.1;
+      within = omega (arith, ends, m.within.2);
+      near = omega (arith, ends, m.within.2);
+      none = subst (λ w. AreClear start.at there.at w) (as-one new one) (m.none (λ i _. zero-clear i));
+      marked = λ cell all flat.
+          Marked-begun profile cell text all start.at stop (uncounted start) (record { count = get_or new 0 0; row = there.row; at = there.at }) (get_or new 0 0 ∷ []) within
+          (λ r. Marked-counted profile cell (front ++ drop stop text) all start.at (length front) there new one
+          (m.marked profile cell (drop stop text) all swift flat (Marked-none profile cell (front ++ drop stop text) all (length front) start (0 ∷ []) zero-clear r)));
+    }

@@ -26,7 +26,7 @@ piece-within text at within =
     (omega arith, omega arith)
 
 -- what is left of a text
-pub rest-of : (text : List ℕ) (at : ℕ) → take (length text - at) (drop at text) ≡ drop at text
+pub rest-of : {A : Type 0} (text : List A) (at : ℕ) → take (length text - at) (drop at text) ≡ drop at text
 rest-of text at = take_all (length text - at) (drop at text) (omega (arith, length-drop at text))
 
 -- a scalar is a code

@@ -56,3 +56,13 @@ pub record MarksOn (table : FlatTable) (steps : List (List Step)) (text : List �
       → steps ≡ steps_in profile → IsFlatOf table cell
       → Marked profile cell (text ++ more) all from (length text) start old
       → Marked profile cell (text ++ more) all from (length text) result new
+
+-- scalars are taken, at least one, that begin before byte `stop`: the same of the words that there were and that there
+-- are now
+pub record MarksFurther (table : FlatTable) (profile : Profile) (text : List ℕ) (from stop : ℕ) (old : List ℕ)
+    (start : FillState) (new : List ℕ) (result : FillState) : Type 0 where
+  pub within : IsPlace result.row × (start.at < result.at) × (result.at ≤ length text) × (result.at ≤ stop + 3)
+  pub none : AreClear from start.at old → AreClear from result.at new
+  pub marked : (cell : ℕ → Cell) (all : Ahead) → IsFlatOf table cell
+      → Marked profile cell text all from stop start old
+      → Marked profile cell text all from stop result new

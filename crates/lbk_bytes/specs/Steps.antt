@@ -35,7 +35,7 @@ pub record StepsOn {A : Type 0} (Fits InOrder : List A → ℕ → ℕ → ℕ �
       → Gets profile cell (text ++ more) all last start old
       → Gets profile cell (text ++ more) all last result new
 
--- a call stands in a text of so many bytes, and has room for so many breaks
+-- a call stands in a text of so many units, and has room for so many breaks or positions
 abbrev pub IsInText : FillState → ℕ → ℕ → Type 0
 IsInText here size room = (here.count ≤ room) × IsPlace here.row × (here.at ≤ size)
 

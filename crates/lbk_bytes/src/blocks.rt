@@ -1,13 +1,8 @@
 //! Breaks in blocks of up to 64 bytes from the sets of their bytes, so that no step waits for the one before it.
 
 ghost use Rattle.std.specs.Prelude.{◌≡◌, ℕ, ◌+◌, ◌-◌, ◌<◌, ◌≤◌, ◌++◌, List, length, nat_le, IfSome};
-ghost use Rattle.lbk_rules.specs.declared.Cell.{Cell};
-ghost use Rattle.lbk_values.specs.declared.profile.Profile.{Profile};
-ghost use Rattle.lbk_rules.specs.FlatTable.{AreFlatKinds};
-ghost use Rattle.lbk_rules.specs.Neighbours.{AreTold};
-ghost use Rattle.lbk_rules.specs.Rows.{AreSteps, IsPlace, steps_in};
-ghost use Rattle.lbk_masks.specs.Sets.{is_set};
-ghost use Rattle.lbk_masks.specs.Bits.{AreKeptBelow, IsLowest};
+ghost use Rattle.lbk_bytes.specs.Terms.{AreFlatKinds, AreKeptBelow, AreSteps, AreTold, Cell, IsLowest, IsPlace};
+ghost use Rattle.lbk_bytes.specs.Terms.{Profile, is_set, steps_in};
 ghost use Rattle.lbk_bytes.specs.Blocks.{AreEnded, AreInside, AreLeft, AreMarks, IsAhead, IsBlock, place_in};
 ghost use Rattle.lbk_bytes.specs.Blocks.{row_before};
 ghost use Rattle.lbk_bytes.specs.Reached.{Ahead, IsInOrder, Reached};

@@ -1,13 +1,11 @@
 //! The position before one scalar, whatever it is.
 
 ghost use Rattle.std.specs.Prelude.{ℕ, ◌+◌, ◌<◌, ◌≤◌, List, length};
-ghost use Rattle.lbk_rules.specs.declared.Cell.{Cell};
-ghost use Rattle.lbk_rules.specs.FlatTable.{IsFlatBy, KnowsTaken};
-ghost use Rattle.lbk_rules.specs.Rows.{IsPlace, IsShown};
-ghost use Rattle.lbk_bytes.specs.Decided.{IsDecided};
+ghost use Rattle.lbk_bytes.specs.Terms.{Cell, IsFlatBy, IsPlace, IsShown, KnowsTaken};
+ghost use Rattle.lbk_bytes.specs.Decided.{IsUnitDecided, on_from};
 
 use crate::ahead::shown_ahead;
-use bstr::decode_lossy;
+use crate::unit::Unit;
 use lbk_rules::{KindSource, Profile, step_in};
 
 /// What is decided before a scalar, and where a call stands after it.
@@ -17,17 +15,18 @@ pub struct Decided {
     pub shown: u16,
     /// The place of the table's row that knows of the scalar too.
     pub row: usize,
-    /// The byte after the scalar.
+    /// The unit after the scalar.
     pub at: usize,
 }
 
-/// Decides the position at this byte, by the row there and by what follows, and takes the scalar that begins there.
-pub fn decide_one<K: KindSource>(
+/// Decides the position before this unit, by the row there and by what follows, and takes the scalar that begins there.
+#[inline(always)]
+pub fn decide_one<U: Unit, K: KindSource>(
     table: &K,
     profile: Profile,
     row: usize,
     at: usize,
-    text: &[u8],
+    text: &[U],
 ) -> Decided
     requires { IsPlace row × (at < length text.now) }
     ensures within { IsPlace result.row × (at < result.at) × (result.at ≤ length text.now) }
@@ -35,15 +34,15 @@ pub fn decide_one<K: KindSource>(
     ensures near { result.at ≤ at + 4 }
     ensures decided { (cell : ℕ → Cell) (taken : List ℕ) → IsFlatBy (K.kinds_of table.now) (K.pairs_of table.now) cell
         → KnowsTaken cell row taken
-        → IsDecided profile cell text.now at taken result }
+        → IsUnitDecided profile cell (on_from U.pieces_of text.now) at taken result }
 {
-    let rest = &text[at..];
-    let (c, size) = decode_lossy(rest);
-    let shown = shown_ahead(table, profile, row, c, &rest[size..]);
-    let step = step_in(Profile::First, row, table.kind_at(c as u32));
+    let found = U::front(&text[at..]);
+    let next = at + found.size;
+    let shown = shown_ahead(table, profile, row, found.scalar, &text[next..]);
+    let step = step_in(Profile::First, row, table.kind_at(found.scalar as u32));
     Decided {
         shown,
         row: step.next as usize,
-        at: at + size,
+        at: next,
     }
 }

@@ -40,78 +40,38 @@ pub(crate) fn scalar_of(width: Width, bytes: &[u8]) -> Option<Scalar>
     requires { more_of width < length bytes.now }
     ensures { IfSome result (λ scalar. decoded bytes.now ≡ good scalar.code scalar.size) }
 {
+    let first = bytes[0];
     match width {
-        Width::One => scalar_of_one(bytes),
-        Width::Two => scalar_of_two(bytes),
-        Width::Three => scalar_of_three(bytes),
+        Width::One => {
+            if 0x7F < first {
+                return None;
+            }
+            Some(Scalar {
+                code: u32::from(first),
+                size: 1,
+            })
+        }
+        Width::Two => {
+            if first < 0xC2 || 0xDF < first || !is_continuation(bytes[1]) {
+                return None;
+            }
+            Some(Scalar {
+                code: code_of_two(first, bytes[1]),
+                size: 2,
+            })
+        }
+        Width::Three => {
+            let (next, last) = (bytes[1], bytes[2]);
+            if first < 0xE0 || 0xEF < first || !is_continuation(next) || !is_continuation(last) {
+                return None;
+            }
+            let code = code_of_three(first, next, last);
+            if !takes_three(code) {
+                return None;
+            }
+            Some(Scalar { code, size: 3 })
+        }
     }
-}
-
-/// The scalar of one byte at the front of some bytes.
-#[inline(always)]
-fn scalar_of_one(bytes: &[u8]) -> Option<Scalar>
-    requires { 0 < length bytes.now }
-    ensures { IfSome result (λ scalar. decoded bytes.now ≡ good scalar.code scalar.size) }
-{
-    let first = bytes[0];
-    if first < 0x80 {
-        return Some(Scalar {
-            code: u32::from(first),
-            size: 1,
-        });
-    }
-    None
-}
-
-/// The scalar of two bytes at the front of some bytes.
-#[inline(always)]
-fn scalar_of_two(bytes: &[u8]) -> Option<Scalar>
-    requires { 1 < length bytes.now }
-    ensures { IfSome result (λ scalar. decoded bytes.now ≡ good scalar.code scalar.size) }
-{
-    let first = bytes[0];
-    if first < 0xC2 {
-        return None;
-    }
-    if 0xDF < first {
-        return None;
-    }
-    let next = bytes[1];
-    if !is_continuation(next) {
-        return None;
-    }
-    Some(Scalar {
-        code: code_of_two(first, next),
-        size: 2,
-    })
-}
-
-/// The scalar of three bytes at the front of some bytes.
-#[inline(always)]
-fn scalar_of_three(bytes: &[u8]) -> Option<Scalar>
-    requires { 2 < length bytes.now }
-    ensures { IfSome result (λ scalar. decoded bytes.now ≡ good scalar.code scalar.size) }
-{
-    let first = bytes[0];
-    if first < 0xE0 {
-        return None;
-    }
-    if 0xEF < first {
-        return None;
-    }
-    let next = bytes[1];
-    if !is_continuation(next) {
-        return None;
-    }
-    let last = bytes[2];
-    if !is_continuation(last) {
-        return None;
-    }
-    let code = code_of_three(first, next, last);
-    if !takes_three(code) {
-        return None;
-    }
-    Some(Scalar { code, size: 3 })
 }
 
 /// What ill-formed bytes are read as: U+FFFD.

@@ -1,10 +1,7 @@
 //! The end of a text, or of a part of one.
 
-ghost use Rattle.std.specs.Prelude.{◌≡◌, ℕ, ◌+◌, ◌<◌, ◌≤◌, ◌++◌, [], List, length, true};
-ghost use Rattle.lbk_rules.specs.declared.Cell.{Cell};
-ghost use Rattle.lbk_values.specs.declared.profile.Profile.{Profile};
-ghost use Rattle.lbk_rules.specs.FlatTable.{KnowsTaken};
-ghost use Rattle.lbk_rules.specs.Rows.{IsPlace, IsShown, verdict_shown};
+ghost use Rattle.std.specs.Prelude.{◌≡◌, ℕ, ◌+◌, ◌<◌, ◌≤◌, ◌++◌, [], List, length};
+ghost use Rattle.lbk_bytes.specs.Terms.{Cell, IsPlace, IsShown, KnowsTaken, Profile, verdict_shown};
 ghost use Rattle.lbk_bytes.specs.Bytes.{end_in, with_break};
 ghost use Rattle.lbk_bytes.specs.Order.{AreBreaks, AreInOrder};
 ghost use Rattle.lbk_bytes.specs.Reached.{IsInOrder};
@@ -42,7 +39,8 @@ pub fn put_end(goes_on: bool, row: usize, out: &mut [RawBreak], count: usize, at
     put(out, count, at, end_shown(goes_on, row))
 }
 
-/// The number of the verdict at an end, or one by which no line breaks.
+/// The number of the verdict at an end, or one by which no line breaks. Where the text goes on, that is the verdict
+/// before a letter, if it is a must.
 pub fn end_shown(goes_on: bool, row: usize) -> u16
     requires { IsPlace row }
     ensures shown { IsShown result }
@@ -51,20 +49,10 @@ pub fn end_shown(goes_on: bool, row: usize) -> u16
         → (0 < row → 0 < length taken)
         → with_break at (verdict_shown result) [] ≡ end_in goes_on profile cell taken at }
 {
-    if goes_on {
-        return shown_before_more(row);
+    if !goes_on {
+        return if row == 0 { START } else { END };
     }
-    if row == 0 { START } else { END }
-}
-
-/// The same where the text goes on: the verdict that comes before a letter, where that is a must.
-fn shown_before_more(row: usize) -> u16
-    requires { IsPlace row }
-    ensures shown { IsShown result }
-    ensures ends { (profile : Profile) (cell : ℕ → Cell) (taken : List ℕ) (at : ℕ)
-        → KnowsTaken cell row taken
-        → with_break at (verdict_shown result) [] ≡ end_in true profile cell taken at }
-{
+    // Before a letter a line must end just where it must whatever follows.
     let shown = step_in(Profile::First, row, LETTER).shown;
     if shown % 256 == MUST {
         return shown;

@@ -1,9 +1,7 @@
 //! A block that is filled with breaks.
 
 ghost use Rattle.std.specs.Prelude.{◌≡◌, ℕ, ◌+◌, ◌<◌, ◌≤◌, ◌++◌, [], List, length, take};
-ghost use Rattle.lbk_rules.specs.declared.Cell.{Cell};
-ghost use Rattle.lbk_rules.specs.FlatTable.{IsFlatBy};
-ghost use Rattle.lbk_rules.specs.Rows.{IsPlace, IsShown, steps_in, verdict_shown};
+ghost use Rattle.lbk_bytes.specs.Terms.{Cell, IsFlatBy, IsPlace, IsShown, verdict_shown};
 ghost use Rattle.lbk_bytes.specs.Bytes.{with_break};
 ghost use Rattle.lbk_bytes.specs.Order.{AreBreaks, AreInOrder};
 ghost use Rattle.lbk_bytes.specs.Reached.{Ahead, IsInOrder, Reached};
@@ -17,7 +15,7 @@ use crate::raw_break::RawBreak;
 use crate::stepping::{quick, scalars};
 use crate::target::Breaks;
 use crate::tries::{are_near, next_try};
-use lbk_rules::{FlatTable, KindSource, Profile, Rows, rows_of, shows_break};
+use lbk_rules::{FlatTable, KindSource, Profile, rows_of, shows_break};
 
 /// Goes on until the block is full or the text ends, and writes the breaks before the scalars taken after those in
 /// the front of the block. In a text of fewer than 64 bytes the scalars that no block takes are gone over here, with
@@ -44,7 +42,8 @@ pub fn fill<const MASKS: bool, K: KindSource>(
     copied(fill_on::<MASKS, K>(table, profile, copied(begun), text, out))
 }
 
-/// Takes the common scalars of a text of fewer than 64 bytes.
+/// Takes the common scalars of a text of fewer than 64 bytes. A block comes first, unless they are very few or of
+/// scalars that a block leaves to steps.
 #[inline(always)]
 fn short<const MASKS: bool, K: KindSource>(
     table: &K,
@@ -56,35 +55,16 @@ fn short<const MASKS: bool, K: KindSource>(
     requires { IsInText start (length text.now) (length out.old) }
     ensures { FillsIn profile (K.kinds_of table.now) (K.pairs_of table.now) text.now out.old start out.new result }
 {
-    if BLOCK <= text.len() - start.at {
+    let left = text.len() - start.at;
+    if BLOCK <= left {
         return start;
     }
     let steps = rows_of(profile);
-    let begun = try_short_block::<MASKS, K>(table, profile, steps, start, text, out);
-    scalars(Breaks, table, steps, begun, text.len(), text, out)
-}
-
-/// Takes a block of a text of fewer than 64 bytes, unless they are very few or of scalars that a block leaves to steps.
-#[inline(always)]
-fn try_short_block<const MASKS: bool, K: KindSource>(
-    table: &K,
-    profile: Profile,
-    steps: &Rows,
-    start: FillState,
-    text: &[u8],
-    out: &mut [RawBreak],
-) -> FillState
-    requires { (start.count ≤ length out.old) × IsPlace start.row × (start.at ≤ length text.now)
-        × (steps.now ≡ steps_in profile) }
-    ensures { FillsIn profile (K.kinds_of table.now) (K.pairs_of table.now) text.now out.old start out.new result }
-{
-    if !MASKS || text.len() - start.at < LEAST {
-        return start;
+    let mut here = start;
+    if MASKS && LEAST <= left && are_near(&text[start.at..]) {
+        here = copied(blocks::<MASKS, K>(table.pairs(), table, steps, start, text, out));
     }
-    if !are_near(&text[start.at..]) {
-        return start;
-    }
-    copied(blocks::<MASKS, K>(table.pairs(), table, steps, start, text, out))
+    scalars(Breaks, table, steps, here, text.len(), text, out)
 }
 
 /// The same state, field by field. A state that a call takes or returns stands in memory, and a copy of it in

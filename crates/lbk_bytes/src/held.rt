@@ -1,14 +1,13 @@
 //! Held positions: what follows decides them, and in some texts one comes close behind another.
 
 ghost use Rattle.std.specs.Prelude.{ℕ, ◌+◌, ◌<◌, ◌≤◌, length};
-ghost use Rattle.lbk_rules.specs.declared.Cell.{Cell};
-ghost use Rattle.lbk_rules.specs.FlatTable.{IsFlatBy};
-ghost use Rattle.lbk_rules.specs.Rows.{IsPlace};
+ghost use Rattle.lbk_bytes.specs.Terms.{Cell, IsFlatBy, IsPlace};
 ghost use Rattle.lbk_bytes.specs.Reached.{Ahead};
 
 use crate::deciding::decide_one;
 use crate::fill_state::FillState;
 use crate::target::Target;
+use crate::tries::patience_after;
 use lbk_rules::{KindSource, Profile};
 
 /// How many scalars are taken singly behind one that may be a quotation mark.
@@ -41,7 +40,8 @@ pub(crate) fn take_ones<T: Target, K: KindSource>(
     let mut here = take_one(target, table, profile, start, text, out);
     let mut patience = PATIENCE;
     while here.at < stop && 0 < patience && target.has_room(out, here.count) {
-        patience = patience_before(text[here.at], patience);
+        let byte = text[here.at];
+        patience = patience_after(byte == 0xC2 || byte == 0xE2, PATIENCE, patience);
         here = take_one(target, table, profile, here, text, out);
     }
     here
@@ -76,15 +76,4 @@ fn take_one<T: Target, K: KindSource>(
         row: decided.row,
         at: decided.at,
     }
-}
-
-/// How many more are taken singly behind a scalar that begins with this byte.
-#[inline(always)]
-fn patience_before(byte: u8, patience: usize) -> usize
-    requires { 0 < patience }
-{
-    if byte == 0xC2 || byte == 0xE2 {
-        return PATIENCE;
-    }
-    patience - 1
 }

@@ -20,6 +20,10 @@ mod raw_break;
 mod stepping;
 mod target;
 mod tries;
+mod unit;
+mod utf16;
+mod utf32;
+mod utf8;
 
 pub use deciding::{Decided, decide_one};
 pub use ends::{END, START, end_shown, put_end};
@@ -29,3 +33,4 @@ pub use marking::{fill_marks, mark_end};
 pub use marks::clear;
 pub use profiles::{goes_on, plain_number, profile_numbered};
 pub use raw_break::RawBreak;
+pub use unit::{Unit, UnitScalar};

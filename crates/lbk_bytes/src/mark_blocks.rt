@@ -1,12 +1,7 @@
 //! Blocks of 64 bytes whose bits the sets of their bytes tell at once.
 
 ghost use Rattle.std.specs.Prelude.{◌≡◌, ℕ, ◌+◌, ◌*◌, ◌<◌, ◌≤◌, ◌++◌, List, length};
-ghost use Rattle.lbk_rules.specs.declared.Cell.{Cell};
-ghost use Rattle.lbk_values.specs.declared.profile.Profile.{Profile};
-ghost use Rattle.lbk_rules.specs.declared.steps.Step.{Step};
-ghost use Rattle.lbk_rules.specs.FlatTable.{AreFlatKinds};
-ghost use Rattle.lbk_rules.specs.Neighbours.{AreTold};
-ghost use Rattle.lbk_rules.specs.Rows.{IsPlace, steps_in};
+ghost use Rattle.lbk_bytes.specs.Terms.{AreFlatKinds, AreTold, Cell, IsPlace, Profile, Step, steps_in};
 ghost use Rattle.lbk_bytes.specs.Blocks.{AreEnded, AreMarks};
 ghost use Rattle.lbk_bytes.specs.Marking.{Marked, MarksOn, MayMark};
 ghost use Rattle.lbk_bytes.specs.Marks.{is_marked};

@@ -1,12 +1,9 @@
 //! Words that are filled with a bit for each byte of a text.
 
-ghost use Rattle.std.specs.Prelude.{◌≡◌, ℕ, ◌+◌, ◌*◌, ◌<◌, ◌≤◌, ◌++◌, ◌||◌, [], List, false, length, min};
-ghost use Rattle.lbk_rules.specs.declared.Cell.{Cell};
-ghost use Rattle.lbk_values.specs.declared.profile.Profile.{Profile};
-ghost use Rattle.lbk_rules.specs.FlatTable.{IsFlatOf, KnowsTaken};
-ghost use Rattle.lbk_rules.specs.Rows.{IsPlace};
+ghost use Rattle.std.specs.Prelude.{◌≡◌, ℕ, ◌+◌, ◌*◌, ◌<◌, ◌≤◌, ◌||◌, [], List, false, length, min};
+ghost use Rattle.lbk_bytes.specs.Terms.{Cell, IsFlatOf, IsPlace, KnowsTaken, Profile};
 ghost use Rattle.lbk_bytes.specs.Bytes.{end_in};
-ghost use Rattle.lbk_bytes.specs.Marking.{AreClear, Marked, uncounted};
+ghost use Rattle.lbk_bytes.specs.Marking.{Marked, MarksFurther, uncounted};
 ghost use Rattle.lbk_bytes.specs.Marks.{is_marked, stands_among};
 ghost use Rattle.lbk_bytes.specs.Reached.{Ahead, Reached};
 
@@ -43,7 +40,7 @@ pub fn fill_marks(
 {
     let stop = stop_of(start.at, text, words.len());
     if words.len() == 1 {
-        let here = one_word(table, profile, start, stop, text, words);
+        let here = one_word(table, profile, start, stop, text);
         words[0] = here.count as u64;
         return here;
     }
@@ -78,12 +75,7 @@ fn mark_further(
 ) -> FillState
     requires { IsPlace here.row × (from ≤ here.at) × (here.at < stop) × (stop ≤ length text.now)
         × (stop ≤ from + 64 * length words.old) }
-    ensures within { IsPlace result.row × (here.at < result.at) × (result.at ≤ length text.now)
-        × (result.at ≤ stop + 3) }
-    ensures none { AreClear from here.at words.old → AreClear from result.at words.new }
-    ensures marked { (cell : ℕ → Cell) (all : Ahead) → IsFlatOf table.now cell
-        → Marked profile cell text.now all from stop here words.old
-        → Marked profile cell text.now all from stop result words.new }
+    ensures { MarksFurther table.now profile text.now from stop words.old here words.new result }
 {
     let steps = rows_of(profile);
     let front = &text[..stop];

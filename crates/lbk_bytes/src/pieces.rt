@@ -1,11 +1,11 @@
 //! Scalars of any width and ill-formed bytes, where they are mixed.
 
-ghost use Rattle.std.specs.Prelude.{◌<◌};
 ghost use Rattle.lbk_bytes.specs.Steps.{MayStep, StepsOn};
 
 use crate::decoding::{ENOUGH, REPLACEMENT, piece_of};
 use crate::fill_state::FillState;
 use crate::target::Target;
+use crate::tries::patience_after;
 use lbk_rules::{HELD, KindSource, Rows, step_at};
 
 /// How many common scalars are taken here behind one that is not. Behind more of them the loops for scalars of one
@@ -44,18 +44,7 @@ pub(crate) fn pieces<T: Target, K: KindSource>(
         count = target.put(out, count, at, step.shown);
         row = step.next as usize;
         at += piece.size;
-        patience = patience_behind(piece.code, patience);
+        patience = patience_after(REPLACEMENT <= piece.code, PATIENCE, patience);
     }
     FillState { count, row, at }
-}
-
-/// How many common scalars more are taken behind this one.
-#[inline(always)]
-fn patience_behind(code: u32, patience: usize) -> usize
-    requires { 0 < patience }
-{
-    if REPLACEMENT <= code {
-        return PATIENCE;
-    }
-    patience - 1
 }

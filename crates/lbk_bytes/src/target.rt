@@ -1,10 +1,7 @@
 //! What is written of the positions that the loops decide: breaks into a block, or bits into words.
 
 ghost use Rattle.std.specs.Prelude.{◌≡◌, ℕ, ◌+◌, ◌*◌, ◌<◌, ◌≤◌, ◌∷◌, [], List, IsTrue, length};
-ghost use Rattle.lbk_rules.specs.declared.Cell.{Cell};
-ghost use Rattle.lbk_values.specs.declared.profile.Profile.{Profile};
-ghost use Rattle.lbk_rules.specs.FlatTable.{KnowsTaken};
-ghost use Rattle.lbk_rules.specs.Rows.{IsShown};
+ghost use Rattle.lbk_bytes.specs.Terms.{Cell, IsShown, KnowsTaken, Profile};
 ghost use Rattle.lbk_bytes.specs.declared.deciding.Decided.{Decided};
 ghost use Rattle.lbk_bytes.specs.declared.fill_state.FillState.{FillState};
 ghost use Rattle.lbk_bytes.specs.Decided.{IsDecided};

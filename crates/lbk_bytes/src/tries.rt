@@ -86,3 +86,14 @@ fn pause(text: &[u8]) -> usize
         BLOCK
     }
 }
+
+/// How many scalars more are taken singly behind one that was: all again, or one fewer than before it.
+#[inline(always)]
+pub(crate) fn patience_after(again: bool, all: usize, left: usize) -> usize
+    requires { 0 < left }
+{
+    if again {
+        return all;
+    }
+    left - 1
+}

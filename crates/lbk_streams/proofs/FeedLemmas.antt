@@ -8,7 +8,7 @@ use Rattle.lbk_rules.specs.declared.Break.{Break}
 use Rattle.lbk_rules.specs.declared.Cell.{Cell}
 use Rattle.lbk_values.specs.declared.profile.Profile.{Profile}
 use Rattle.lbk_bytes.specs.declared.raw_break.RawBreak.{RawBreak}
-use Rattle.lbk_units.specs.declared.unit.UnitScalar.{UnitScalar}
+use Rattle.lbk_bytes.specs.declared.unit.UnitScalar.{UnitScalar}
 use Rattle.lbk_units.specs.Front.{IsFront}
 use Rattle.lbk_streams.specs.declared.stream.Cut.{Cut}
 use Rattle.lbk_streams.specs.declared.stream.Feeding.{Feeding}

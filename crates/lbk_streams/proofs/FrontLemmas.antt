@@ -8,11 +8,11 @@ use Rattle.bstr.specs.Utf8.{Decoded, bad, decoded, pieces}
 use Rattle.bstr.proofs.lemmas.PieceLemmas.{piece-bounds, pieces-step}
 use Rattle.lbk_bytes.specs.Open.{could_go_on}
 use Rattle.lbk_bytes.proofs.CutLemmas.{closed-more}
-use Rattle.lbk_units.specs.declared.unit.UnitScalar.{UnitScalar}
+use Rattle.lbk_bytes.specs.declared.unit.UnitScalar.{UnitScalar}
 use Rattle.lbk_units.specs.Front.{IsFront}
 use Rattle.lbk_units.specs.Reached.{Follows, on_from}
 use Rattle.lbk_units.specs.Units.{pieces_of_utf16, utf16_piece}
-use Rattle.lbk_units.proofs.UnitLemmas.{IsPair, alone-begins, lone-high, lone-low, lone-surrogate, one-unit, pair-begins, two-units}
+use Rattle.lbk_bytes.proofs.WideLemmas.{IsPair, alone-begins, lone-high, lone-low, lone-surrogate, one-unit, pair-begins, two-units}
 use Rattle.lbk_streams.specs.Streams.{could_go_on_utf16}
 
 -- what two texts begin with
@@ -37,6 +37,7 @@ front-more pieces_of units whole p found f front =
       reads = front.reads;
       sized = front.sized;
       some = front.some;
+      few = front.few;
       within = omega (arith, is.1, f.within);
     }
 

@@ -13,10 +13,11 @@ use Rattle.lbk_values.specs.declared.profile.Profile.{Profile}
 use Rattle.lbk_rules.specs.Ends.{ends_between}
 use Rattle.lbk_rules.specs.Joins.{must_end_between}
 use Rattle.lbk_bytes.specs.Reached.{scalars_of}
-use Rattle.lbk_units.specs.declared.unit.UnitScalar.{UnitScalar}
+use Rattle.lbk_bytes.specs.declared.unit.UnitScalar.{UnitScalar}
 use Rattle.lbk_units.specs.Front.{IsFront}
 use Rattle.lbk_units.specs.Units.{pieces_of_utf16, utf16_piece}
-use Rattle.lbk_units.proofs.UnitLemmas.{IsFrontAt, IsPair, one-unit, pair-begins, two-units}
+use Rattle.lbk_bytes.proofs.UnitLemmas.{IsFrontAt}
+use Rattle.lbk_bytes.proofs.WideLemmas.{IsPair, one-unit, pair-begins, two-units}
 use Rattle.lbk_streams.specs.Cuts.{BeginsIn, EndsIn, IsSafeIn, JoinsIn}
 use Rattle.lbk_streams.specs.Looking.{EndsInScalar, is_pair}
 use Rattle.lbk_streams.proofs.JoinLemmas.{joins-in}

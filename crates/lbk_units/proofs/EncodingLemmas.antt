@@ -25,7 +25,7 @@ use Rattle.lbk_bytes.specs.Reached.{scalars_of}
 use Rattle.lbk_units.specs.Encodings.{encode_utf16_all, placed_in}
 use Rattle.lbk_units.specs.Positions.{breaks_among, positions_after, positions_of_bytes, positions_of_pieces, positions_of_utf16, positions_of_utf32}
 use Rattle.lbk_units.specs.Units.{breaks_of_pieces, breaks_of_utf16, breaks_of_utf32, pieces_of_utf16, pieces_of_utf32, utf16_piece}
-use Rattle.lbk_units.proofs.UnitLemmas.{lone-high, lone-low}
+use Rattle.lbk_bytes.proofs.WideLemmas.{lone-high, lone-low}
 
 -- a scalar that takes so many units
 abbrev sized : (ℕ → ℕ) → ℕ → Decoded

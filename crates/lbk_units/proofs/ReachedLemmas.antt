@@ -1,5 +1,5 @@
 -- How far a call has come, scalar by scalar.
-use Rattle.std.proofs.Common.{◌≡◌, ℕ, ◌+◌, ◌<◌, List, [], ◌∷◌, ◌++◌, length, drop, get_or, map, append_assoc, reverse, refl, sym, ap, subst, ◌∙◌, arith}
+use Rattle.std.proofs.Common.{◌≡◌, ℕ, ◌+◌, ◌<◌, List, [], ◌∷◌, ◌++◌, length, get_or, map, append_assoc, reverse, sym, ap, subst, ◌∙◌, arith}
 use Rattle.std.specs.Char.{IsScalar}
 use Rattle.std.proofs.lemmas.List.{length-append}
 use Rattle.bstr.specs.Utf8.{Decoded, or_replacement}
@@ -8,7 +8,6 @@ use Rattle.lbk_rules.specs.declared.Cell.{Cell}
 use Rattle.lbk_rules.specs.declared.steps.Step.{Step}
 use Rattle.lbk_rules.specs.declared.steps.TheConstants.{HELD}
 use Rattle.lbk_values.specs.declared.profile.Profile.{Profile}
-use Rattle.lbk_values.specs.declared.profile.Profile.TheVariants.{First}
 use Rattle.lbk_rules.specs.declared.Verdict.{Verdict}
 use Rattle.lbk_rules.specs.Normal.{normal}
 use Rattle.lbk_rules.specs.Verdict.{verdict_between_in}
@@ -23,10 +22,8 @@ use Rattle.lbk_bytes.specs.declared.raw_break.RawBreak.{RawBreak}
 use Rattle.lbk_bytes.specs.Bytes.{AtEnd}
 use Rattle.lbk_bytes.specs.Reached.{Onward, scalars_of}
 use Rattle.lbk_bytes.proofs.StepLemmas.{IsSwiftStep, decides-text, knows-more, swift-step}
-use Rattle.lbk_units.specs.declared.unit.UnitScalar.{UnitScalar}
 use Rattle.lbk_units.specs.Filling.{Fills, GivesOf, GoesOn}
 use Rattle.lbk_units.specs.Reached.{IsUnitDecided, UnitsReachedBy, on_from}
-use Rattle.lbk_units.proofs.UnitLemmas.{IsFrontAt}
 
 -- one more scalar, before which `add` adds what is written
 module _ (from : Onward) (add : ℕ → Verdict → List Break → List Break)
@@ -97,30 +94,6 @@ module _ (from : Onward) (add : ℕ → Verdict → List Break → List Break)
       (here.decides apart (reverse (normals cell r.taken)) (map normal right) (sym r.knows.1))
       ∙ ap (λ x. verdict_between_in profile (map cell r.taken) (cell x ∷ right)) (sym reads))
       front
-
-pub unit-decided : {A : Type 0} (pieces_of : List A → List Decoded) (text rest : List A) (at : ℕ) (found : UnitScalar)
-    (profile : Profile) (cell : ℕ → Cell) (taken kinds : List ℕ) (row shown : ℕ) (step : Step)
-    → IsFrontAt pieces_of text at found → AreFlatKinds kinds cell → IsScalar found.scalar → rest ≡ drop (at + found.size) text
-    → step ≡ step_by (steps_in First) row (get_or kinds found.scalar 0)
-    → verdict_shown shown ≡ verdict_between_in profile (map cell taken) (cell found.scalar ∷ map cell (scalars_of (pieces_of rest)))
-    → KnowsTaken cell row taken
-    → IsUnitDecided profile cell (on_from pieces_of text) at taken (record { shown = shown; row = step.next; at = at + found.size })
-unit-decided pieces_of text rest at found profile cell taken kinds row shown step front are is_scalar is_rest same decides known =
-    let c = found.scalar in
-    let kind = get_or kinds c 0 in
-    let here : IsSwiftStep First (left_at row) (kind_cell (real_kind kind)) step =
-    subst (λ s. IsSwiftStep First (left_at row) (kind_cell (real_kind kind)) s) (sym same) (swift-step First (steps_in First) row kind refl known.0) in
-    record {
-      piece = front.piece;
-      begins = front.begins;
-      moved = ap (λ n. at + n) (sym front.sized);
-      some = omega (arith, front.some, front.sized);
-      knows = subst (λ x. KnowsTaken cell step.next (taken ++ x ∷ [])) (sym front.reads)
-          (knows-more cell row step.next c (real_kind kind) (are c is_scalar) here.begins here.leads taken known);
-      decides = decides
-          ∙ ap (λ l. verdict_between_in profile (map cell taken) (cell c ∷ map cell (scalars_of (pieces_of l)))) is_rest
-          ∙ ap (λ x. verdict_between_in profile (map cell taken) (cell x ∷ map cell (scalars_of (pieces_of (drop (at + found.size) text))))) (sym front.reads);
-    }
 
 -- a call ends that has filled a block
 pub filled : {A : Type 0} (Is : RawBreak → Type 0) (onward : AtEnd → Onward) (pieces_of : List A → List Decoded) (table : FlatTable) (profile : Profile) (text : List A)

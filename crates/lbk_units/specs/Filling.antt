@@ -5,17 +5,13 @@ use Rattle.lbk_rules.specs.declared.Cell.{Cell}
 use Rattle.lbk_rules.specs.declared.flat_table.FlatTable.{FlatTable}
 use Rattle.lbk_values.specs.declared.profile.Profile.{Profile}
 use Rattle.lbk_rules.specs.FlatTable.{IsFlatOf}
-use Rattle.lbk_rules.specs.Rows.{IsPlace}
 use Rattle.lbk_bytes.specs.declared.fill_state.FillState.{FillState}
 use Rattle.lbk_bytes.specs.declared.raw_break.RawBreak.{RawBreak}
 use Rattle.lbk_bytes.specs.Bytes.{AtEnd}
 use Rattle.lbk_bytes.specs.Reached.{Ahead, IsInOrderBy, Onward}
 use Rattle.lbk_bytes.specs.Shown.{given_in}
+pub use Rattle.lbk_bytes.specs.Steps.{IsInText}
 use Rattle.lbk_units.specs.Reached.{UnitsReachedBy, on_from}
-
--- a call has come so far with a text of so many units, and with a block
-abbrev pub IsInText : FillState → ℕ → ℕ → Type 0
-IsInText here size room = (here.count ≤ room) × IsPlace here.row × (here.at ≤ size)
 
 -- whatever the table: the call stays in a text of so many units and in the block, does not go back, and writes what
 -- `Is` says, in order

@@ -1,14 +1,12 @@
 //! A block that is filled with breaks or positions.
 
 ghost use Rattle.std.specs.Prelude.{◌≡◌, ℕ, ◌<◌, ◌≤◌, List, length};
-ghost use Rattle.lbk_units.specs.Terms.{AreFlatKinds, AreSteps, Cell, Decoded, IsFlatOf, IsPlace, Profile, steps_in};
+ghost use Rattle.lbk_units.specs.Terms.{AreFlatKinds, AreSteps, Cell, Decoded, IsFlatOf, Profile, steps_in};
 ghost use Rattle.lbk_units.specs.Filling.{Fills, GivesOf, GoesOn, IsInText};
 ghost use Rattle.lbk_units.specs.Reached.{Follows, on_from};
 
-use crate::deciding::decide_unit;
 use crate::target::Target;
-use crate::unit::Unit;
-use lbk_bytes::{FillState, RawBreak};
+use lbk_bytes::{FillState, RawBreak, Unit, decide_one};
 use lbk_rules::{FlatTable, HELD, Profile, Rows, rows_of, step_at};
 
 /// How many codes there are.
@@ -104,7 +102,7 @@ fn take_one<U: Unit, T: Target>(
     if out.len() <= here.count || text.len() <= here.at {
         return here;
     }
-    let decided = decide_unit(table, profile, here.row, here.at, text);
+    let decided = decide_one(table, profile, here.row, here.at, text);
     FillState {
         count: T::put(out, here.count, here.at, decided.shown),
         row: decided.row,

@@ -2,19 +2,13 @@
 //! of the text on, as with breaks over bytes. What reads a scalar differs between the encodings, the steps do not.
 #![tactic(auto)]
 
-mod ahead;
-mod deciding;
 mod filling;
 mod laws;
 mod positions;
 mod target;
-mod unit;
-mod utf16;
-mod utf32;
-mod utf8;
 
 pub use filling::{fill, fill_part};
 pub use laws::same_in_each_encoding;
+pub use lbk_bytes::{Unit, UnitScalar};
 pub use positions::put_position;
 pub use target::{Breaks, Positions, Target};
-pub use unit::{Unit, UnitScalar};

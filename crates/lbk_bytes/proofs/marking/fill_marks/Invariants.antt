@@ -1,22 +1,11 @@
-use Rattle.std.proofs.Common.{◌≡◌, ◌+◌, ◌-◌, ◌≤◌, ℕ, [], length}
-use Rattle.lbk_rules.specs.declared.Cell.{Cell}
-use Rattle.lbk_rules.specs.FlatTable.{IsFlatOf}
-use Rattle.lbk_rules.specs.Rows.{IsPlace}
-use Rattle.lbk_bytes.specs.Marking.{AreClear, Marked, uncounted}
-use Rattle.lbk_bytes.specs.Reached.{Ahead, Reached}
+use Rattle.std.proofs.Common.{◌≡◌, ◌-◌, length}
+use Rattle.lbk_bytes.proofs.MarkLemmas.{MarksSoFar}
 use Rattle.lbk_bytes.proofs.marking.fill_marks.Given as goal
 
 abbrev pub invariant-loop-here : goal.invariant-loop-here
 invariant-loop-here l = record {
-  row : IsPlace l.here.row;
-  onward : l.fn.start.at ≤ l.here.at;
-  within : l.here.at ≤ length l.text;
-  near : l.here.at ≤ l.stop + 3;
   no_room : length l.words ≡ 0 → l.here ≡ l.fn.start;
-  none : AreClear l.fn.start.at l.here.at l.words;
-  marked : (cell : ℕ → Cell) (all : Ahead) → IsFlatOf l.fn.table cell
-      → Reached l.fn.profile cell l.text all (uncounted l.fn.start) []
-      → Marked l.fn.profile cell l.text all l.fn.start.at l.stop l.here l.words;
+  marks : MarksSoFar l.fn.table l.fn.profile l.text l.stop l.fn.start l.here l.words;
 }
 
 abbrev pub decreases-loop-here : goal.decreases-loop-here

@@ -2,39 +2,44 @@ use Rattle.std.proofs.Common.{◌∷◌, [], arith}
 use Rattle.lbk_bytes.proofs.MarkLemmas.{Marked-alone}
 use Rattle.lbk_bytes.proofs.one_word.word_further.Goals as goal
 
-pub returns-then-stop-common-clause-none : goal.returns-then-stop-common-clause-none
-returns-then-stop-common-clause-none c = c.scalars-common.ensures.in_order 0
-
-pub returns-then-common-past-clause-none : goal.returns-then-common-past-clause-none
-returns-then-common-past-clause-none c = λ none. c.pieces-past.ensures.in_order 0 (c.scalars-common.ensures.in_order 0 none)
-
-pub returns-clause-none : goal.returns-clause-none
-returns-clause-none c = λ none. c.take_ones.ensures.in_order 0 (c.pieces-past.ensures.in_order 0 (c.scalars-common.ensures.in_order 0 none))
-
-pub returns-then-stop-common-clause-marked : goal.returns-then-stop-common-clause-marked
-returns-then-stop-common-clause-marked c = λ cell all flat m.
+pub returns-then-stop-common : goal.returns-then-stop-common
+returns-then-stop-common c =
     let a = c.args in
     let common = c.scalars-common in
-    Marked-alone a.profile cell a.text.now all a.from a.stop a.here common.result (a.here.count ∷ []) (common.result.count ∷ [])
-    (common.ensures.reached a.profile cell [] all a.stop c.rows_of-steps.ensures flat.kinds (omega arith)) m
+    record {
+      within = (common.ensures.within.1, omega arith, common.ensures.within.2, common.ensures.near (omega arith));
+      none = common.ensures.in_order 0;
+      marked = λ cell all flat.
+          Marked-alone a.profile cell a.text.now all a.from a.stop a.here common.result (a.here.count ∷ []) (common.result.count ∷ [])
+          (common.ensures.reached a.profile cell [] all a.stop c.rows_of-steps.ensures flat.kinds (omega arith));
+    }
 
-pub returns-then-common-past-clause-marked : goal.returns-then-common-past-clause-marked
-returns-then-common-past-clause-marked c = λ cell all flat m.
+pub returns-then-common-past : goal.returns-then-common-past
+returns-then-common-past c =
     let a = c.args in
     let common = c.scalars-common in
     let past = c.pieces-past in
-    Marked-alone a.profile cell a.text.now all a.from a.stop common.result past.result (common.result.count ∷ []) (past.result.count ∷ [])
-    (past.ensures.reached a.profile cell [] all a.stop c.rows_of-steps.ensures flat.kinds (omega arith))
-    (Marked-alone a.profile cell a.text.now all a.from a.stop a.here common.result (a.here.count ∷ []) (common.result.count ∷ [])
-    (common.ensures.reached a.profile cell [] all a.stop c.rows_of-steps.ensures flat.kinds (omega arith)) m)
+    record {
+      within = (past.ensures.within.1, omega (arith, common.ensures.onward.0), past.ensures.within.2, past.ensures.near (omega arith));
+      none = λ none. past.ensures.in_order 0 (common.ensures.in_order 0 none);
+      marked = λ cell all flat.
+          Marked-alone a.profile cell a.text.now all a.from a.stop a.here past.result (a.here.count ∷ []) (past.result.count ∷ [])
+          (λ m. past.ensures.reached a.profile cell [] all a.stop c.rows_of-steps.ensures flat.kinds (omega arith)
+          (common.ensures.reached a.profile cell [] all a.stop c.rows_of-steps.ensures flat.kinds (omega arith) m));
+    }
 
-pub returns-clause-marked : goal.returns-clause-marked
-returns-clause-marked c = λ cell all flat m.
+pub returns : goal.returns
+returns c =
     let a = c.args in
     let common = c.scalars-common in
     let past = c.pieces-past in
-    c.take_ones.ensures.reached cell all a.stop flat (omega arith)
-    (Marked-alone a.profile cell a.text.now all a.from a.stop common.result past.result (common.result.count ∷ []) (past.result.count ∷ [])
-    (past.ensures.reached a.profile cell [] all a.stop c.rows_of-steps.ensures flat.kinds (omega arith))
-    (Marked-alone a.profile cell a.text.now all a.from a.stop a.here common.result (a.here.count ∷ []) (common.result.count ∷ [])
-    (common.ensures.reached a.profile cell [] all a.stop c.rows_of-steps.ensures flat.kinds (omega arith)) m))
+    let ones = c.take_ones.ensures in
+    record {
+      within = (ones.within.1, omega (arith, common.ensures.onward.0, past.ensures.onward.0, ones.onward.0), ones.within.2, ones.near);
+      none = λ none. ones.in_order 0 (past.ensures.in_order 0 (common.ensures.in_order 0 none));
+      marked = λ cell all flat m.
+          ones.reached cell all a.stop flat (omega arith)
+          (Marked-alone a.profile cell a.text.now all a.from a.stop a.here past.result (a.here.count ∷ []) (past.result.count ∷ [])
+          (λ m. past.ensures.reached a.profile cell [] all a.stop c.rows_of-steps.ensures flat.kinds (omega arith)
+          (common.ensures.reached a.profile cell [] all a.stop c.rows_of-steps.ensures flat.kinds (omega arith) m)) m);
+    }

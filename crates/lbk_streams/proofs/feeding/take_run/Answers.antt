@@ -4,7 +4,7 @@ use Rattle.lbk_rules.specs.declared.Cell.{Cell}
 use Rattle.lbk_rules.specs.FlatTable.{IsFlatOf}
 use Rattle.lbk_bytes.specs.Shown.{given_in}
 use Rattle.lbk_units.specs.Front.{IsFront}
-use Rattle.lbk_units.proofs.UnitLemmas.{rest-of}
+use Rattle.lbk_bytes.proofs.PieceLemmas.{rest-of}
 use Rattle.lbk_streams.specs.Stands.{Ahead, Feeds, Stands}
 use Rattle.lbk_streams.specs.Taking.{TakesOf}
 use Rattle.lbk_streams.proofs.FeedLemmas.{Feeds-kept, Feeds-run, IsTaken, is-taken, none-cut, not-false, not-true}

@@ -4,7 +4,7 @@ use Rattle.lbk_rules.specs.declared.Cell.{Cell}
 use Rattle.lbk_rules.specs.Ends.{ends_between}
 use Rattle.lbk_rules.specs.Normal.{normal}
 use Rattle.lbk_units.specs.Units.{pieces_of_utf16}
-use Rattle.lbk_units.proofs.UnitLemmas.{front-at}
+use Rattle.lbk_bytes.proofs.UnitLemmas.{front-at}
 use Rattle.lbk_streams.proofs.PairLemmas.{begins-apart, none-in-pair, safe-inside, told-by}
 use Rattle.lbk_streams.proofs.utf16_cuts.may_begin.Goals as goal
 

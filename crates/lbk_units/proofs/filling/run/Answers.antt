@@ -2,7 +2,8 @@ use Rattle.std.proofs.Common.{◌+◌, subst, arith}
 use Rattle.lbk_bytes.specs.Shown.{given_in}
 use Rattle.lbk_units.specs.Front.{IsFront}
 use Rattle.lbk_units.proofs.ReachedLemmas.{reached-swift}
-use Rattle.lbk_units.proofs.UnitLemmas.{front-at, rest-of}
+use Rattle.lbk_bytes.proofs.PieceLemmas.{rest-of}
+use Rattle.lbk_bytes.proofs.UnitLemmas.{front-at}
 use Rattle.lbk_units.proofs.filling.run.Goals as goal
 
 pub overflow_add-at : goal.overflow_add-at

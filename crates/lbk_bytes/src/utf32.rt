@@ -1,7 +1,7 @@
 //! Units of 32 bits.
 
 ghost use Rattle.std.specs.Prelude.{refl};
-ghost use Rattle.lbk_units.specs.Units.{pieces_of_utf32};
+ghost use Rattle.lbk_bytes.specs.Pieces.{pieces_of_utf32};
 
 use crate::unit::{Unit, UnitScalar};
 

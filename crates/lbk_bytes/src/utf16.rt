@@ -3,8 +3,8 @@
 ghost use Rattle.std.specs.Prelude.{◌<◌, ◌≤◌, map, slice_index_or};
 ghost use Rattle.std.proofs.Common.{ap};
 ghost use Rattle.std.proofs.lemmas.Str.{utf16_chars-nil};
-ghost use Rattle.lbk_units.specs.Front.{IsFront};
-ghost use Rattle.lbk_units.specs.Units.{pieces_of_utf16, utf16_piece};
+ghost use Rattle.lbk_bytes.specs.Front.{IsFront};
+ghost use Rattle.lbk_bytes.specs.Pieces.{pieces_of_utf16, utf16_piece};
 
 use crate::unit::{Unit, UnitScalar};
 

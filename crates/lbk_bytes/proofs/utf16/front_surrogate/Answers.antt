@@ -1,7 +1,7 @@
 use Rattle.std.proofs.Common.{arith}
-use Rattle.lbk_units.proofs.UnitLemmas.{missing-zero, utf16-lone, utf16-pair}
-use Rattle.lbk_units.proofs.utf16.front_surrogate.Goals.{then-high-gt56319-via-then-high-gt56319, then-high-gt56319-via-else-high-gt56319+then-units-lt2, then-low-lt56320-via-then-low-lt56320, then-low-lt56320-via-else-low-lt56320+then-low-gt57343}
-use Rattle.lbk_units.proofs.utf16.front_surrogate.Goals as goal
+use Rattle.lbk_bytes.proofs.WideLemmas.{missing-zero, utf16-lone, utf16-pair}
+use Rattle.lbk_bytes.proofs.utf16.front_surrogate.Goals.{then-high-gt56319-via-then-high-gt56319, then-high-gt56319-via-else-high-gt56319+then-units-lt2, then-low-lt56320-via-then-low-lt56320, then-low-lt56320-via-else-low-lt56320+then-low-gt57343}
+use Rattle.lbk_bytes.proofs.utf16.front_surrogate.Goals as goal
 
 pub returns-then-high-gt56319 : goal.returns-then-high-gt56319
 returns-then-high-gt56319 c =

@@ -1,8 +1,8 @@
-use Rattle.lbk_units.proofs.UnitLemmas.{utf32-front}
+use Rattle.lbk_bytes.proofs.WideLemmas.{utf32-front}
 use Rattle.std.proofs.Common.{subst, sym}
-use Rattle.lbk_units.specs.Front.{IsFront}
-use Rattle.lbk_units.specs.Units.{pieces_of_utf32}
-use Rattle.lbk_units.proofs.utf32.U32Unit.front.Goals as goal
+use Rattle.lbk_bytes.specs.Front.{IsFront}
+use Rattle.lbk_bytes.specs.Pieces.{pieces_of_utf32}
+use Rattle.lbk_bytes.proofs.utf32.U32Unit.front.Goals as goal
 
 pub returns : goal.returns
 returns c =

@@ -2,7 +2,7 @@
 
 ghost use Rattle.std.specs.Prelude.{◌≡◌, ℕ, ◌<◌, List, [], length};
 ghost use Rattle.bstr.specs.Utf8.{Decoded};
-ghost use Rattle.lbk_units.specs.Front.{IsFront};
+ghost use Rattle.lbk_bytes.specs.Front.{IsFront};
 
 /// The scalar that some units begin with, and how many of them spell it.
 #[derive(Clone, Copy)]

@@ -1,7 +1,7 @@
 use Rattle.std.proofs.Common.{subst, ◌∙◌, arith}
 use Rattle.std.specs.Char.{IsScalar}
-use Rattle.lbk_units.proofs.UnitLemmas.{utf16-alone}
-use Rattle.lbk_units.proofs.utf16.U16Unit.front.Goals as goal
+use Rattle.lbk_bytes.proofs.WideLemmas.{utf16-alone}
+use Rattle.lbk_bytes.proofs.utf16.U16Unit.front.Goals as goal
 
 pub returns-in-Some : goal.returns-in-Some
 returns-in-Some c =
