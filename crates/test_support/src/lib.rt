@@ -4,6 +4,7 @@
 pub mod calls;
 pub mod cells;
 pub mod checks;
+pub mod engines;
 pub mod marked;
 pub mod property_files;
 pub mod reads;

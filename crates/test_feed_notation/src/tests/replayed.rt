@@ -1,14 +1,14 @@
 //! The greatest test files that a replay accepts, and a line that differs.
 
-use crate::calls::sample_cells;
-use crate::line_calls::{line_of, outcome_of};
-use crate::tasks::ROOM;
+use crate::tests::calls::sample_cells;
+use crate::tests::tasks::ROOM;
 use lbk_feed::Source;
 use lbk_feed::devices::{MemorySink, RepeatedSource};
 use lbk_notation::{Form, Mark, Outcome, ReplayFault, Report, replay};
 use lbk_rules::{CellPages, Kind, Profile, Rule, Verdict};
 use std::alloc::{AllocError, Global};
 use std::test::Fail;
+use test_support::calls::{read_line, replay_line};
 use test_support::checks::same;
 
 const DIFFER: Outcome = Outcome::Differ {
@@ -25,9 +25,9 @@ const DIFFER: Outcome = Outcome::Differ {
 fn line_that_differs(rt: HostRuntime) -> Result<(), Fail> {
     let cells = sample_cells(rt.alloc())?;
     let bytes = "× 0061 ÷ 0062 ÷".as_bytes();
-    let line = line_of(rt.alloc(), bytes, Form::Plain)?.ok_or("no line")?;
+    let line = read_line(rt.alloc(), bytes, Form::Plain)?.ok_or("no line")?;
     for profile in [Profile::First, Profile::Second] {
-        let found = outcome_of(&cells, &line, Form::Plain, profile);
+        let found = replay_line(&cells, &line, Form::Plain, profile);
         same(&found, &DIFFER, &profile)?;
     }
     Ok(())

@@ -1,6 +1,6 @@
 //! Faults of a feed, and no results after them.
 
-use crate::calls::{cut_source, source_of, take_piece};
+use crate::tests::calls::{cut_source, source_of, take_piece};
 use lbk_feed::devices::RepeatedSource;
 use lbk_feed::{Feed, FeedFault, Source};
 use std::test::Fail;

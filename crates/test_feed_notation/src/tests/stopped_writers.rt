@@ -1,31 +1,31 @@
 //! A writer that stops: for each n below the length of the output exactly the first n bytes were written, and the
 //! result is a failed write.
 
-use crate::calls::{cut_source, memory_sink, sample_cells};
-use crate::tasks::{End, Setting, Task};
+use crate::tests::calls::{cut_source, memory_sink, sample_cells};
+use crate::tests::tasks::{End, MARK, REPLAY, SEGMENT, SHOW, Task};
 use lbk_feed::{Device, Sink};
-use lbk_notation::Form;
 use lbk_rules::Profile;
 use std::test::Fail;
 use test_support::checks::same;
+use test_support::engines::Setting;
 use test_support::replayed::{FOUR_LINES, FOUR_LINES_TEXT};
 
 /// A task, its input, and its output.
 type Row = (Task, &'static str, &'static str);
 
 static RUNS: [Row; 4] = [
-    (Task::Mark, "a b\r\nc", "a ÷b\r\nc\n"),
+    (MARK, "a b\r\nc", "a ÷b\r\nc\n"),
     (
-        Task::Show,
+        SHOW,
         "a\r\nb",
         "× 0061 × 000D × 000A !\t# 2 6 5 5\n× 0062 !\t# 2 3\n",
     ),
     (
-        Task::Segment,
+        SEGMENT,
         "a\r\nb",
         "P 0 3\nS 0 3 Must 5\nW 0 1\nP 3 4\nS 3 4 Must 3\nW 3 4\n",
     ),
-    (Task::Replay(Form::Plain), FOUR_LINES, FOUR_LINES_TEXT),
+    (REPLAY, FOUR_LINES, FOUR_LINES_TEXT),
 ];
 
 /// Compares how a run with so much room ended, how many writes failed, and the output.

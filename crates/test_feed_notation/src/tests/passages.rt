@@ -1,7 +1,7 @@
 //! The passages of a segmenter, with cells with and without a table of steps.
 
-use crate::calls::{cut_source, next_passage, sample_cells};
-use crate::told::push_told;
+use crate::tests::calls::{cut_source, sample_cells};
+use crate::tests::told::push_told;
 use lbk_cmd::CmdFault;
 use lbk_feed::devices::MemorySource;
 use lbk_passage::{Passage, Segmenter};
@@ -10,7 +10,7 @@ use lbk_ucd::Tables;
 use std::alloc::{AllocError, Global};
 use std::fmt::Write;
 use std::test::Fail;
-use test_support::calls::tables_of;
+use test_support::calls::{next_passage, segmenter_of, tables_of};
 use test_support::checks::same;
 use test_support::property_files::SAMPLES;
 use test_support::texts::{FIRST, SECOND};
@@ -42,7 +42,7 @@ fn passages_of<C: CellSource>(
     text: &str,
 ) -> Result<String, CmdFault> {
     let mut source = cut_source(text.as_bytes(), &[]);
-    let mut segmenter = Segmenter::new(alloc, cells, 65_536, profile)?;
+    let mut segmenter = segmenter_of(alloc, cells, 65_536, profile)?;
     let mut seen = String::new(alloc);
     for _ in 0..=text.len() {
         push_next(&mut seen, &mut segmenter, &mut source)?;

@@ -1,6 +1,6 @@
 //! Devices over readers and writers of std that move one byte per call, over more calls than a short test makes.
 
-use crate::feed_calls::{same, same_answer};
+use crate::tests::feed_calls::{same, same_answer};
 use lbk_feed::{Device, Failed, Sink, Source};
 use std::alloc::{AllocError, Global};
 use std::io;

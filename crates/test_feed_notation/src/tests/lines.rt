@@ -1,7 +1,6 @@
 //! Lines of the notation: what is read, refused, written and marked.
 
-use crate::calls::sample_cells;
-use crate::line_calls::{line_of, marked, written_line};
+use crate::tests::calls::sample_cells;
 use lbk_notation::{
     Form, LineFault, Mark, TestLine, laws, mark_of, push_line, push_mark, push_passage_line,
     push_scalar, read_back, read_passage_line,
@@ -9,6 +8,7 @@ use lbk_notation::{
 use lbk_rules::{Cell, CellPages, Kind, Profile, Rule, Verdict, decide_all_in};
 use std::alloc::{AllocError, Global};
 use std::test::Fail;
+use test_support::calls::{mark_text, read_line, write_line};
 use test_support::cells::cells_of;
 use test_support::checks::same;
 
@@ -73,7 +73,7 @@ fn same_text(found: &[u8], want: &str) -> Result<(), Fail> {
 
 fn check_line(alloc: Global, line: Option<TestLine>, form: Form, want: &str) -> Result<(), Fail> {
     let line = line.ok_or("no line")?;
-    same_text(&written_line(alloc, &line, form)?, want)
+    same_text(&write_line(alloc, &line, form)?, want)
 }
 
 fn check_fault(
@@ -88,7 +88,7 @@ fn check_fault(
 }
 
 fn check(alloc: Global, bytes: &[u8], form: Form, want: &Want) -> Result<(), Fail> {
-    let answer = line_of(alloc, bytes, form);
+    let answer = read_line(alloc, bytes, form);
     match want {
         Want::Line(text) => check_line(alloc, answer?, form, text),
         Want::Nothing => same(&answer?.is_none(), &true, &bytes),
@@ -122,7 +122,7 @@ fn comment(alloc: Global, length: usize) -> Result<Vec<u8>, AllocError> {
 
 fn check_comment(alloc: Global, bytes: &[u8]) -> Result<(), Fail> {
     same(
-        &line_of(alloc, bytes, Form::Plain)?.is_none(),
+        &read_line(alloc, bytes, Form::Plain)?.is_none(),
         &true,
         &bytes.len(),
     )
@@ -130,7 +130,7 @@ fn check_comment(alloc: Global, bytes: &[u8]) -> Result<(), Fail> {
 
 /// A comment with one byte more than a line may have.
 fn check_longest(alloc: Global, longer: &[u8]) -> Result<(), Fail> {
-    let too_long = line_of(alloc, longer, Form::Plain).err();
+    let too_long = read_line(alloc, longer, Form::Plain).err();
     same(&too_long, &Some(LineFault::LineTooLong), &"a line")?;
     check_comment(alloc, longer.get(..268_435_456).ok_or("no line")?)
 }
@@ -168,7 +168,7 @@ fn behind(alloc: Global, line: &TestLine, form: Form) -> Result<Vec<u8>, AllocEr
 
 /// Checks how a line is written.
 fn check_written(alloc: Global, line: &TestLine, form: Form, text: &str) -> Result<(), Fail> {
-    same_text(&written_line(alloc, line, form)?, text)?;
+    same_text(&write_line(alloc, line, form)?, text)?;
     same_text(&by_pieces(alloc, form)?, text)?;
     let behind = behind(alloc, line, form)?;
     same_text(behind.get(1..).unwrap_or(b"nothing"), text)?;
@@ -231,8 +231,8 @@ fn check_marked(
     text: &str,
     want: &str,
 ) -> Result<(), Fail> {
-    let line = marked(alloc, cells, text, profile)?;
-    same_text(&written_line(alloc, &line, form)?, want)
+    let line = mark_text(alloc, cells, text, profile)?;
+    same_text(&write_line(alloc, &line, form)?, want)
 }
 
 #[test]

@@ -1,12 +1,12 @@
 //! Passages in the tests' form.
 
-use crate::calls::next_passage;
 use lbk_cmd::CmdFault;
 use lbk_feed::Source;
 use lbk_passage::{Passage, Piece, Segment, Segmenter};
 use lbk_rules::CellPages;
 use std::alloc::{AllocError, Global};
 use std::fmt::Write;
+use test_support::calls::next_passage;
 
 fn push_start(line: &mut String, passage: &Passage<'_>) -> Result<(), AllocError> {
     let end = passage.end.rule.label();

@@ -1,11 +1,11 @@
 //! The chunks of texts, for reads cut in any way: in two and three reads, cut at every offset, and in reads of one to
 //! seven bytes.
 
-use crate::rows::{Numbers, ROWS};
+use crate::tests::calls::sample_cells;
+use crate::tests::chunk_rows::{LIMITS, Numbers, ROWS};
 use lbk_chunk_reader::{Chunk, ChunkFault, Chunker};
 use lbk_chunks::Limits;
 use lbk_feed::devices::MemorySource;
-use lbk_files::{SAMPLE_FILES, read_cells};
 use lbk_passage::PassageFault;
 use lbk_rules::{CellPages, Profile};
 use std::alloc::{AllocError, Global};
@@ -78,9 +78,9 @@ fn check(
 
 #[test]
 fn chunks_in_all_reads(rt: HostRuntime) -> Result<(), Fail> {
-    let cells = read_cells(rt.alloc(), SAMPLE_FILES)?;
+    let cells = sample_cells(rt.alloc())?;
     for (text, chunks) in &ROWS {
-        for (numbers, want) in *chunks {
+        for (numbers, want) in LIMITS.iter().zip(chunks.iter()) {
             let limits = limits_of(numbers);
             check(rt.alloc(), &cells, limits, text.as_bytes(), (want, None))?;
         }
@@ -101,7 +101,7 @@ static REFUSED: [(&[u8], &str, PassageFault); 3] = [
 
 #[test]
 fn refused_texts(rt: HostRuntime) -> Result<(), Fail> {
-    let cells = read_cells(rt.alloc(), SAMPLE_FILES)?;
+    let cells = sample_cells(rt.alloc())?;
     let limits = limits_of(&[4, 0, 0, 0]);
     for (text, want, fault) in &REFUSED {
         check(rt.alloc(), &cells, limits, text, (want, Some(*fault)))?;
@@ -114,7 +114,7 @@ const BAD: [Numbers; 3] = [[0, 0, 0, 0], [4, 0, 5, 0], [4, 0, 0, 3]];
 
 #[test]
 fn refused_limits(rt: HostRuntime) -> Result<(), Fail> {
-    let cells = read_cells(rt.alloc(), SAMPLE_FILES)?;
+    let cells = sample_cells(rt.alloc())?;
     for numbers in &BAD {
         let made = Chunker::new(
             rt.alloc(),

@@ -1,17 +1,18 @@
 //! The lines that `chunk` writes for a whole text and for a range, for reads cut in any way, and a window alone.
 
-use crate::cuttings::{LIMIT, limits_of, push_told};
-use crate::rows::ROWS;
+use crate::tests::calls::sample_cells;
+use crate::tests::chunk_rows::{LIMITS, ROWS};
+use crate::tests::chunks::{LIMIT, limits_of, push_told};
 use lbk_args::Part;
 use lbk_chunk_reader::Window;
 use lbk_chunks::Limits;
 use lbk_cmd::{Asked, CmdFault, chunk};
 use lbk_feed::devices::{MemorySink, MemorySource};
-use lbk_files::{SAMPLE_FILES, read_cells};
-use lbk_passage::{PassageFault, Segmenter};
+use lbk_passage::PassageFault;
 use lbk_rules::{CellPages, Profile};
 use std::alloc::Global;
 use std::test::Fail;
+use test_support::calls::segmenter_of;
 use test_support::checks::same;
 use test_support::reads::cuttings;
 
@@ -69,7 +70,7 @@ static WHOLE: [(Asked, &[u8], &str); 2] = [
 
 #[test]
 fn written_in_all_reads(rt: HostRuntime) -> Result<(), Fail> {
-    let cells = read_cells(rt.alloc(), SAMPLE_FILES)?;
+    let cells = sample_cells(rt.alloc())?;
     for (asked, text, lines) in &WHOLE {
         for sizes in &cuttings(rt.alloc(), text.len())? {
             check(rt.alloc(), &cells, *asked, text, sizes, (lines, Ok(())))?;
@@ -80,7 +81,7 @@ fn written_in_all_reads(rt: HostRuntime) -> Result<(), Fail> {
 
 #[test]
 fn lines_of_a_range(rt: HostRuntime) -> Result<(), Fail> {
-    let cells = read_cells(rt.alloc(), SAMPLE_FILES)?;
+    let cells = sample_cells(rt.alloc())?;
     let range = Some(Part { from: 1, to: 6 });
     let text = b"aa bb\ncc";
     let want = ("C 3 6 1 Must 5\n", Ok(()));
@@ -108,7 +109,7 @@ fn lines_of_a_range(rt: HostRuntime) -> Result<(), Fail> {
 
 #[test]
 fn lines_before_a_fault(rt: HostRuntime) -> Result<(), Fail> {
-    let cells = read_cells(rt.alloc(), SAMPLE_FILES)?;
+    let cells = sample_cells(rt.alloc())?;
     let fault = CmdFault::Passage(PassageFault::NotUtf8 { at: 8 });
     let want = ("C 0 3 1 May 18\n", Err(fault));
     check(rt.alloc(), &cells, LINES, b"aa bb\ncc\xFF", &[9], want)
@@ -122,7 +123,7 @@ fn by_window(
     text: &[u8],
 ) -> Result<String, Fail> {
     let mut line = String::new(alloc);
-    let Ok(mut segmenter) = Segmenter::new(alloc, cells, LIMIT, Profile::First) else {
+    let Ok(mut segmenter) = segmenter_of(alloc, cells, LIMIT, Profile::First) else {
         return Err(Fail::new(format_args!("no segmenter")));
     };
     let mut window = Window::new(alloc, limits, false);
@@ -145,7 +146,7 @@ fn by_window(
 /// The same for its first passage, with cuts passed by hand.
 fn of_one_passage(alloc: Global, cells: &CellPages, text: &[u8]) -> Result<String, Fail> {
     let mut line = String::new(alloc);
-    let Ok(mut segmenter) = Segmenter::new(alloc, cells, LIMIT, Profile::First) else {
+    let Ok(mut segmenter) = segmenter_of(alloc, cells, LIMIT, Profile::First) else {
         return Err(Fail::new(format_args!("no segmenter")));
     };
     let mut window = Window::new(alloc, limits_of(&[4, 0, 0, 0]), true);
@@ -162,9 +163,9 @@ fn of_one_passage(alloc: Global, cells: &CellPages, text: &[u8]) -> Result<Strin
 
 #[test]
 fn windows(rt: HostRuntime) -> Result<(), Fail> {
-    let cells = read_cells(rt.alloc(), SAMPLE_FILES)?;
+    let cells = sample_cells(rt.alloc())?;
     for (text, chunks) in &ROWS {
-        for (numbers, want) in *chunks {
+        for (numbers, want) in LIMITS.iter().zip(chunks.iter()) {
             let line = by_window(rt.alloc(), &cells, limits_of(numbers), text.as_bytes())?;
             same(&line.as_str(), want, text)?;
         }

@@ -1,7 +1,7 @@
 //! What no clause says about the devices: when they fail, and that they read and write what they should.
 
-use crate::calls::{memory_sink, source_of, write_all_to};
-use crate::feed_calls::same;
+use crate::tests::calls::{memory_sink, source_of, write_all_to};
+use crate::tests::feed_calls::same;
 use lbk_feed::devices::{MemorySink, MemorySource, RepeatedSource};
 use lbk_feed::{Device, Failed, Sink, Source};
 use std::io;

@@ -1,15 +1,16 @@
 //! Calls for tests, without their contracts. A test only proves that it is safe and returns, so it needs no facts about
 //! them; without these facts a check takes a fraction of the time.
 
-use crate::tasks::Setting;
-use lbk_cmd::{CmdFault, SAMPLE_FILES, mark, read_cells, segment, show};
+use lbk_cmd::{SAMPLE_FILES, read_cells};
 use lbk_feed::devices::{MemorySink, MemorySource};
 use lbk_feed::{Failed, Feed, FeedFault, Sink, Source, write_all};
 use lbk_notation::{Form, ReplayFault, Report, replay};
-use lbk_passage::{Passage, PassageFault, Segmenter};
+use lbk_passage::{PassageFault, Segmenter};
 use lbk_rules::{CellPages, CellSource};
 use std::alloc::{AllocError, Global};
 use std::test::Fail;
+use test_support::calls::next_passage;
+use test_support::engines::Setting;
 
 /// The cells of the sample files.
 pub fn sample_cells(alloc: Global) -> Result<CellPages, Fail> {
@@ -57,46 +58,12 @@ pub fn take_piece<R: Source>(feed: &mut Feed, reader: &mut R) -> Result<bool, Fe
     Ok(found)
 }
 
-pub fn next_passage<'a, R: Source, C: CellSource>(
-    segmenter: &'a mut Segmenter<'_, C>,
-    reader: &mut R,
-) -> Result<Option<Passage<'a>>, PassageFault> {
-    segmenter.next(reader)
-}
-
 /// Says whether there is another passage.
 pub fn has_next<R: Source, C: CellSource>(
     segmenter: &mut Segmenter<'_, C>,
     reader: &mut R,
 ) -> Result<bool, PassageFault> {
     Ok(next_passage(segmenter, reader)?.is_some())
-}
-
-pub fn mark_to<R: Source, W: Sink>(
-    setting: Setting<'_>,
-    reader: &mut R,
-    writer: &mut W,
-) -> Result<(), CmdFault> {
-    let Setting { alloc, cells, .. } = setting;
-    mark(alloc, reader, writer, cells, setting.limit, setting.profile)
-}
-
-pub fn show_to<R: Source, W: Sink>(
-    setting: Setting<'_>,
-    reader: &mut R,
-    writer: &mut W,
-) -> Result<(), CmdFault> {
-    let Setting { alloc, cells, .. } = setting;
-    show(alloc, reader, writer, cells, setting.limit, setting.profile)
-}
-
-pub fn segment_to<R: Source, W: Sink>(
-    setting: Setting<'_>,
-    reader: &mut R,
-    writer: &mut W,
-) -> Result<(), CmdFault> {
-    let Setting { alloc, cells, .. } = setting;
-    segment(alloc, reader, writer, cells, setting.limit, setting.profile)
 }
 
 pub fn replay_to<R: Source, W: Sink>(

@@ -1,8 +1,9 @@
 //! The greatest sizes, and no results after them; scalars and line ends across the edges of blocks.
 
-use crate::calls::{has_next, next_passage, sample_cells};
-use crate::runs::{Run, check_run, whole};
-use crate::tasks::{Setting, Task};
+use crate::tests::calls::{has_next, sample_cells};
+use crate::tests::runs::{Run, check_run, whole};
+use crate::tests::tasks::{End, Task};
+use lbk_cmd::CmdFault;
 use lbk_feed::devices::RepeatedSource;
 use lbk_feed::{Device, Source};
 use lbk_passage::{LIMIT_MAX, PassageFault, Segmenter};
@@ -10,7 +11,9 @@ use lbk_rules::{CellPages, Profile};
 use std::alloc::{AllocError, Global};
 use std::io::{self, Read};
 use std::test::Fail;
+use test_support::calls::next_passage;
 use test_support::checks::same;
+use test_support::engines::Setting;
 use test_support::reads::SIZES;
 
 /// Takes all passages up to the last, and says whether there is none after it.
@@ -113,7 +116,7 @@ fn check_sizes(
     end: Result<(), PassageFault>,
     told: &str,
 ) -> Result<(), Fail> {
-    let end = Task::Passages.end_of(end);
+    let end = End::Text(end.map_err(CmdFault::Passage));
     for size in &SIZES {
         let sizes = [*size];
         let run = Run {

@@ -1,12 +1,13 @@
 //! Texts of many sizes, with ample memory: each gives its result, and none runs out of memory.
 
-use crate::calls::{cut_source, next_passage, sample_cells};
-use lbk_notation::{Form, LineFault, TestLine, mark_text, read_back};
-use lbk_passage::{LIMIT_MAX, PassageFault, Segment, Segmenter};
+use crate::tests::calls::{cut_source, sample_cells};
+use lbk_notation::{Form, LineFault, TestLine, read_back};
+use lbk_passage::{LIMIT_MAX, PassageFault, Segment};
 use lbk_rules::{CellPages, Kind, Profile, Rule};
 use std::alloc::{AllocError, Global};
 use std::process::Abort;
 use std::test::Fail;
+use test_support::calls::{mark_text, next_passage, segmenter_of};
 
 /// A size, and two pseudorandom ones between each power of two up to the 16th and the next.
 fn sizes(alloc: Global) -> Result<Vec<u32>, AllocError> {
@@ -21,17 +22,13 @@ fn sizes(alloc: Global) -> Result<Vec<u32>, AllocError> {
     Ok(drawn)
 }
 
-fn marked(alloc: Global, cells: &CellPages, text: &str) -> Result<TestLine, AllocError> {
-    mark_text(alloc, cells, text, Profile::Second)
-}
-
 fn read_again(alloc: Global, line: &TestLine) -> Result<Option<TestLine>, LineFault> {
     read_back(alloc, line, Form::Kinds)
 }
 
 /// How many scalars and marks a text's line has, and whether it is read back unchanged.
 fn line_counts(alloc: Global, cells: &CellPages, text: &str) -> Result<(usize, usize, bool), Fail> {
-    let line = marked(alloc, cells, text)?;
+    let line = mark_text(alloc, cells, text, Profile::Second)?;
     let again = read_again(alloc, &line)?;
     let is_same = match &again {
         Some(read) => read.scalars() == line.scalars() && read.marks() == line.marks(),
@@ -48,7 +45,7 @@ fn passage_counts(
     profile: Profile,
 ) -> Result<Option<(usize, usize, Option<Segment>)>, PassageFault> {
     let mut source = cut_source(text.as_bytes(), &[]);
-    let mut segmenter = Segmenter::new(alloc, cells, LIMIT_MAX, profile)?;
+    let mut segmenter = segmenter_of(alloc, cells, LIMIT_MAX, profile)?;
     match next_passage(&mut segmenter, &mut source)? {
         Some(passage) => Ok(Some((
             passage.segments.len(),

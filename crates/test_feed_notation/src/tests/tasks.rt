@@ -1,16 +1,14 @@
 //! Tasks that read a text or a test file and write, by names for tables.
 
-use crate::calls::{has_next, mark_to, replay_to, segment_to, show_to, write_line_to};
-use crate::told::told_next;
+use crate::tests::calls::{has_next, replay_to, write_line_to};
+use crate::tests::told::told_next;
 use lbk_cmd::CmdFault;
 use lbk_feed::{Sink, Source};
 use lbk_notation::{Form, ReplayFault, Report};
 use lbk_passage::{PassageFault, Segmenter};
-use lbk_rules::{CellPages, Profile};
+use lbk_rules::CellPages;
 use std::alloc::Global;
-
-/// The most bytes of a paragraph.
-pub const LIMIT: u32 = 65_536;
+use test_support::engines::{Engine, Setting};
 
 /// The most bytes that a run writes.
 pub const ROOM: usize = 4096;
@@ -20,35 +18,17 @@ pub const ROOM: usize = 4096;
 pub enum Task {
     /// Only the segmenter: each passage is written in the tests' form, and nothing follows the last one or a fault.
     Passages,
-    Mark,
-    Show,
-    Segment,
+    Write(Engine),
     Replay(Form),
 }
 
-/// What each task needs.
-#[derive(Clone, Copy)]
-pub struct Setting<'a> {
-    pub alloc: Global,
-    pub cells: &'a CellPages,
-    pub limit: u32,
-    pub profile: Profile,
-}
+pub const MARK: Task = Task::Write(Engine::Mark);
 
-impl<'a> Setting<'a> {
-    pub fn new(alloc: Global, cells: &'a CellPages, profile: Profile) -> Setting<'a> {
-        Setting {
-            alloc,
-            cells,
-            limit: LIMIT,
-            profile,
-        }
-    }
+pub const SHOW: Task = Task::Write(Engine::Show);
 
-    pub fn segmenter(self) -> Result<Segmenter<'a, CellPages>, PassageFault> {
-        Segmenter::new(self.alloc, self.cells, self.limit, self.profile)
-    }
-}
+pub const SEGMENT: Task = Task::Write(Engine::Segment);
+
+pub const REPLAY: Task = Task::Replay(Form::Plain);
 
 /// How a run ends.
 #[derive(Clone, Copy, Debug, PartialEq, Eq)]
@@ -66,17 +46,6 @@ impl End {
     pub fn is_refused(self) -> bool {
         matches!(self, End::Text(Err(_)) | End::File(Err(_)))
     }
-
-    /// The end of a test file with so many lines counted, agreeing, differing and refused.
-    pub fn counted(counts: [u32; 4]) -> End {
-        let [lines, agreed, differed, refused] = counts;
-        End::File(Ok(Report {
-            lines,
-            agreed,
-            differed,
-            refused,
-        }))
-    }
 }
 
 impl Task {
@@ -88,24 +57,16 @@ impl Task {
     ) -> End {
         match self {
             Task::Passages => End::Text(tell_all(setting, reader, writer)),
-            Task::Mark => End::Text(mark_to(setting, reader, writer)),
-            Task::Show => End::Text(show_to(setting, reader, writer)),
-            Task::Segment => End::Text(segment_to(setting, reader, writer)),
+            Task::Write(engine) => End::Text(engine.write(setting, reader, writer)),
             Task::Replay(form) => End::File(replay_to(setting, form, reader, writer)),
         }
     }
 
     /// The end after a failed read.
     pub fn failed_read(self) -> End {
-        self.end_of(Err(PassageFault::Read))
-    }
-
-    /// The end of a text, or of a test file with a failed read.
-    pub fn end_of(self, passages: Result<(), PassageFault>) -> End {
-        match (self, passages) {
-            (Task::Replay(_), _) => End::File(Err(ReplayFault::Read)),
-            (_, Ok(())) => End::Text(Ok(())),
-            (_, Err(fault)) => End::refused(fault),
+        match self {
+            Task::Replay(_) => End::File(Err(ReplayFault::Read)),
+            _ => End::refused(PassageFault::Read),
         }
     }
 

@@ -1,6 +1,6 @@
 //! The feed over reads that are cut, that fail and that end, with the expected pieces, counts and offsets.
 
-use crate::feed_calls::{same, settle, use_up};
+use crate::tests::feed_calls::{same, settle, use_up};
 use lbk_feed::devices::{MemorySource, RepeatedSource};
 use lbk_feed::{Feed, FeedFault, Source};
 use std::alloc::{AllocError, Global};

@@ -1,12 +1,13 @@
 //! Runs of a task over bytes in memory, and their expected results.
 
-use crate::calls::{memory_sink, source_of};
-use crate::tasks::{End, ROOM, Setting, Task};
+use crate::tests::calls::{memory_sink, source_of};
+use crate::tests::tasks::{End, ROOM, Task};
 use lbk_feed::devices::MemorySink;
 use lbk_feed::{Sink, Source};
 use std::alloc::AllocError;
 use std::test::Fail;
 use test_support::checks::same;
+use test_support::engines::Setting;
 
 /// A task, the bytes that it reads, the sizes of the reads (the last one for all later reads), and the read that fails.
 #[derive(Clone, Copy, Debug)]

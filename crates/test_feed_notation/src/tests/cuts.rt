@@ -1,0 +1,314 @@
+//! The output for worked texts and test files in both profiles, and how each run ends, for reads cut in any way: in two
+//! and three reads, cut at every offset, and in reads of one to seven bytes.
+
+use crate::tests::calls::sample_cells;
+use crate::tests::runs::{Run, check_run, whole};
+use crate::tests::tasks::{End, MARK, REPLAY, SEGMENT, SHOW, Task};
+use crate::tests::told_rows;
+use lbk_notation::Form;
+use lbk_passage::PassageFault::{self, Limit, NotUtf8, ParagraphTooLong};
+use lbk_rules::{CellPages, Profile};
+use std::alloc::Global;
+use std::test::Fail;
+use test_support::checks::same;
+use test_support::engines::{LIMIT, Setting};
+use test_support::reads::cuttings;
+use test_support::{marked, replayed, segment_lines, shown, texts};
+
+const OF_TEXTS: [Task; 4] = [Task::Passages, MARK, SHOW, SEGMENT];
+
+const KINDS: Task = Task::Replay(Form::Kinds);
+
+const OF_FILES: [Task; 2] = [REPLAY, KINDS];
+
+/// Compares how a run ends and what it writes, for all reads.
+fn check(
+    setting: Setting<'_>,
+    task: Task,
+    input: &[u8],
+    end: End,
+    written: &[u8],
+) -> Result<(), Fail> {
+    for sizes in &cuttings(setting.alloc, input.len())? {
+        let run = Run {
+            sizes,
+            ..whole(task, input)
+        };
+        let _ = check_run(run, setting, end, written)?;
+    }
+    Ok(())
+}
+
+/// The cells, for both profiles or one.
+type Settings<'a> = (Global, &'a CellPages, &'a [Profile]);
+
+const BOTH: [Profile; 2] = [Profile::First, Profile::Second];
+
+const FIRST: [Profile; 1] = [Profile::First];
+
+const SECOND: [Profile; 1] = [Profile::Second];
+
+/// A run accepts its input; after a test file it returns the counts that its last line has.
+fn check_accepted(alloc: Global, end: End, written: &str) -> Result<(), Fail> {
+    let End::File(Ok(report)) = end else {
+        return same(&end, &End::Text(Ok(())), &written);
+    };
+    let [lines, agreed, differed, refused] = [
+        report.lines,
+        report.agreed,
+        report.differed,
+        report.refused,
+    ];
+    let last = format!(in alloc; "T {lines} {agreed} {differed} {refused}\n")?;
+    same(&written.ends_with(last.as_str()), &true, &written)
+}
+
+/// Texts or test files, and the output for each.
+fn check_rows(settings: Settings<'_>, task: Task, rows: &[(&str, &str)]) -> Result<(), Fail> {
+    let (alloc, cells, profiles) = settings;
+    for (input, written) in rows {
+        for profile in profiles {
+            let setting = Setting::new(alloc, cells, *profile);
+            let end = whole(task, input.as_bytes()).ran(setting)?.end;
+            check_accepted(alloc, end, written)?;
+            check(setting, task, input.as_bytes(), end, written.as_bytes())?;
+        }
+    }
+    Ok(())
+}
+
+fn check_texts(settings: Settings<'_>, rows: [&[(&str, &str)]; 4]) -> Result<(), Fail> {
+    for (task, rows) in OF_TEXTS.iter().zip(rows.iter()) {
+        check_rows(settings, *task, rows)?;
+    }
+    Ok(())
+}
+
+#[test]
+fn written_of_texts(rt: HostRuntime) -> Result<(), Fail> {
+    let cells = sample_cells(rt.alloc())?;
+    check_texts(
+        (rt.alloc(), &cells, &BOTH),
+        [
+            &told_rows::BOTH,
+            &marked::BOTH,
+            &shown::BOTH,
+            &segment_lines::BOTH,
+        ],
+    )?;
+    check_texts(
+        (rt.alloc(), &cells, &FIRST),
+        [
+            &told_rows::FIRST,
+            &marked::FIRST,
+            &shown::FIRST,
+            &segment_lines::FIRST,
+        ],
+    )?;
+    check_texts(
+        (rt.alloc(), &cells, &SECOND),
+        [
+            &told_rows::SECOND,
+            &marked::SECOND,
+            &shown::SECOND,
+            &segment_lines::SECOND,
+        ],
+    )
+}
+
+/// Compares each run with one that reads everything at once.
+fn check_uncut(settings: Settings<'_>, tasks: &[Task], input: &[u8]) -> Result<(), Fail> {
+    let (alloc, cells, profiles) = settings;
+    for task in tasks {
+        for profile in profiles {
+            let setting = Setting::new(alloc, cells, *profile);
+            let want = whole(*task, input).ran(setting)?;
+            check(setting, *task, input, want.end, want.sink.bytes())?;
+        }
+    }
+    Ok(())
+}
+
+/// The same of the inputs of rows, with results elsewhere.
+fn check_uncut_rows(
+    settings: Settings<'_>,
+    tasks: &[Task],
+    rows: &[(&str, &str)],
+) -> Result<(), Fail> {
+    for (input, _) in rows {
+        check_uncut(settings, tasks, input.as_bytes())?;
+    }
+    Ok(())
+}
+
+/// Texts that are ill-formed at an end or inside, after passages or not; and test files: the start of a byte order
+/// mark, which is a bad line; one after the first line; lines that end with CR LF; a line that is not in one of the
+/// forms, and bytes that are no text.
+static BAD: [(&[Task], &[u8]); 11] = [
+    (&OF_TEXTS, b"a\xE2\x82"),
+    (&OF_TEXTS, b"a\nb\xFF"),
+    (&OF_TEXTS, b"a\n\xFF"),
+    (&OF_TEXTS, b"a\r\n\xED\xA0\x80b"),
+    (&OF_TEXTS, b"\xF0\x9F\x91\xA6\n\xF0\x9F\x91\n"),
+    (&OF_TEXTS, b"\xEF\xBB\xBFa\r\rb\xC0\x80"),
+    (&OF_FILES, b"\xEF\xBB"),
+    (
+        &OF_FILES,
+        b"\xEF\xBB\xBF\xC3\x97 0061 \xC3\xB7\r\n\xEF\xBB\xBF\n",
+    ),
+    (
+        &OF_FILES,
+        b"\xC3\x97 0061 !\n\xC3\x97\xC3\x97\n\n\xC3\x97 002a \xC3\xB7",
+    ),
+    (&OF_FILES, b"\xFF\n\xC3\n\xC3\x80\n"),
+    (&OF_FILES, b"# a\r\n \t\r\n\xC3\xB7\r\n"),
+];
+
+#[test]
+fn reads_of_inputs(rt: HostRuntime) -> Result<(), Fail> {
+    let cells = sample_cells(rt.alloc())?;
+    let settings: Settings<'_> = (rt.alloc(), &cells, &BOTH);
+    check_uncut_rows(settings, &OF_TEXTS, &texts::FIRST)?;
+    check_uncut_rows(settings, &OF_TEXTS, &texts::SECOND)?;
+    check_uncut_rows(settings, &OF_TEXTS, &shown::BOTH)?;
+    check_uncut_rows(settings, &OF_TEXTS, &shown::SECOND)?;
+    check_uncut_rows(settings, &OF_TEXTS, &told_rows::BOTH)?;
+    check_uncut_rows(settings, &OF_FILES, &replayed::PLAIN)?;
+    check_uncut_rows(settings, &OF_FILES, &replayed::KINDS)?;
+    check_uncut_rows(settings, &OF_FILES, &replayed::FIRST)?;
+    for (tasks, input) in &BAD {
+        check_uncut(settings, tasks, input)?;
+    }
+    Ok(())
+}
+
+/// A text, the limit of a paragraph, the fault, if any, and what each of `OF_TEXTS` writes before.
+type Row = (&'static [u8], u32, Option<PassageFault>, [&'static str; 4]);
+
+const TOO_LONG: Option<PassageFault> = Some(ParagraphTooLong { start: 0 });
+
+const NOTHING: [&str; 4] = [""; 4];
+
+/// The passage `a` and a line end.
+const LETTER: [&str; 4] = [
+    "P 0 2 5 S 0 2 Must 5 W 0 1 p 1 2\n",
+    "a\n",
+    "× 0061 × 000A !\t# 2 6 5\n",
+    "P 0 2\nS 0 2 Must 5\nW 0 1\n",
+];
+
+/// The passage `a b` and a line end.
+const TWO_LETTERS: [&str; 4] = [
+    "P 0 4 5 S 0 2 May 18 S 2 4 Must 5 W 0 1 p 1 2 W 2 3 p 3 4\n",
+    "a ÷b\n",
+    "× 0061 × 0020 ÷ 0062 × 000A !\t# 2 7 18 6 5\n",
+    "P 0 4\nS 0 2 May 18\nS 2 4 Must 5\nW 0 1\nW 2 3\n",
+];
+
+/// A text `ab cd`.
+const TWO_WORDS: [&str; 4] = [
+    "P 0 5 3 S 0 3 May 18 S 3 5 Must 3 W 0 2 p 2 3 W 3 5\n",
+    "ab ÷cd\n",
+    "× 0061 × 0062 × 0020 ÷ 0063 × 0064 !\t# 2 28 7 18 28 3\n",
+    "P 0 5\nS 0 3 May 18\nS 3 5 Must 3\nW 0 2\nW 3 5\n",
+];
+
+/// A line end before a character that is too long.
+const LINE_END: [&str; 4] = [
+    "P 0 1 5 S 0 1 Must 5 p 0 1\n",
+    "\n",
+    "× 000A !\t# 2 5\n",
+    "P 0 1\nS 0 1 Must 5\n",
+];
+
+/// A text `ab` and a line end.
+const LAST_LINE: [&str; 4] = [
+    "P 0 4 3 S 0 4 Must 3 W 0 2 p 2 4\n",
+    "ab\r\n",
+    "× 0061 × 0062 × 000D × 000A !\t# 2 28 6 5 3\n",
+    "P 0 4\nS 0 4 Must 3\nW 0 2\n",
+];
+
+/// Three passages; the longest has as many bytes as a paragraph may have.
+const THREE: [&str; 4] = [
+    "P 0 4 5 S 0 4 Must 5 W 0 2 p 2 4\nP 4 4 5 S 0 4 Must 5 W 0 3 p 3 4\nP 8 1 3 S 0 1 Must 3 W 0 1\n",
+    "ab\r\nabc\rb\n",
+    "× 0061 × 0062 × 000D × 000A !\t# 2 28 6 5 5\n× 0061 × 0062 × 0063 × 000D !\t# 2 28 28 6 5\n× 0062 !\t# 2 3\n",
+    "P 0 4\nS 0 4 Must 5\nW 0 2\nP 4 8\nS 4 8 Must 5\nW 4 7\nP 8 9\nS 8 9 Must 3\nW 8 9\n",
+];
+
+/// Texts at a limit, over it, and ill-formed.
+static ROWS: [Row; 21] = [
+    (b"ab cd", 0, Some(Limit), NOTHING),
+    (b"", 0, Some(Limit), NOTHING),
+    (b"", 16_777_217, Some(Limit), NOTHING),
+    (b"ab cd", 16_777_217, Some(Limit), NOTHING),
+    (b"ab cd", 16_777_216, None, TWO_WORDS),
+    (b"ab cd", 5, None, TWO_WORDS),
+    (b"ab cd", 4, TOO_LONG, NOTHING),
+    (b"ab\r\n", 4, None, LAST_LINE),
+    (b"ab\r\nabc\rb", 4, None, THREE),
+    (b"abc\r\n", 4, TOO_LONG, NOTHING),
+    (b"\xE2\x80\x99", 1, TOO_LONG, NOTHING),
+    (
+        b"\n\xE2\x80\x99",
+        1,
+        Some(ParagraphTooLong { start: 1 }),
+        LINE_END,
+    ),
+    (
+        b"a\nbcdef\ng",
+        4,
+        Some(ParagraphTooLong { start: 2 }),
+        LETTER,
+    ),
+    (
+        b"a b\nabcde",
+        4,
+        Some(ParagraphTooLong { start: 4 }),
+        TWO_LETTERS,
+    ),
+    (b"abcde\xFF", 4, TOO_LONG, NOTHING),
+    (b"abcd\xFF", 4, Some(NotUtf8 { at: 4 }), NOTHING),
+    (b"a\nb\xFFc\nd", 4, Some(NotUtf8 { at: 3 }), LETTER),
+    (b"a\nb\xFF", LIMIT, Some(NotUtf8 { at: 3 }), LETTER),
+    (b"a b\nb\xFF", 9, Some(NotUtf8 { at: 5 }), TWO_LETTERS),
+    (b"a\n\xFF", LIMIT, Some(NotUtf8 { at: 2 }), NOTHING),
+    (b"a\xE2\x82", LIMIT, Some(NotUtf8 { at: 1 }), NOTHING),
+];
+
+/// Compares what each task writes for a text, and how it ends.
+fn check_tasks(setting: Setting<'_>, row: &Row) -> Result<(), Fail> {
+    let (text, limit, fault, written) = *row;
+    let mut setting = setting;
+    setting.limit = limit;
+    let end = match fault {
+        Some(fault) => End::refused(fault),
+        None => End::Text(Ok(())),
+    };
+    for (task, written) in OF_TEXTS.iter().zip(written.iter()) {
+        check(setting, *task, text, end, written.as_bytes())?;
+    }
+    Ok(())
+}
+
+#[test]
+fn limits_and_faults(rt: HostRuntime) -> Result<(), Fail> {
+    let cells = sample_cells(rt.alloc())?;
+    for row in &ROWS {
+        for profile in BOTH {
+            check_tasks(Setting::new(rt.alloc(), &cells, profile), row)?;
+        }
+    }
+    Ok(())
+}
+
+#[test]
+fn written_of_files(rt: HostRuntime) -> Result<(), Fail> {
+    let cells = sample_cells(rt.alloc())?;
+    let settings: Settings<'_> = (rt.alloc(), &cells, &BOTH);
+    check_rows(settings, REPLAY, &replayed::PLAIN)?;
+    check_rows(settings, KINDS, &replayed::KINDS)?;
+    check_rows((rt.alloc(), &cells, &FIRST), REPLAY, &replayed::FIRST)?;
+    check_rows((rt.alloc(), &cells, &SECOND), REPLAY, &replayed::SECOND)
+}
