@@ -92,7 +92,7 @@ impl CellPages {
         for k in 0..PAGE_COUNT {
             let first = 256 * k;
             // This page and the one before lie in one range of equal cells.
-            if walk.run.first + 256 <= first && first + 255 <= walk.run.last {
+            if walk.first + 256 <= first && first + 255 <= walk.run.last {
                 let number = numbers[k as usize - 1];
                 numbers.push(number)?;
             } else {
@@ -160,12 +160,12 @@ impl CellSource for CellPages {
 /// was refused.
 fn fill<C: CellRuns>(page: &mut Page, walk: &mut Walk<'_, C>, first: u32) -> Result<u64, AllocError>
     requires first { first + 256 ≤ 0x11_0000 }
-    requires begins { walk.old.run.first ≤ first }
+    requires begins { walk.old.first ≤ first }
     requires reaches { first ≤ walk.old.run.last + 1 }
     ensures source { walk.new.source.now ≡ walk.old.source.now }
     ensures page { IfOk result (λ _. IsPageOf (C.cell_at walk.old.source.now) first page.new) }
     ensures digest { IfOk result (λ digest. digest ≡ digest_of page.new) }
-    ensures begins { IfOk result (λ _. walk.new.run.first < first + 256) }
+    ensures begins { IfOk result (λ _. walk.new.first < first + 256) }
     ensures reaches { IfOk result (λ _. first + 256 ≤ walk.new.run.last + 1) }
 {
     let mut digest = NO_CELLS;

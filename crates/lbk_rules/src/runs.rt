@@ -1,14 +1,13 @@
 //! Ranges of codes that have one cell.
 
-ghost use Rattle.std.specs.Prelude.{◌≡◌, ℕ, ◌≤◌};
+ghost use Rattle.std.specs.Prelude.{ℕ, ◌≤◌};
 
 use lbk_uax14::{Cell, resolve};
 use lbk_ucd::{Places, Tables};
 
-/// The cell that all codes from `first` to `last` have, and where it was found.
+/// The cell that all codes from a given one to `last` have, and where it was found.
 #[derive(Clone, Copy)]
 pub(crate) struct CellRun {
-    pub(crate) first: u32,
     pub(crate) last: u32,
     pub(crate) cell: Cell,
     pub(crate) places: Places,
@@ -25,8 +24,8 @@ pub(crate) trait CellRuns {
     /// range before.
     fn cell_run(&self, code: u32, near: Places) -> CellRun
         requires { code ≤ 0x10FFFF }
-        ensures ends { (result.first ≡ code) × (code ≤ result.last) × (result.last ≤ 0x10FFFF) }
-        ensures same { AreSame (cell_at self.now) result.first result.last result.cell };
+        ensures ends { (code ≤ result.last) × (result.last ≤ 0x10FFFF) }
+        ensures same { AreSame (cell_at self.now) code result.last result.cell };
 }
 
 impl CellRuns for Tables {
@@ -38,7 +37,6 @@ impl CellRuns for Tables {
     fn cell_run(&self, code: u32, near: Places) -> CellRun {
         let run = self.run(code, near);
         CellRun {
-            first: code,
             last: run.last,
             cell: resolve(
                 run.line_break,

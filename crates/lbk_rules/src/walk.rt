@@ -19,12 +19,14 @@ pub(crate) struct Walk<'a, C: CellRuns> {
     source: &'a C,
     /// How many codes have their kinds told at most.
     most: usize,
+    /// The first code of the range.
+    pub(crate) first: u32,
     pub(crate) run: CellRun,
     pub(crate) kinds: KindTable,
     /// For each byte whether a line must end after no scalar that begins with it (UAX #14, rules LB4 and LB5).
     pub(crate) quiet_first_bytes: [bool; 256],
-    ghost rises: { (run.first ≤ run.last) × (run.last ≤ 0x10FFFF) },
-    ghost same: { AreSame (C.cell_at source.now) run.first run.last run.cell },
+    ghost rises: { (first ≤ run.last) × (run.last ≤ 0x10FFFF) },
+    ghost same: { AreSame (C.cell_at source.now) first run.last run.cell },
     ghost counted: { (length kinds.kinds.items ≤ run.last + 1) × (length kinds.kinds.items ≤ most) },
     ghost complete: { length kinds.kinds.items < most → length kinds.kinds.items ≡ run.last + 1 },
     ghost of_cells: { (code : ℕ) → code < length kinds.kinds.items
@@ -41,16 +43,17 @@ impl<'a, C: CellRuns> Walk<'a, C> {
     ) -> Result<Walk<'a, C>, AllocError>
         ensures source { IfOk result (λ walk. walk.source.now ≡ source.now) }
         ensures most { IfOk result (λ walk. walk.most ≡ most) }
-        ensures first { IfOk result (λ walk. walk.run.first ≡ 0) }
+        ensures first { IfOk result (λ walk. walk.first ≡ 0) }
     {
         let mut kinds = KindTable::with_room(alloc, most)?;
         let run = source.cell_run(0, Places::START);
         kinds.fill_to(most.min(run.last as usize + 1), run.cell)?;
         let mut quiet_first_bytes = [true; 256];
-        leave_out_ends(&mut quiet_first_bytes, &run);
+        leave_out_ends(&mut quiet_first_bytes, 0, &run);
         Ok(Walk {
             source,
             most,
+            first: 0,
             run,
             kinds,
             quiet_first_bytes,
@@ -62,24 +65,26 @@ impl<'a, C: CellRuns> Walk<'a, C> {
         requires { self.old.run.last < 0x10FFFF }
         ensures source { self.new.source.now ≡ self.old.source.now }
         ensures most { self.new.most ≡ self.old.most }
-        ensures next { IfOk result (λ _. self.new.run.first ≡ self.old.run.last + 1) }
+        ensures next { IfOk result (λ _. self.new.first ≡ self.old.run.last + 1) }
     {
-        let run = self.source.cell_run(self.run.last + 1, self.run.places);
+        let first = self.run.last + 1;
+        let run = self.source.cell_run(first, self.run.places);
         let end = self.most.min(run.last as usize + 1);
         self.kinds.fill_to(end, run.cell)?;
-        leave_out_ends(&mut self.quiet_first_bytes, &run);
+        leave_out_ends(&mut self.quiet_first_bytes, first, &run);
+        self.first = first;
         self.run = run;
         Ok(())
     }
 }
 
-/// Leaves out the first bytes of the scalars of a range, where lines must end after them.
-fn leave_out_ends(quiet: &mut [bool; 256], run: &CellRun)
+/// Leaves out the first bytes of the scalars of the range from `first` on, where lines must end after them.
+fn leave_out_ends(quiet: &mut [bool; 256], first: u32, run: &CellRun)
     requires { run.now.last ≤ 0x10FFFF }
-    ensures { (cell : ℕ → Cell) → AreSame cell run.now.first run.now.last run.now.cell
-        → AreQuietTo cell quiet.old run.now.first → AreQuietTo cell quiet.new (run.now.last + 1) }
+    ensures { (cell : ℕ → Cell) → AreSame cell first run.now.last run.now.cell
+        → AreQuietTo cell quiet.old first → AreQuietTo cell quiet.new (run.now.last + 1) }
 {
     if run.cell.class.ends_line() {
-        leave_out(quiet, run.first, run.last);
+        leave_out(quiet, first, run.last);
     }
 }

@@ -34,10 +34,10 @@ loop-k-preserved g c =
       | else-walk-first w ↦ rw w.walk-is c.loop-k.invariant.source
     ]
 
-    ends : (c.if-walk-first.walk.run.first ≤ c.args.first + c.loop-k.k) × (c.args.first + c.loop-k.k ≤ c.if-walk-first.walk.run.last)
+    ends : (c.if-walk-first.walk.first ≤ c.args.first + c.loop-k.k) × (c.args.first + c.loop-k.k ≤ c.if-walk-first.walk.run.last)
     ends = elim c.if-walk-first.branch [
       | then-walk-first+in_ok-go_on w ↦
-          let first = ap (λ walk. walk.run.first) w.walk-is ∙ w.in_ok-go_on.ensures.next in
+          let first = ap (λ walk. walk.first) w.walk-is ∙ w.in_ok-go_on.ensures.next in
           (omega (arith, first), omega (arith, first, c.if-walk-first.walk.rises.0))
       | else-walk-first w ↦ rw w.walk-is (c.loop-k.invariant.begins, w.if-walk-first.false)
     ]

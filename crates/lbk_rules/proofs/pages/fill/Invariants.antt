@@ -9,8 +9,8 @@ invariant-loop-k g l = record {
   whole : length l.page ≡ 256;
   source : l.walk.source.now ≡ l.fn.walk.source.now;
   filled : (i : ℕ) → i < l.k → get_or l.page i letter ≡ g.C.CellRuns.cell_at l.fn.walk.source.now (l.first + i);
-  begins : l.walk.run.first ≤ l.first + l.k;
-  before : l.walk.run.first < l.first + 256;
+  begins : l.walk.first ≤ l.first + l.k;
+  before : l.walk.first < l.first + 256;
   reaches : l.first + l.k ≤ l.walk.run.last + 1;
   number : l.number ≡ cell_number l.walk.run.cell;
   digest : l.digest ≡ fold digest_with no_cells (take l.k l.page);

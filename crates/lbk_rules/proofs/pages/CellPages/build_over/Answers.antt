@@ -28,7 +28,7 @@ loop-k-preserved g c =
             source = is;
             to = filled_more cell_of numbers before before k n to (rw number (to.numbered (k - 1) (omega arith)))
                 (λ j below. refl) (omega arith) (omega arith)
-                (next_page-same cell_of k run.first run.last run.cell (get_or before n [])
+                (next_page-same cell_of k c.loop-k.walk.first run.last run.cell (get_or before n [])
                 (λ code low high. ap (λ at. g.C.CellRuns.cell_at at code) (sym is) ∙ c.loop-k.walk.same code low high)
                 (omega arith) (omega arith) (rw number (to.filled (k - 1) (omega arith))));
             begins = omega (arith, c.loop-k.invariant.begins);
