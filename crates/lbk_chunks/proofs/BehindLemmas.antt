@@ -1,7 +1,7 @@
 -- Behind a word of a text come the others.
-use Rattle.std.proofs.Common.{drop_of_length-le, ◌≡◌, ℕ, zero, suc, ◌+◌, ◌<◌, ◌≤◌, Bool, true, false, cond, min, nat_le, slice_index_or, List, [], ◌∷◌, ◌++◌, drop, length, take, refl, sym, ap, ap₂, subst, ◌∙◌, arith}
+use Rattle.std.proofs.Common.{drop_of_length-le, ◌≡◌, ℕ, zero, suc, ◌+◌, ◌<◌, ◌≤◌, Bool, true, false, cond, nat_le, slice_index_or, List, [], ◌∷◌, ◌++◌, drop, length, take, refl, sym, ap, ap₂, subst, ◌∙◌, arith}
 use Rattle.std.proofs.lemmas.Bool.Decides.{nat_tests}
-use Rattle.std.proofs.lemmas.List.{drop-drop, drop-map, get_or-take, length-take-le, take-append-drop}
+use Rattle.std.proofs.lemmas.List.{drop-drop, drop-map, get_or-take, length-take-le}
 use Rattle.std.proofs.Math.Seq.{drop-cons}
 use Rattle.bstr.specs.Utf8.{Decoded, decoded, or_replacement, pieces}
 use Rattle.bstr.proofs.lemmas.PieceLemmas.{pieces-nil, pieces-step}
@@ -124,75 +124,41 @@ from-within false text from w ws is joined =
     let past : length text ≤ from = grind (arith, nat_tests) in
     absurd (let no : [] ≡ w ∷ ws = sym (words-end text from past) ∙ joined in let wrong : ⊥ = cc in wrong)
 
-module _ (text : List ℕ) (block : WordBlock) (read : AreRead text block) (some : block.next < block.count) where
-  abbrev word : Word
-  word = slice_index_or block.words block.next (record { start = 0; end = 0 })
+-- the next word of those that were read
+abbrev pub next_of : WordBlock → Word
+next_of block = slice_index_or block.words block.next (record { start = 0; end = 0 })
 
+module _ (block : WordBlock) (some : block.next < block.count) where
   abbrev more : List Word
   more = drop (block.next + 1) (take block.count block.words)
 
-  first-here : drop block.next (take block.count block.words) ≡ word ∷ more
-  first-here = next-in block.next block.count block.words (record { start = 0; end = 0 }) some (omega (arith, read.room, read.size))
+  first-here : drop block.next (take block.count block.words) ≡ next_of block ∷ more
+  first-here = next-in block.next block.count block.words (record { start = 0; end = 0 }) some (omega (arith, block.within, block.size))
 
-  all-here : words_on text block.from ≡ word ∷ (more ++ words_on text block.rest)
-  all-here = read.joined ∙ ap (λ ws. ws ++ words_on text block.rest) first-here
+  rising-here : AreRising block.from block.rest (next_of block ∷ more)
+  rising-here = subst (AreRising block.from block.rest) first-here block.rising
 
-  others-here : words_on text word.end ≡ more ++ words_on text block.rest
-  others-here = words-behind text block.from word (more ++ words_on text block.rest) all-here
+  module _ (text : List ℕ) (read : AreRead text block) where
+    all-here : words_on text block.from ≡ next_of block ∷ (more ++ words_on text block.rest)
+    all-here = read.joined ∙ ap (λ ws. ws ++ words_on text block.rest) first-here
 
-  rising-here : AreRising block.from block.rest (word ∷ more)
-  rising-here = subst (AreRising block.from block.rest) first-here read.rising
+    pub others-here : words_on text (next_of block).end ≡ more ++ words_on text block.rest
+    others-here = words-behind text block.from (next_of block) (more ++ words_on text block.rest) all-here
 
-  ends-here : block.rest ≤ length text
-  ends-here = read.within (from-within (nat_le block.from (length text)) text block.from word (more ++ words_on text block.rest) refl all-here)
+    pub ends-here : block.rest ≤ length text
+    ends-here = read.within (from-within (nat_le block.from (length text)) text block.from (next_of block) (more ++ words_on text block.rest) refl all-here)
 
-  pub read-on : AreRead text (record { from = word.end; next = block.next + 1; count = block.count; rest = block.rest; room = block.room; words = block.words })
-  read-on = record {
-    size = read.size;
-    few = omega (arith, some);
-    room = read.room;
-    joined = others-here;
-    rising = rising-here.2;
-    within = λ _. ends-here;
-    some = read.some;
-    most = read.most;
-  }
+    pub is-first : (from : ℕ) → block.from ≡ from → IsFirstWord text from (next_of block)
+    is-first from same = subst (λ n. IsFirstWord text n (next_of block)) same (record {
+      joined = all-here ∙ ap (λ ws. next_of block ∷ ws) (sym others-here);
+      behind = rising-here.0;
+      some = rising-here.1;
+      within = (let last = rising-on (next_of block).end block.rest more rising-here.2 in omega (arith, last, ends-here));
+    })
 
-  pub is-first : (from : ℕ) → block.from ≡ from → IsFirstWord text from word
-  is-first from same = subst (λ n. IsFirstWord text n word) same (record {
-    joined = all-here ∙ ap (λ ws. word ∷ ws) (sym others-here);
-    behind = rising-here.0;
-    some = rising-here.1;
-    within = (let last = rising-on word.end block.rest more rising-here.2 in omega (arith, last, ends-here));
-  })
-
--- where the block has no more
-pub none-from : (text : List ℕ) (from rest count room next_room : ℕ) (words : List Word) → length words ≡ 64 → room ≤ 64 → count ≡ min room (length (words_on text from))
-    → words_on text rest ≡ drop count (words_on text from)
-    → take count words ≡ take count (words_on text from) → AreRising from rest (take count words) → (from ≤ length text → rest ≤ length text)
-    → 0 < next_room → next_room ≤ 64
-    → AreRead text (record { from = from; next = 0; count = count; rest = rest; room = next_room; words = words })
-none-from text from rest count room next_room words size most counted behind front rising within some few = record {
-  size = size;
-  few = omega arith;
-  room = omega arith;
-  joined = sym (take-append-drop count (words_on text from)) ∙ ap₂ (λ (a b : List Word). a ++ b) (sym front) (sym behind);
-  rising = rising;
-  within = within;
-  some = some;
-  most = few;
-}
-
-nothing : (ws : List Word) (room : ℕ) → 0 < room → min room (length ws) ≡ 0 → ws ≡ []
-nothing [] room some none = refl
-nothing (w ∷ ws) room some none = absurd (omega arith)
-
-pub none-come : (text : List ℕ) (from count room : ℕ) → 0 < room → count ≡ min room (length (words_on text from)) → count ≡ 0 → words_on text from ≡ []
-none-come text from count room some counted none = nothing (words_on text from) room some (omega arith)
-
--- nor has the text
+-- where the block has no more, nor has the text
 pub none-left : (text : List ℕ) (block : WordBlock) → AreRead text block → block.next ≡ block.count → length text ≤ block.rest → words_on text block.from ≡ []
 none-left text block read all past =
-    let size = length-take-le block.count block.words (omega (arith, read.room, read.size)) in
+    let size = length-take-le block.count block.words (omega (arith, block.within, block.size)) in
     let none : drop block.next (take block.count block.words) ≡ [] = drop_of_length-le (take block.count block.words) (omega (arith, all, size)) in
     read.joined ∙ ap₂ (λ (a b : List Word). a ++ b) none (words-end text block.rest past)

@@ -11,9 +11,8 @@ use Rattle.lbk_chunks.specs.declared.cut.Place.{Place}
 use Rattle.lbk_chunks.specs.declared.cursor.Filled.{Filled}
 use Rattle.lbk_chunks.specs.declared.cut_block.CutBlock.{CutBlock}
 use Rattle.lbk_chunks.specs.declared.cut_block.Mark.{Mark}
-use Rattle.lbk_chunks.specs.declared.window.Window.{Window}
 use Rattle.lbk_chunks.specs.Chunks.{cuts_past}
-use Rattle.lbk_chunks.specs.Coming.{AreCutsPast, AreFirst, AreKept, IsAhead, IsBlock, IsMark, IsSafe, early_in, last_in, no_cut}
+use Rattle.lbk_chunks.specs.Coming.{AreCutsPast, AreFirst, IsAhead, IsBlock, IsMark, early_in, last_in, no_cut}
 use Rattle.lbk_chunks.proofs.CutLemmas.{IsSplit, cut-one, first-later, none-past, split}
 
 -- some elements up to one of them
@@ -95,86 +94,82 @@ module _ (cell : ℕ → Cell) (table : FlatTable) (text : List ℕ) (cuts : Lis
         counted = λ c same cut. ap (λ (p : Place). p.words) same_place ∙ counted ∙ ap (λ (d : Cut). d.words) (cut-one cuts last c s.cut cut (sym (same ∙ same_at)));
       }
 
+  fits-block : (block : CutBlock) → block.count ≤ length block.cuts
+  fits-block block = omega (arith, block.few, block.most, block.size)
+
   -- a block that was read
-  pub block-read : (room : ℕ) (mark behind : Mark) (out : List Cut) (filled : Filled) → 0 < room → room ≤ 64 → IsMark cell table text cuts mark
-      → AreFirst cell table text (cuts_past mark.at cuts) room out filled → length out ≡ 64
-      → behind.place ≡ filled.place → behind.at ≡ cond (filled.count == 0) mark.at (slice_index_or out (filled.count - 1) no_cut).at
-      → (0 < filled.count → filled.count ≡ room → filled.place.words ≡ (slice_index_or out (filled.count - 1) no_cut).words)
-      → IsBlock cell table text cuts (record { before = mark; behind = behind; room = room; count = filled.count; cuts = out })
-  block-read room mark behind out filled some few is first size same_place same_at counted = record {
+  pub block-read : (block : CutBlock) (filled : Filled) → IsMark cell table text cuts block.before
+      → AreFirst cell table text (cuts_past block.before.at cuts) block.room block.cuts filled → block.count ≡ filled.count → block.behind.place ≡ filled.place
+      → (0 < filled.count → filled.count ≡ block.room → filled.place.words ≡ (slice_index_or block.cuts (filled.count - 1) no_cut).words)
+      → IsBlock cell table text cuts block
+  block-read block filled is first same_count same_place counted = record {
     before = is;
     rest = first.rest;
-    joined = first.joined;
-    all = first.all;
-    behind = λ full. mark-behind mark behind room out filled is first (omega (arith, full, some)) (omega (arith, full, few, size)) same_place
-        (same_at ∙ end-some filled.count mark.at out (omega (arith, full, some))) (counted (omega (arith, full, some)) full);
+    joined = first.joined ∙ ap (λ n. take n block.cuts ++ first.rest) (sym same_count);
+    all = λ few. first.all (omega (arith, same_count, few));
+    behind = λ full. (
+        let some : 0 < block.count = omega (arith, full, block.some) in
+        mark-behind block.before block.behind block.room block.cuts filled is first (omega (arith, some, same_count)) (omega (arith, fits-block block, same_count)) same_place
+        (block.end ∙ end-some block.count block.before.at block.cuts some ∙ ap (λ n. (slice_index_or block.cuts (n - 1) no_cut).at) same_count)
+        (counted (omega (arith, some, same_count)) (omega (arith, full, same_count))));
   }
 
   -- the first past a byte is in the block
-  pub block-first : (block : CutBlock) (k at : ℕ) → IsBlock cell table text cuts block → IsSafe text block → k < block.count
+  pub block-first : (block : CutBlock) (k at : ℕ) → IsBlock cell table text cuts block → k < block.count
       → block.before.at ≤ at → at < (slice_index_or block.cuts k no_cut).at → (k ≡ 0) ⊎ ((slice_index_or block.cuts (k - 1) no_cut).at ≤ at)
       → cuts_past at cuts ≡ slice_index_or block.cuts k no_cut ∷ cuts_past (slice_index_or block.cuts k no_cut).at cuts
-  block-first block k at is safe below after past before =
-      first-in cuts block.before.at block.count block.cuts is.rest rising is.joined k at below (omega (arith, safe.few, safe.room, safe.size)) after past before
+  block-first block k at is below after past before =
+      first-in cuts block.before.at block.count block.cuts is.rest rising is.joined k at below (fits-block block) after past before
 
   -- and the first past one of them is the next
-  pub block-next : (block : CutBlock) (k : ℕ) (last : Cut) → IsBlock cell table text cuts block → IsSafe text block → 0 < k → k < block.count
+  pub block-next : (block : CutBlock) (k : ℕ) (last : Cut) → IsBlock cell table text cuts block → 0 < k → k < block.count
       → (slice_index_or block.cuts (k - 1) no_cut).at ≡ last.at → last.at < (slice_index_or block.cuts k no_cut).at
       → cuts_past last.at cuts ≡ slice_index_or block.cuts k no_cut ∷ cuts_past (slice_index_or block.cuts k no_cut).at cuts
-  block-next block k last is safe some below same past =
-      let s = split-at cuts block.before.at block.count block.cuts is.rest rising is.joined (k - 1) (omega arith) (omega (arith, safe.few, safe.room, safe.size)) in
-      block-first block k last.at is safe below (omega (arith, s.past, same)) past (inr (omega arith))
+  block-next block k last is some below same past =
+      let s = split-at cuts block.before.at block.count block.cuts is.rest rising is.joined (k - 1) (omega arith) (fits-block block) in
+      block-first block k last.at is below (omega (arith, s.past, same)) past (inr (omega arith))
 
   -- the text has no cut behind a block that is not full
-  none-by : (block : CutBlock) (at : ℕ) (b : Bool) → (block.count == 0) ≡ b → IsBlock cell table text cuts block → IsSafe text block
+  none-by : (block : CutBlock) (at : ℕ) (b : Bool) → (block.count == 0) ≡ b → IsBlock cell table text cuts block
       → block.count < block.room → block.behind.at ≤ at → cuts_past at cuts ≡ []
-  none-by block at true none is safe few past =
+  none-by block at true none is few past =
       let zero_count : block.count ≡ 0 = grind (arith, nat_tests) in
-      let there : block.behind.at ≡ block.before.at = safe.end ∙ ap (λ b. cond b block.before.at (slice_index_or block.cuts (block.count - 1) no_cut).at) none in
+      let there : block.behind.at ≡ block.before.at = block.end ∙ ap (λ b. cond b block.before.at (slice_index_or block.cuts (block.count - 1) no_cut).at) none in
       none-past cuts block.before.at at (omega (arith, there, past))
       (is.joined ∙ ap₂ (λ (n : ℕ) (l : List Cut). take n block.cuts ++ l) zero_count (is.all few))
-  none-by block at false some is safe few past =
+  none-by block at false some is few past =
       let one : 0 < block.count = grind (arith, nat_tests) in
       let last = slice_index_or block.cuts (block.count - 1) no_cut in
-      let s = split-last cuts block.before.at block.count block.cuts is.rest rising is.joined one (omega (arith, safe.few, safe.room, safe.size)) in
-      let there : block.behind.at ≡ last.at = safe.end ∙ end-some block.count block.before.at block.cuts one in
+      let s = split-last cuts block.before.at block.count block.cuts is.rest rising is.joined one (fits-block block) in
+      let there : block.behind.at ≡ last.at = block.end ∙ end-some block.count block.before.at block.cuts one in
       none-past cuts last.at at (omega (arith, there, past)) (sym s.behind ∙ is.all few)
 
-  pub block-none : (block : CutBlock) (at : ℕ) → IsBlock cell table text cuts block → IsSafe text block
+  pub block-none : (block : CutBlock) (at : ℕ) → IsBlock cell table text cuts block
       → block.count < block.room → block.behind.at ≤ at → cuts_past at cuts ≡ []
-  block-none block at is safe few past = none-by block at (block.count == 0) refl is safe few past
-
-  -- all blocks and the place that is kept
-  pub kept-with : (window : Window) (older newer : CutBlock) → IsBlock cell table text cuts older → IsBlock cell table text cuts newer → AreKept cell table text cuts window
-      → (new : Window) → new.home ≡ window.home → new.older ≡ older → new.newer ≡ newer → AreKept cell table text cuts new
-  kept-with window older newer is_older is_newer kept new same_home same_older same_newer = record {
-    older = subst (IsBlock cell table text cuts) (sym same_older) is_older;
-    newer = subst (IsBlock cell table text cuts) (sym same_newer) is_newer;
-    home = subst (IsMark cell table text cuts) (sym same_home) kept.home;
-  }
+  block-none block at is few past = none-by block at (block.count == 0) refl is few past
 
 or-less : (k n : ℕ) → k < n → (k ≡ n - 1 → ⊥) → k + 1 < n
 or-less k n below not_last = ⊎_elim (λ (less : k + 1 < n). less) (λ (same : n ≤ k + 1). absurd (not_last (omega arith))) (cases_lt (k + 1) n)
 
 -- the search goes on within a block
-pub goes-on : (text : List ℕ) (block : CutBlock) (k at : ℕ) → IsSafe text block → at < block.behind.at → k < block.count → (slice_index_or block.cuts k no_cut).at ≤ at
+pub goes-on : (block : CutBlock) (k at : ℕ) → at < block.behind.at → k < block.count → (slice_index_or block.cuts k no_cut).at ≤ at
     → k + 1 < block.count
-goes-on text block k at safe behind below before =
-    let there = safe.end ∙ end-some block.count block.before.at block.cuts (omega arith) in
+goes-on block k at behind below before =
+    let there = block.end ∙ end-some block.count block.before.at block.cuts (omega arith) in
     let not_last : k ≡ block.count - 1 → ⊥ = λ same. (
     let here : (slice_index_or block.cuts k no_cut).at ≡ (slice_index_or block.cuts (block.count - 1) no_cut).at = ap (λ n. (slice_index_or block.cuts n no_cut).at) same in
     absurd (omega (arith, here, there, before, behind))) in
     or-less k block.count below not_last
 
 -- a block that reaches past its start has a cut
-reach-by : (text : List ℕ) (block : CutBlock) (at : ℕ) (b : Bool) → (block.count == 0) ≡ b → IsSafe text block → block.before.at ≤ at → at < block.behind.at → 0 < block.count
-reach-by text block at true none safe before behind =
-    let there : block.behind.at ≡ block.before.at = safe.end ∙ ap (λ b. cond b block.before.at (slice_index_or block.cuts (block.count - 1) no_cut).at) none in
+reach-by : (block : CutBlock) (at : ℕ) (b : Bool) → (block.count == 0) ≡ b → block.before.at ≤ at → at < block.behind.at → 0 < block.count
+reach-by block at true none before behind =
+    let there : block.behind.at ≡ block.before.at = block.end ∙ ap (λ b. cond b block.before.at (slice_index_or block.cuts (block.count - 1) no_cut).at) none in
     absurd (omega (arith, there, before, behind))
-reach-by text block at false some safe before behind = grind (arith, nat_tests)
+reach-by block at false some before behind = grind (arith, nat_tests)
 
-pub reach-some : (text : List ℕ) (block : CutBlock) (at : ℕ) → IsSafe text block → block.before.at ≤ at → at < block.behind.at → 0 < block.count
-reach-some text block at safe before behind = reach-by text block at (block.count == 0) refl safe before behind
+pub reach-some : (block : CutBlock) (at : ℕ) → block.before.at ≤ at → at < block.behind.at → 0 < block.count
+reach-some block at before behind = reach-by block at (block.count == 0) refl before behind
 
 pub reach-le : (from to at : ℕ) → (nat_le from at && nat_lt at to) ≡ true → (from ≤ at) × (at < to)
 reach-le from to at is = (let below : from ≤ at = grind (arith, nat_tests) in below, let before : at < to = grind (arith, nat_tests) in before)

@@ -15,7 +15,8 @@ use Rattle.lbk_chunks.specs.declared.cut.Cut.{Cut}
 use Rattle.lbk_chunks.specs.declared.cut.Place.{Place}
 use Rattle.lbk_chunks.specs.declared.cursor.Filled.{Filled}
 use Rattle.lbk_chunks.specs.declared.cursor.NextBreaks.{NextBreaks}
-use Rattle.lbk_chunks.specs.Coming.{AreAmong, AreBreaksPast, AreCounted, AreNext, AreOnward, StandWithin, IsAhead, IsPassed, breaks_left, words_ahead}
+use Rattle.lbk_chunks.specs.declared.word_block.WordBlock.{WordBlock}
+use Rattle.lbk_chunks.specs.Coming.{AreAmong, AreBreaksPast, AreCounted, AreNext, AreOnward, AreRead, StandWithin, IsAhead, IsPassed, breaks_left, words_ahead}
 use Rattle.lbk_chunks.specs.Cuts.{cuts_among, is_within, words_before}
 use Rattle.lbk_chunks.proofs.WordLemmas.{cut_by, first-behind, word-first}
 
@@ -49,58 +50,66 @@ is-split text place at counted (inr past) some inside =
     let within : nat_lt place.word.start at ≡ true = grind (arith, nat_tests) in
     ap (λ ws. is_within ws at) same ∙ behind.0 ∙ within
 
-module _ (text : List ℕ) (cuts : List Cut) (b : Break) (bs : List Break) (found : RawBreak) (start : Filled) (new : Place) (out : List Cut)
-    (shown : raw_of b ≡ found) (a : AreAmong text cuts (b ∷ bs) start out) (passed : IsPassed text found.at start.place new) where
-  counted-on : AreCounted text new
-  counted-on = passed.counted a.counted
+-- the words before a break are passed
+pub pass-before : (text : List ℕ) (cuts : List Cut) (b : Break) (bs : List Break) (found : RawBreak) (start : Filled) (new : Place) (words more : WordBlock) (out : List Cut)
+    → raw_of b ≡ found → AreAmong text cuts (b ∷ bs) start words out → AreRead text more × IsPassed text found.at start.place new
+    → AreAmong text cuts (b ∷ bs) (record { count = start.count; place = new }) more out
+pass-before text cuts b bs found start new words more out shown a passed =
+    let at = ap (λ (r : RawBreak). r.at) shown in
+    record {
+      read = passed.0;
+      counted = passed.1.counted a.counted;
+      rising = a.rising;
+      joined = a.joined ∙ ap (λ l. take start.count out ++ l) (sym (passed.1.cuts a.counted b bs (omega (arith, at)) a.rising.1));
+    }
+
+module _ (text : List ℕ) (cuts : List Cut) (b : Break) (bs : List Break) (found : RawBreak) (here : Filled) (read : WordBlock) (out : List Cut)
+    (shown : raw_of b ≡ found) (a : AreAmong text cuts (b ∷ bs) here read out) where
+  abbrev new : Place
+  new = here.place
 
   at-break : found.at ≡ b.at
   at-break = ap (λ (r : RawBreak). r.at) (sym shown)
 
-  joined-on : cuts ≡ take start.count out ++ cuts_among new.words (words_ahead text new) (b ∷ bs)
-  joined-on = a.joined ∙ ap (λ l. take start.count out ++ l) (sym (passed.cuts a.counted b bs (let same = at-break in omega arith) a.rising.1))
-
   rising-on : AreBreaksPast 0 bs
   rising-on = breaks-past 0 b.at bs (omega arith) a.rising.1
 
-  -- the words before the break are passed
-  pub pass-before : AreAmong text cuts (b ∷ bs) (record { count = start.count; place = new }) out
-  pass-before = record { counted = counted-on; rising = a.rising; joined = joined-on }
-
   -- the break is a cut
-  pub take-cut : start.count < length out → (new.word.end ≡ 0 → words_ahead text new ≡ []) → (new.word.end ≡ 0) ⊎ (found.at < new.word.end)
+  pub take-cut : here.count < length out → (new.word.end ≡ 0 → words_ahead text new ≡ []) → (new.word.end ≡ 0) ⊎ (found.at < new.word.end)
       → (new.word.end ≡ 0) ⊎ (found.at ≤ new.word.start)
-      → AreAmong text cuts bs (record { count = start.count + 1; place = new }) (set out start.count (cut_of found new.words))
+      → AreAmong text cuts bs (record { count = here.count + 1; place = new }) read (set out here.count (cut_of found new.words))
   take-cut room none past clear =
       let at = at-break in
       let words = words_ahead text new in
       let others = cuts_among new.words words bs in
-      let is = is-clear text new found.at counted-on none past clear in
+      let is = is-clear text new found.at a.counted none past clear in
       let within : is_within words b.at ≡ false = ap (is_within words) (sym at) ∙ is.0 in
       let count : new.words + words_before words b.at ≡ new.words = (let before : words_before words b.at ≡ 0 = ap (words_before words) (sym at) ∙ is.1 in omega arith) in
       let first : cuts_among new.words words (b ∷ bs) ≡ cut_of found new.words ∷ others =
       ap₂ (λ (w : Bool) (n : ℕ). cond w others (cut_by b n ∷ others)) within count ∙ ap (λ (r : RawBreak). (cut_of r new.words) ∷ others) shown in
       record {
-        counted = counted-on;
+        read = a.read;
+        counted = a.counted;
         rising = rising-on;
-        joined = joined-on ∙ ap (λ l. take start.count out ++ l) first
-            ∙ sym (append_assoc (take start.count out) (cut_of found new.words ∷ []) others)
-            ∙ ap (λ l. l ++ others) (sym (take_more_set out start.count (cut_of found new.words) room));
+        joined = a.joined ∙ ap (λ l. take here.count out ++ l) first
+            ∙ sym (append_assoc (take here.count out) (cut_of found new.words ∷ []) others)
+            ∙ ap (λ l. l ++ others) (sym (take_more_set out here.count (cut_of found new.words) room));
       }
 
   -- it is within a word
   pub skip-break : (new.word.end ≡ 0) ⊎ (found.at < new.word.end) → (new.word.end ≡ 0 → ⊥) → new.word.start < found.at
-      → AreAmong text cuts bs (record { count = start.count; place = new }) out
+      → AreAmong text cuts bs here read out
   skip-break past some inside =
       let at = at-break in
       let words = words_ahead text new in
       let others = cuts_among new.words words bs in
-      let within : is_within words b.at ≡ true = ap (is_within words) (sym at) ∙ is-split text new found.at counted-on past some inside in
+      let within : is_within words b.at ≡ true = ap (is_within words) (sym at) ∙ is-split text new found.at a.counted past some inside in
       record {
-        counted = counted-on;
+        read = a.read;
+        counted = a.counted;
         rising = rising-on;
-        joined = joined-on
-            ∙ ap (λ (w : Bool). take start.count out ++ cond w others (cut_by b (new.words + words_before words b.at) ∷ others)) within;
+        joined = a.joined
+            ∙ ap (λ (w : Bool). take here.count out ++ cond w others (cut_by b (new.words + words_before words b.at) ∷ others)) within;
       }
 
 -- one cut more is written
@@ -110,29 +119,32 @@ within-more size count out c room below within = below_more _ _
     (rw get_or-set_same below)
 
 -- what was found of some cuts, and the others
-pub record IsSoFar (cell : ℕ → Cell) (table : FlatTable) (text : List ℕ) (cuts out : List Cut) (filled : Filled) : Type 0 where
+pub record IsSoFar (cell : ℕ → Cell) (table : FlatTable) (text : List ℕ) (cuts out : List Cut) (filled : Filled) (words : WordBlock) : Type 0 where
+  pub read : AreRead text words
   pub rest : List Cut
   pub joined : cuts ≡ take filled.count out ++ rest
   pub onward : IsAhead cell table text filled.place rest
 
 module _ (cell : ℕ → Cell) (table : FlatTable) (text : List ℕ) (cuts : List Cut) where
   -- the breaks that were read are to be taken
-  pub read-breaks : (room : ℕ) (here : Filled) (out : List Cut) (block : List RawBreak) (next : NextBreaks) → (s : IsSoFar cell table text cuts out here)
+  pub read-breaks : (room : ℕ) (here : Filled) (out : List Cut) (block : List RawBreak) (next : NextBreaks) (words : WordBlock) → (s : IsSoFar cell table text cuts out here words)
       → AreNext cell table text s.onward.breaks room block next
-      → AreAmong text cuts (take next.count s.onward.breaks ++ drop next.count s.onward.breaks) (record { count = here.count; place = record here.place { breaks = next.state } }) out
-  read-breaks room here out block next s n =
+      → AreAmong text cuts (take next.count s.onward.breaks ++ drop next.count s.onward.breaks) (record { count = here.count; place = record here.place { breaks = next.state } }) words out
+  read-breaks room here out block next words s n =
       let a = s.onward in
       let all = take-append-drop next.count a.breaks in
       record {
+        read = s.read;
         counted = record { few = a.counted.few; onward = a.counted.onward };
         rising = subst (AreBreaksPast 0) (sym all) a.rising;
         joined = s.joined ∙ ap (λ l. take here.count out ++ l) (a.among ∙ ap (cuts_among here.place.words (words_ahead text here.place)) (sym all));
       }
 
-  pub read-on : (room : ℕ) (here new : Filled) (before out : List Cut) (block : List RawBreak) (next : NextBreaks) → (s : IsSoFar cell table text cuts before here)
+  pub read-on : (room : ℕ) (here new : Filled) (before out : List Cut) (block : List RawBreak) (next : NextBreaks) (words more : WordBlock) → (s : IsSoFar cell table text cuts before here words)
       → AreNext cell table text s.onward.breaks room block next → new.place.breaks ≡ next.state
-      → AreAmong text cuts (drop next.count s.onward.breaks) new out → IsSoFar cell table text cuts out new
-  read-on room here new before out block next s n same a = record {
+      → AreAmong text cuts (drop next.count s.onward.breaks) new more out → IsSoFar cell table text cuts out new more
+  read-on room here new before out block next words more s n same a = record {
+    read = a.read;
     rest = cuts_among new.place.words (words_ahead text new.place) (drop next.count s.onward.breaks);
     joined = a.joined;
     onward = record {
@@ -148,9 +160,9 @@ module _ (cell : ℕ → Cell) (table : FlatTable) (text : List ℕ) (cuts : Lis
   none-of [] room some counted = refl
   none-of (b ∷ bs) room some counted = absurd (omega arith)
 
-  pub read-all : (room : ℕ) (here : Filled) (out : List Cut) (block : List RawBreak) (next : NextBreaks) → 0 < room → next.count ≡ 0 → (s : IsSoFar cell table text cuts out here)
+  pub read-all : (room : ℕ) (here : Filled) (out : List Cut) (block : List RawBreak) (next : NextBreaks) (words : WordBlock) → 0 < room → next.count ≡ 0 → (s : IsSoFar cell table text cuts out here words)
       → AreNext cell table text s.onward.breaks room block next → s.rest ≡ []
-  read-all room here out block next some none s n =
+  read-all room here out block next words some none s n =
       s.onward.among ∙ ap (cuts_among here.place.words (words_ahead text here.place)) (none-of s.onward.breaks room some (sym none ∙ n.counted))
 
 -- fewer breaks are left

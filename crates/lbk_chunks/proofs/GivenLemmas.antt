@@ -12,7 +12,7 @@ use Rattle.lbk_chunks.specs.declared.cut_block.Mark.{Mark}
 use Rattle.lbk_chunks.specs.declared.window.Window.{Window}
 use Rattle.lbk_chunks.specs.declared.chunk.Here.{Here}
 use Rattle.lbk_chunks.specs.Chunks.{AreChunks, AreTold, after, are_limits, chunk_to, cuts_past, end_of, fits}
-use Rattle.lbk_chunks.specs.Coming.{AreCutsPast, AreGiven, AreKept, ChunksCome, IsAhead, IsGiven, IsMark, IsStanding, KeepsCuts, Knows, here_of}
+use Rattle.lbk_chunks.specs.Coming.{AreCutsPast, AreGiven, AreKept, AreRead, ChunksCome, IsAhead, IsBlock, IsGiven, IsKept, IsMark, IsStanding, KeepsCuts, Knows, StandWithin, here_of}
 use Rattle.lbk_chunks.proofs.CutLemmas.{cut-one}
 
 -- the elements in front, and one more
@@ -153,17 +153,38 @@ knows-first cell table text limits state to_come window come same are =
 pub keeps-more : (table : FlatTable) (text : List ℕ) (first next last : Window) → KeepsCuts table text first next → KeepsCuts table text next last
     → KeepsCuts table text first last
 keeps-more table text first next last keeps more = record {
-  kept = more.kept;
+  kept = λ kept. more.kept (keeps.kept kept);
   home = more.home ∙ keeps.home;
   are = λ cell cuts rising are. more.are cell cuts rising (keeps.are cell cuts rising are);
+}
+
+pub keeps-read : (table : FlatTable) (text : List ℕ) (old new : Window) → new.home ≡ old.home
+    → (IsKept text old → StandWithin (length text) new.older.count new.older.cuts) → StandWithin (length text) new.newer.count new.newer.cuts
+    → ((cell : ℕ → Cell) (cuts : List Cut) → AreCutsPast 0 cuts → AreKept cell table text cuts old
+    → IsBlock cell table text cuts new.older × IsBlock cell table text cuts new.newer × AreRead text new.words)
+    → KeepsCuts table text old new
+keeps-read table text old new home older newer are = record {
+  kept = λ kept. record { older = older kept; newer = newer };
+  home = home;
+  are = λ cell cuts rising were. (
+      let now = are cell cuts rising were in
+      record {
+        older = now.0;
+        newer = now.1;
+        home = subst (IsMark cell table text cuts) (sym home) were.home;
+        words = now.2;
+        within = record { older = older were.within; newer = newer };
+      });
 }
 
 pub keeps-from : (table : FlatTable) (text : List ℕ) (old new : Window) (next : ℕ) → KeepsCuts table text old new
     → KeepsCuts table text old (record new { next = next })
 keeps-from table text old new next keeps = record {
-  kept = record { older = keeps.kept.older; newer = keeps.kept.newer; words = keeps.kept.words };
+  kept = λ kept. (let k = keeps.kept kept in record { older = k.older; newer = k.newer });
   home = keeps.home;
-  are = λ cell cuts rising were. (let k = keeps.are cell cuts rising were in record { older = k.older; newer = k.newer; home = k.home });
+  are = λ cell cuts rising were. (
+      let k = keeps.are cell cuts rising were in
+      record { older = k.older; newer = k.newer; home = k.home; words = k.words; within = record { older = k.within.older; newer = k.within.newer } });
 }
 
 -- and the start of a chunk stays behind the place from which cuts can be read again

@@ -1,5 +1,6 @@
 -- The words before cuts.
-use Rattle.std.proofs.Common.{◌≡◌, ℕ, ◌+◌, ◌<◌, ◌≤◌, ◌==◌, Bool, true, false, cond, nat_le, nat_lt, List, [], ◌∷◌, ◌++◌, length, refl, sym, ap, ap₂, subst, ◌∙◌, arith}
+use Rattle.std.proofs.Common.{◌≡◌, ℕ, ◌+◌, ◌<◌, ◌≤◌, ◌⊎◌, ◌-◌, ◌==◌, ⊎_elim, inl, inr, suc, Bool, true, false, cond, nat_le, nat_lt, List, [], ◌∷◌, ◌++◌, length, refl, sym, ap, ap₂, subst, ◌∙◌, arith}
+use Rattle.std.proofs.lemmas.Bool.{cases_lt}
 use Rattle.std.proofs.lemmas.Bool.Decides.{nat_tests}
 use Rattle.std.proofs.lemmas.List.Sums.{sum_by-cons}
 use Rattle.lbk_rules.specs.declared.Break.{Break}
@@ -10,7 +11,7 @@ use Rattle.lbk_words.specs.Words.{words_on}
 use Rattle.lbk_words.proofs.FillLemmas.{words-end}
 use Rattle.lbk_chunks.specs.declared.cut.Cut.{Cut}
 use Rattle.lbk_chunks.specs.declared.cut.Place.{Place}
-use Rattle.lbk_chunks.specs.Coming.{AreBreaksPast, AreOnward, IsPassed, held, words_ahead}
+use Rattle.lbk_chunks.specs.Coming.{AreBreaksPast, AreOnward, IsLoaded, IsPassed, held, left, words_ahead}
 use Rattle.lbk_chunks.specs.Cuts.{cuts_among, is_within, words_before}
 
 -- no word is behind the place where none begins before it
@@ -65,15 +66,13 @@ onward-from from to [] below onward = onward
 onward-from from to (w ∷ ws) below onward = (omega (arith, onward.0), onward.1, onward.2)
 
 -- a place from which the same words come, of the same number
-pub load : (text : List ℕ) (at : ℕ) (first old new : Place) → IsPassed text at first old → new.breaks ≡ old.breaks → new.words ≡ old.words
-    → words_ahead text new ≡ words_ahead text old
-    → (old.words + held old.word ≤ old.from → new.words + held new.word ≤ new.from)
-    → IsPassed text at first new
-load text at first old new passed same_breaks same_words same few = record {
-  same_breaks = same_breaks ∙ passed.same_breaks;
-  counted = λ c. (let was = passed.counted c in record { few = few was.few; onward = subst (AreOnward 0) (sym same) was.onward });
+pub load : (text : List ℕ) (at : ℕ) (first old new : Place) → IsPassed text at first old → (new.breaks ≡ old.breaks) × (new.words ≡ old.words)
+    → IsLoaded text old new → IsPassed text at first new
+load text at first old new passed same loaded = record {
+  same_breaks = same.0 ∙ passed.same_breaks;
+  counted = λ c. (let was = passed.counted c in record { few = loaded.counted was.few; onward = subst (AreOnward 0) (sym loaded.ahead) was.onward });
   cuts = λ c b bs from past.
-      ap₂ (λ n ws. cuts_among n ws (b ∷ bs)) same_words same ∙ passed.cuts c b bs from past;
+      ap₂ (λ n ws. cuts_among n ws (b ∷ bs)) same.1 loaded.ahead ∙ passed.cuts c b bs from past;
 }
 
 pub load-none : (text : List ℕ) (at : ℕ) (place : Place) → IsPassed text at place place
@@ -141,3 +140,30 @@ pass-more text at first old new a b = record {
   counted = λ c. b.counted (a.counted c);
   cuts = λ c br bs from past. b.cuts (a.counted c) br bs from past ∙ a.cuts c br bs from past;
 }
+
+-- a word that ends past the one that is passed is nearer to the byte, or past it
+left-none : (at : ℕ) (place : Place) → place.word.end ≡ 0 → left at place ≡ 0
+left-none at place none = let no : (place.word.end == 0) ≡ true = grind (arith, nat_tests) in
+    ap (λ t. cond t 0 (cond (nat_le place.word.end at) (suc (at - place.from)) 0)) no
+
+left-past : (at : ℕ) (place : Place) → at < place.word.end → left at place ≡ 0
+left-past at place past =
+    let some : (place.word.end == 0) ≡ false = grind (arith, nat_tests) in
+    let beyond : nat_le place.word.end at ≡ false = grind (arith, nat_tests) in
+    ap₂ (λ t u. cond t 0 (cond u (suc (at - place.from)) 0)) some beyond
+
+left-some : (at : ℕ) (place : Place) → 0 < place.word.end → place.word.end ≤ at → left at place ≡ suc (at - place.from)
+left-some at place ends within =
+    let some : (place.word.end == 0) ≡ false = grind (arith, nat_tests) in
+    let before : nat_le place.word.end at ≡ true = grind (arith, nat_tests) in
+    ap₂ (λ t u. cond t 0 (cond u (suc (at - place.from)) 0)) some before
+
+pub left-less : (at from : ℕ) (old new : Place) → 0 < old.word.end → old.word.end ≤ at → from ≡ old.from
+    → (new.word.end ≡ 0) ⊎ ((new.word.end ≡ new.from) × (from < new.from)) → left at new < left at old
+left-less at from old new some within same (inl none) = omega (arith, left-none at new none, left-some at old some within)
+left-less at from old new some within same (inr further) =
+    let was = left-some at old some within in
+    ⊎_elim
+    (λ (past : at < new.word.end). omega (arith, was, left-past at new past))
+    (λ (before : new.word.end ≤ at). omega (arith, was, left-some at new (omega arith) before))
+    (cases_lt at new.word.end)

@@ -1,5 +1,5 @@
 -- What is left of a text from a place on.
-use Rattle.std.specs.Prelude.{◌≡◌, ℕ, true, ◌+◌, ◌-◌, ◌<◌, ◌≤◌, ◌==◌, List, [], ◌∷◌, ◌++◌, drop, length, map, min}
+use Rattle.std.specs.Prelude.{◌≡◌, ℕ, suc, nat_le, true, ◌+◌, ◌-◌, ◌<◌, ◌≤◌, ◌==◌, List, [], ◌∷◌, ◌++◌, drop, length, map, min}
 use Rattle.std.specs.Prelude.{◌⊎◌, take, slice_index_or, Option, Some, None, if◌then◌else◌}
 use Rattle.std.specs.List.{list_all}
 use Rattle.lbk_rules.specs.declared.Break.{Break}
@@ -12,7 +12,7 @@ use Rattle.lbk_calls.specs.Coming.{Comes}
 use Rattle.lbk_calls.specs.State.{start_in}
 use Rattle.lbk_values.specs.declared.profile.Profile.{Profile}
 use Rattle.lbk_words.specs.declared.word.Word.{Word}
-use Rattle.lbk_words.specs.Words.{AreRising, words_on}
+use Rattle.lbk_words.specs.Words.{words_on}
 use Rattle.lbk_chunks.specs.declared.chunk.Chunk.{Chunk}
 use Rattle.lbk_chunks.specs.declared.chunk.ChunkState.{ChunkState}
 use Rattle.lbk_chunks.specs.declared.chunk.Limits.{Limits}
@@ -30,6 +30,7 @@ use Rattle.lbk_chunks.specs.declared.chunk.Here.{Here}
 use Rattle.lbk_chunks.specs.Chunks.{AreChunks, after, are_limits, chunk_to, cuts_past, end_of, fits, fitting}
 use Rattle.lbk_chunks.specs.Chunks.{last_early, last_of}
 use Rattle.lbk_chunks.specs.Cuts.{cuts_among}
+pub use Rattle.lbk_chunks.specs.Blocks.{no_cut}
 pub use Rattle.lbk_chunks.specs.Cuts.{AreCutsPast}
 
 -- the word that was read and not passed
@@ -43,9 +44,10 @@ waiting word = if word.end == 0 then [] else word ∷ []
 abbrev pub words_ahead : List ℕ → Place → List Word
 words_ahead text place = waiting place.word ++ words_on text place.from
 
--- how much is left to read and to pass
-abbrev pub left : List ℕ → Place → ℕ
-left text place = (length text - place.from) + held place.word
+-- how far it is to a byte from a place whose word ends there or before it
+abbrev pub left : ℕ → Place → ℕ
+left at place =
+    if place.word.end == 0 then 0 else (if nat_le place.word.end at then suc (at - place.from) else 0)
 
 -- how many more breaks a call may return from a state
 abbrev pub breaks_left : List ℕ → State → ℕ
@@ -84,20 +86,14 @@ pub record IsAhead (cell : ℕ → Cell) (table : FlatTable) (text : List ℕ) (
 
 -- the words that were read: those in the block, and those after it
 pub record AreRead (text : List ℕ) (block : WordBlock) : Type 0 where
-  pub size : length block.words ≡ 64
-  pub few : block.next ≤ block.count
-  pub room : block.count ≤ 64
   pub joined : words_on text block.from ≡ drop block.next (take block.count block.words) ++ words_on text block.rest
-  pub rising : AreRising block.from block.rest (drop block.next (take block.count block.words))
   pub within : block.from ≤ length text → block.rest ≤ length text
-  pub some : 0 < block.room
-  pub most : block.room ≤ 64
 
--- the words from a byte on are in a block, or there are none
-pub record IsLoaded (text : List ℕ) (at : ℕ) (block : WordBlock) : Type 0 where
-  pub read : AreRead text block
-  pub from : block.from ≡ at
-  pub none : block.next ≡ block.count → words_on text at ≡ []
+-- a word was read, or none is left
+pub record IsLoaded (text : List ℕ) (old new : Place) : Type 0 where
+  pub ahead : words_ahead text new ≡ words_ahead text old
+  pub counted : old.words + held old.word ≤ old.from → new.words + held new.word ≤ new.from
+  pub none : new.word.end ≡ 0 → words_ahead text new ≡ []
 
 -- the first word from a byte on
 pub record IsFirstWord (text : List ℕ) (from : ℕ) (word : Word) : Type 0 where
@@ -105,10 +101,6 @@ pub record IsFirstWord (text : List ℕ) (from : ℕ) (word : Word) : Type 0 whe
   pub behind : from ≤ word.start
   pub some : word.start < word.end
   pub within : word.end ≤ length text
-
--- a cut where there is none
-abbrev pub no_cut : Cut
-no_cut = record { at = 0; words = 0; kind = 0; rule = 0 }
 
 -- the cuts at the front of a block are within a text of this size
 abbrev pub StandWithin : ℕ → ℕ → List Cut → Type 0
@@ -130,8 +122,9 @@ pub record AreNext (cell : ℕ → Cell) (table : FlatTable) (text : List ℕ) (
   pub onward : Comes cell table text next.state (drop next.count breaks)
 
 -- the cuts at the front of a block were found, and the others are among these breaks
-pub record AreAmong (text : List ℕ) (cuts : List Cut) (breaks : List Break) (filled : Filled) (out : List Cut) : Type
-    0 where
+pub record AreAmong (text : List ℕ) (cuts : List Cut) (breaks : List Break) (filled : Filled) (words : WordBlock)
+    (out : List Cut) : Type 0 where
+  pub read : AreRead text words
   pub counted : AreCounted text filled.place
   pub rising : AreBreaksPast 0 breaks
   pub joined : cuts ≡ take filled.count out ++ cuts_among filled.place.words (words_ahead text filled.place) breaks
@@ -158,16 +151,6 @@ pub record IsMark (cell : ℕ → Cell) (table : FlatTable) (text : List ℕ) (c
   pub ahead : IsAhead cell table text mark.place (cuts_past mark.at cuts)
   pub counted : (c : Cut) → c.at ≡ mark.at → IsCutOf cuts c → mark.place.words ≡ c.words
 
--- with any table, the cuts of a block are within the text, and its end is that of the last
-pub record IsSafe (text : List ℕ) (block : CutBlock) : Type 0 where
-  pub size : length block.cuts ≡ 64
-  pub some : 0 < block.room
-  pub room : block.room ≤ 64
-  pub few : block.count ≤ block.room
-  pub within : StandWithin (length text) block.count block.cuts
-  pub end : block.behind.at ≡ (if block.count == 0 then block.before.at
-      else (slice_index_or block.cuts (block.count - 1) no_cut).at)
-
 -- the cut at this index of a block is its first one past a byte
 pub record IsFirstPast (block : CutBlock) (at k : ℕ) : Type 0 where
   pub few : k < block.count
@@ -183,20 +166,23 @@ pub record IsBlock (cell : ℕ → Cell) (table : FlatTable) (text : List ℕ) (
   pub all : block.count < block.room → rest ≡ []
   pub behind : block.count ≡ block.room → IsMark cell table text cuts block.behind
 
+-- with any table, the cuts of a window are within the text
 pub record IsKept (text : List ℕ) (window : Window) : Type 0 where
-  pub older : IsSafe text window.older
-  pub newer : IsSafe text window.newer
-  pub words : AreRead text window.words
+  pub older : StandWithin (length text) window.older.count window.older.cuts
+  pub newer : StandWithin (length text) window.newer.count window.newer.cuts
 
+-- a window has cuts of a text, and a place from which it can read them again
 pub record AreKept (cell : ℕ → Cell) (table : FlatTable) (text : List ℕ) (cuts : List Cut) (window : Window) : Type
     0 where
   pub older : IsBlock cell table text cuts window.older
   pub newer : IsBlock cell table text cuts window.newer
   pub home : IsMark cell table text cuts window.home
+  pub words : AreRead text window.words
+  pub within : IsKept text window
 
 -- what a window has of the cuts of a text, and the place from which it can read them again, it keeps
 pub record KeepsCuts (table : FlatTable) (text : List ℕ) (old new : Window) : Type 0 where
-  pub kept : IsKept text new
+  pub kept : IsKept text old → IsKept text new
   pub home : new.home ≡ old.home
   pub are : (cell : ℕ → Cell) (cuts : List Cut) → AreCutsPast 0 cuts → AreKept cell table text cuts old
       → AreKept cell table text cuts new

@@ -4,4 +4,5 @@ pub mod Cuts
 pub mod Chunks
 pub mod Laws
 -- What only proofs use.
+pub mod Blocks
 pub mod Coming

@@ -70,11 +70,9 @@ fn give_chunks(
     window: &mut Window,
     out: &mut [Chunk],
 ) -> usize
-    requires kept { IsKept text.now window.old }
-    requires order { here.old.start ≤ here.old.told }
-    ensures kept { IsKept text.now window.new }
+    requires { here.old.start ≤ here.old.told }
     ensures within { result ≤ length out.old }
-    ensures told { AreTold here.old.told here.new.told (length text.now) (take result out.new) }
+    ensures told { IsKept text.now window.old → AreTold here.old.told here.new.told (length text.now) (take result out.new) }
     ensures order { here.new.start ≤ here.new.told }
     ensures given { (cell : ℕ → Cell) (cuts : List Cut) (to_come : List Chunk)
         → Knows cell table.now text.now cuts window.old here.old
@@ -110,14 +108,15 @@ fn next_chunk(
     text: &[u8],
     window: &mut Window,
 ) -> Option<Given>
-    requires { IsKept text.now window.old }
     ensures keeps { KeepsCuts table.now text.now window.old window.new }
     ensures given { (cell : ℕ → Cell) (cuts : List Cut) → Knows cell table.now text.now cuts window.old here.now
         → MatchOption result (cuts_past here.now.told cuts ≡ []) (IsGiven limits.now cuts here.now) }
     ensures places { IfSome result (λ given. (given.chunk.start ≡ here.now.start)
-        × (here.now.told < given.chunk.end) × (given.chunk.end ≤ length text.now)
         × (given.next.told ≡ given.chunk.end) × (given.next.start ≤ given.next.told)) }
-    ensures onward { here.now.start ≤ here.now.told → IfSome result (λ given. here.now.start ≤ given.next.start) }
+    ensures within { IsKept text.now window.old → IfSome result (λ given. (here.now.told < given.chunk.end)
+        × (given.chunk.end ≤ length text.now)) }
+    ensures onward { IsKept text.now window.old → here.now.start ≤ here.now.told
+        → IfSome result (λ given. here.now.start ≤ given.next.start) }
 {
     let Some(end) = chunk_end(table, limits, here, text, window) else {
         return None;
@@ -157,12 +156,12 @@ fn chunk_end(
     text: &[u8],
     window: &mut Window,
 ) -> Option<Cut>
-    requires { IsKept text.now window.old }
     ensures keeps { KeepsCuts table.now text.now window.old window.new }
     ensures end { (cell : ℕ → Cell) (cuts : List Cut) → Knows cell table.now text.now cuts window.old here.now
         → MatchOption result (cuts_past here.now.told cuts ≡ [])
         (λ end. IsEnd limits.now cuts here.now end × IsCutOf cuts end) }
-    ensures places { IfSome result (λ end. (here.now.told < end.at) × (end.at ≤ length text.now)) }
+    ensures within { IsKept text.now window.old
+        → IfSome result (λ end. (here.now.told < end.at) × (end.at ≤ length text.now)) }
 {
     let Some(first) = window.first_past(table, text, here.told) else {
         return None;
@@ -227,9 +226,8 @@ fn fit_up_to(
 /// Goes on over the cuts of a block that fit.
 #[inline(always)]
 fn fit_on(limits: &Limits, here: &Here, window: &Window, start: Fitting) -> Fitting
-    requires kept { (text : List ℕ) × IsKept text window.now }
     ensures ending { (cell : ℕ → Cell) (table : FlatTable) (text : List ℕ) (cuts : List Cut)
-        → Knows cell table text cuts window.now here.now → IsKept text window.now
+        → Knows cell table text cuts window.now here.now
         → IsEnding limits.now cuts here.now start.last start.early
         → IsEnding limits.now cuts here.now result.last result.early }
     ensures placed { (text : List ℕ) → IsKept text window.now → ArePlaced here.now.told (length text) start
@@ -279,7 +277,6 @@ fn next_start(
     text: &[u8],
     window: &mut Window,
 ) -> Here
-    requires { IsKept text.now window.old }
     ensures keeps { KeepsCuts table.now text.now window.old window.new }
     ensures next { (cell : ℕ → Cell) (cuts : List Cut) → Knows cell table.now text.now cuts window.old here.now
         → here.now.told < end.now.at → IsCutOf cuts end.now

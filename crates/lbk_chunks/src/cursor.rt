@@ -8,8 +8,8 @@ ghost use Rattle.lbk_rules.specs.declared.Break.{Break};
 ghost use Rattle.lbk_rules.specs.declared.Cell.{Cell};
 ghost use Rattle.lbk_calls.specs.Coming.{Comes};
 ghost use Rattle.lbk_chunks.specs.declared.cut.Cut.{Cut};
-ghost use Rattle.lbk_chunks.specs.declared.cut.Place.{Place};
-ghost use Rattle.lbk_chunks.specs.Coming.{AreAmong, AreFirst, AreNext, AreRead, IsAhead, IsPassed, StandWithin};
+ghost use Rattle.lbk_chunks.specs.declared.word_block.WordBlock.{WordBlock};
+ghost use Rattle.lbk_chunks.specs.Coming.{AreAmong, AreFirst, AreNext, AreRead, IsAhead, StandWithin};
 ghost use Rattle.lbk_chunks.specs.Coming.{breaks_left, no_cut, words_ahead};
 
 use crate::cut::{Cut, Place};
@@ -45,10 +45,9 @@ pub(crate) fn fill_cuts(
     out: &mut [Cut; 64],
 ) -> Filled
     requires room { room ≤ 64 }
-    requires read { AreRead text.now words.old }
-    ensures read { AreRead text.now words.new }
-    ensures first { (cell : ℕ → Cell) (cuts : List Cut) → IsAhead cell table.now text.now place cuts
-        → AreFirst cell table.now text.now cuts room out.new result }
+    ensures first { (cell : ℕ → Cell) (cuts : List Cut) → AreRead text.now words.old
+        → IsAhead cell table.now text.now place cuts → AreFirst cell table.now text.now cuts room out.new result
+        × AreRead text.now words.new }
     ensures room { result.count ≤ room }
     ensures within { StandWithin (length text.now) result.count out.new }
     ensures counted { 0 < result.count → result.count ≡ room → result.place.words
@@ -115,11 +114,9 @@ fn add_cuts(
 ) -> Filled
     requires count { count ≤ length breaks.now }
     requires room { (start.count + count ≤ room) × (room ≤ 64) }
-    requires read { AreRead text.now words.old }
-    ensures read { AreRead text.now words.new }
     ensures among { (cuts : List Cut) (found rest : List Break) → map raw_of found ≡ take count breaks.now
-        → AreAmong text.now cuts (found ++ rest) start out.old
-        → AreAmong text.now cuts rest result out.new }
+        → AreAmong text.now cuts (found ++ rest) start words.old out.old
+        → AreAmong text.now cuts rest result words.new out.new }
     ensures same { result.place.breaks ≡ start.place.breaks }
     ensures few { (start.count ≤ result.count) × (result.count ≤ room) }
     ensures within { (size : ℕ) → ((k : ℕ) → k < count → (slice_index_or breaks.now k no_break).at ≤ size)
@@ -158,12 +155,10 @@ fn add_known(
 ) -> Added
     requires count { (from ≤ count) × (count ≤ length breaks.now) }
     requires room { start.count + count ≤ 64 + from }
-    requires read { (text : List ℕ) × AreRead text words.old }
-    ensures read { (text : List ℕ) → AreRead text words.old → AreRead text words.new }
-    ensures among { (text : List ℕ) (cuts : List Cut) (found rest : List Break) → AreRead text words.old
+    ensures among { (text : List ℕ) (cuts : List Cut) (found rest : List Break)
         → map raw_of found ≡ take count breaks.now
-        → AreAmong text cuts (drop from found ++ rest) start out.old
-        → AreAmong text cuts (drop result.next found ++ rest) result.filled out.new }
+        → AreAmong text cuts (drop from found ++ rest) start words.old out.old
+        → AreAmong text cuts (drop result.next found ++ rest) result.filled words.new out.new }
     ensures same { result.filled.place.breaks ≡ start.place.breaks }
     ensures next { (from ≤ result.next) × (result.next ≤ count) }
     ensures few { (start.count ≤ result.filled.count) × (result.filled.count + from ≤ start.count + result.next) }
@@ -209,11 +204,9 @@ fn add_cut(
     out: &mut [Cut; 64],
 ) -> Filled
     requires room { start.count < 64 }
-    requires read { AreRead text.now words.old }
-    ensures read { AreRead text.now words.new }
     ensures among { (cuts : List Cut) (first : Break) (rest : List Break) → raw_of first ≡ found
-        → AreAmong text.now cuts (first ∷ rest) start out.old
-        → AreAmong text.now cuts rest result out.new }
+        → AreAmong text.now cuts (first ∷ rest) start words.old out.old
+        → AreAmong text.now cuts rest result words.new out.new }
     ensures same { result.place.breaks ≡ start.place.breaks }
     ensures few { (start.count ≤ result.count) × (result.count ≤ start.count + 1) }
     ensures within { (size : ℕ) → found.at ≤ size → StandWithin size start.count out.old
@@ -230,12 +223,11 @@ fn add_cut(
 #[inline(always)]
 fn put_cut(found: RawBreak, here: Filled, out: &mut [Cut; 64]) -> Filled
     requires room { here.count < 64 }
-    ensures among { (text : List ℕ) (cuts : List Cut) (first : Break) (rest : List Break) (start : Place)
+    ensures among { (text : List ℕ) (cuts : List Cut) (first : Break) (rest : List Break) (words : WordBlock)
         → raw_of first ≡ found
-        → AreAmong text cuts (first ∷ rest) (record { count = here.count; place = start }) out.old
-        → IsPassed text found.at start here.place
+        → AreAmong text cuts (first ∷ rest) here words out.old
         → (here.place.word.end ≡ 0 → words_ahead text here.place ≡ [])
-        → (here.place.word.end ≡ 0) ⊎ (found.at < here.place.word.end) → AreAmong text cuts rest result out.new }
+        → (here.place.word.end ≡ 0) ⊎ (found.at < here.place.word.end) → AreAmong text cuts rest result words out.new }
     ensures same { result.place ≡ here.place }
     ensures few { (here.count ≤ result.count) × (result.count ≤ here.count + 1) }
     ensures within { (size : ℕ) → found.at ≤ size → StandWithin size here.count out.old

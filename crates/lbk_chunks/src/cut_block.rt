@@ -1,11 +1,9 @@
 //! Successive cuts of a text.
 
-ghost use Rattle.std.specs.Prelude.{◌≡◌, ◌⊎◌, ℕ, ◌-◌, ◌<◌, ◌≤◌, ◌&&◌, ◌==◌, nat_le, nat_lt, length, List};
-ghost use Rattle.std.specs.Prelude.{slice_index_or, if◌then◌else◌};
+ghost use Rattle.std.specs.Prelude.{◌≡◌, ◌⊎◌, ℕ, ◌-◌, ◌<◌, ◌≤◌, ◌&&◌, nat_le, nat_lt, length, List, slice_index_or};
 ghost use Rattle.lbk_rules.specs.declared.Cell.{Cell};
 ghost use Rattle.lbk_chunks.specs.declared.cut.Cut.{Cut};
-ghost use Rattle.lbk_chunks.specs.Coming.{AreCutsPast, AreRead, IsBlock, IsFirstPast, IsMark, IsSafe, breaks_left};
-ghost use Rattle.lbk_chunks.specs.Coming.{early_in, last_in, no_cut};
+ghost use Rattle.lbk_chunks.specs.Blocks.{last_or, no_cut};
 
 use crate::cursor::fill_cuts;
 use crate::cut::{Cut, NO_CUTS, Place};
@@ -35,15 +33,23 @@ pub(crate) struct CutBlock {
     pub(crate) count: usize,
     /// The cuts.
     pub(crate) cuts: [Cut; 64],
+    ghost some: { 0 < room },
+    ghost most: { room ≤ 64 },
+    ghost size: { length cuts ≡ 64 },
+    ghost few: { count ≤ room },
+    ghost end: { behind.at ≡ last_or cuts count before.at },
 }
 
 impl CutBlock {
+    ghost use Rattle.lbk_chunks.specs.Coming.{AreCutsPast, AreRead, IsBlock, IsFirstPast, IsMark, StandWithin};
+    ghost use Rattle.lbk_chunks.specs.Coming.{breaks_left, early_in, last_in};
+
     /// No cuts, at a place.
     pub(crate) fn none(mark: Mark) -> CutBlock {
         CutBlock {
             before: mark,
             behind: mark,
-            room: 0,
+            room: BLOCK,
             count: 0,
             cuts: NO_CUTS,
         }
@@ -59,12 +65,11 @@ impl CutBlock {
         words: &mut WordBlock,
     )
         requires room { (0 < room) × (room ≤ 64) }
-        requires read { AreRead text.now words.old }
-        ensures read { AreRead text.now words.new }
-        ensures safe { IsSafe text.now self.new }
+        ensures within { StandWithin (length text.now) self.new.count self.new.cuts }
         ensures before { (self.new.before ≡ mark) × (self.new.room ≡ room) }
-        ensures block { (cell : ℕ → Cell) (cuts : List Cut) → AreCutsPast 0 cuts
-            → IsMark cell table.now text.now cuts mark → IsBlock cell table.now text.now cuts self.new }
+        ensures block { (cell : ℕ → Cell) (cuts : List Cut) → AreCutsPast 0 cuts → AreRead text.now words.old
+            → IsMark cell table.now text.now cuts mark → IsBlock cell table.now text.now cuts self.new
+            × AreRead text.now words.new }
         ensures shorter { (self.new.count ≡ 0)
             ⊎ (breaks_left text.now self.new.behind.place.breaks < breaks_left text.now mark.place.breaks) }
         ensures onward { breaks_left text.now self.new.behind.place.breaks ≤ breaks_left text.now mark.place.breaks }
@@ -90,7 +95,7 @@ impl CutBlock {
     /// Where a search for the first cut past a byte may begin: there or at the first.
     #[inline(always)]
     fn begin(&self, at: usize, from: usize) -> usize
-        requires { (self.now.count ≤ 64) × (0 < self.now.count) }
+        requires { 0 < self.now.count }
         ensures few { result < self.now.count }
         ensures first { (result ≡ 0) ⊎ ((slice_index_or self.now.cuts (result - 1) no_cut).at ≤ at) }
     {
@@ -103,7 +108,6 @@ impl CutBlock {
     /// This place, if the cut before it is at the byte, or else the end.
     #[inline(always)]
     pub(crate) fn behind_cut(&self, at: usize, place: usize) -> usize
-        requires { self.now.count ≤ 64 }
         ensures few { result ≤ self.now.count }
         ensures found { (result ≡ self.now.count) ⊎ ((0 < result)
             × ((slice_index_or self.now.cuts (result - 1) no_cut).at ≡ at)) }
@@ -141,8 +145,7 @@ impl CutBlock {
     /// Which of them is the first past a byte. The search begins at one of them if that is not past the first.
     #[inline(always)]
     pub(crate) fn first_past(&self, at: usize, from: usize) -> usize
-        requires safe { (text : List ℕ) × IsSafe text self.now }
-        requires reaches { (self.now.before.at ≤ at) × (at < self.now.behind.at) }
+        requires { (self.now.before.at ≤ at) × (at < self.now.behind.at) }
         ensures { IsFirstPast self.now at result }
     {
         let mut k = self.begin(at, from);
@@ -156,7 +159,7 @@ impl CutBlock {
 /// The offset of the last of some cuts, if there is one.
 fn last_or(cuts: &[Cut], count: usize, at: usize) -> usize
     requires { count ≤ length cuts.now }
-    ensures { result ≡ (if count == 0 then at else (slice_index_or cuts.now (count - 1) no_cut).at) }
+    ensures { result ≡ last_or cuts.now count at }
 {
     if count == 0 {
         return at;

@@ -4,8 +4,8 @@ ghost use Rattle.std.specs.Prelude.{◌≡◌, ◌⊎◌, ℕ, ◌<◌, ◌≤�
 ghost use Rattle.lbk_rules.specs.declared.Cell.{Cell};
 ghost use Rattle.lbk_chunks.specs.declared.cut.Cut.{Cut};
 ghost use Rattle.lbk_chunks.specs.Chunks.{cuts_past};
-ghost use Rattle.lbk_chunks.specs.Coming.{AreKept, IsAhead, IsBlock, IsKept, IsMark, IsSafe, IsStanding, KeepsCuts};
-ghost use Rattle.lbk_chunks.specs.Coming.{breaks_left};
+ghost use Rattle.lbk_chunks.specs.Coming.{AreKept, AreRead, IsAhead, IsBlock, IsKept, IsMark, IsStanding, KeepsCuts};
+ghost use Rattle.lbk_chunks.specs.Coming.{StandWithin, breaks_left};
 ghost use Rattle.lbk_chunks.specs.Cuts.{AreCutsPast};
 
 use crate::cursor::fill_cuts;
@@ -55,12 +55,12 @@ impl Window {
     /// The first cut past a byte.
     #[inline(always)]
     pub(crate) fn first_past(&mut self, table: &FlatTable, text: &[u8], at: usize) -> Option<Cut>
-        requires { IsKept text.now self.old }
         ensures keeps { KeepsCuts table.now text.now self.old self.new }
         ensures first { (cell : ℕ → Cell) (cuts : List Cut) → AreCutsPast 0 cuts
             → AreKept cell table.now text.now cuts self.old → self.old.home.at ≤ at
             → MatchOption result (cuts_past at cuts ≡ []) (λ cut. cuts_past at cuts ≡ cut ∷ cuts_past cut.at cuts) }
-        ensures places { IfSome result (λ cut. (at < cut.at) × (cut.at ≤ length text.now)) }
+        ensures past { IfSome result (λ cut. at < cut.at) }
+        ensures within { IsKept text.now self.old → IfSome result (λ cut. cut.at ≤ length text.now) }
     {
         if self.newer.reaches(at) {
             let k = self.newer.first_past(at, self.next);
@@ -83,7 +83,8 @@ impl Window {
     /// The block that has the cut after the one at a byte, if either has.
     #[inline(always)]
     pub(crate) fn block_past(&self, at: usize) -> &CutBlock
-        ensures safe { (text : List ℕ) → IsKept text self.now → IsSafe text result.now }
+        ensures within { (text : List ℕ) → IsKept text self.now
+            → StandWithin (length text) result.now.count result.now.cuts }
         ensures block { (cell : ℕ → Cell) (table : FlatTable) (text : List ℕ) (cuts : List Cut)
             → AreKept cell table text cuts self.now → IsBlock cell table text cuts result.now }
     {
@@ -95,7 +96,6 @@ impl Window {
 
     /// Reads the cuts again from the place that is kept, if the newer ones are past a byte.
     fn reread(&mut self, table: &FlatTable, text: &[u8], at: usize)
-        requires { IsKept text.now self.old }
         ensures keeps { KeepsCuts table.now text.now self.old self.new }
         ensures before { self.old.home.at ≤ at → self.new.newer.before.at ≤ at }
     {
@@ -108,8 +108,7 @@ impl Window {
 
     /// Reads the cuts after the newer ones.
     fn read_on(&mut self, table: &FlatTable, text: &[u8])
-        requires kept { IsKept text.now self.old }
-        requires full { self.old.newer.count ≡ self.old.newer.room }
+        requires { self.old.newer.count ≡ self.old.newer.room }
         ensures keeps { KeepsCuts table.now text.now self.old self.new }
         ensures before { self.new.newer.before ≡ self.old.newer.behind }
         ensures shorter { (self.new.newer.count ≡ 0)
@@ -127,7 +126,6 @@ impl Window {
     /// Reads cuts until the newer reach past a byte, and returns whether they do.
     #[inline(never)]
     fn read_past(&mut self, table: &FlatTable, text: &[u8], at: usize) -> bool
-        requires { IsKept text.now self.old }
         ensures keeps { KeepsCuts table.now text.now self.old self.new }
         ensures reaches { result ≡ true → (self.new.newer.before.at ≤ at) × (at < self.new.newer.behind.at) }
         ensures none { (cell : ℕ → Cell) (cuts : List Cut) → AreCutsPast 0 cuts
@@ -160,7 +158,6 @@ impl Window {
 
     /// The place of the cut at the offset of a state.
     pub(crate) fn place_of(&mut self, table: &FlatTable, text: &[u8], at: usize) -> Place
-        requires { IsKept text.now self.old }
         ensures { (cell : ℕ → Cell) (cuts : List Cut) (words : ℕ) → AreCutsPast 0 cuts
             → AreKept cell table.now text.now cuts self.old → self.old.home.at ≤ at
             → IsStanding cuts at words → IsAhead cell table.now text.now result (cuts_past at cuts)
@@ -183,11 +180,10 @@ impl Window {
 
     /// The nearest known place at a byte or before it.
     fn near(&mut self, table: &FlatTable, text: &[u8], at: usize) -> Mark
-        requires { IsKept text.now self.old }
-        ensures kept { IsKept text.now self.new }
         ensures before { self.old.home.at ≤ at → result.at ≤ at }
         ensures mark { (cell : ℕ → Cell) (cuts : List Cut) → AreCutsPast 0 cuts
-            → AreKept cell table.now text.now cuts self.old → IsMark cell table.now text.now cuts result }
+            → AreKept cell table.now text.now cuts self.old → IsMark cell table.now text.now cuts result
+            × AreRead text.now self.new.words }
     {
         let many = self.many_up_to(at);
         let mut cuts = NO_CUTS;
@@ -210,7 +206,6 @@ impl Window {
 
     /// How many cuts are at a byte or before it, in the block of the place that is kept.
     fn many_up_to(&self, at: usize) -> usize
-        requires { (text : List ℕ) × IsKept text self.now }
         ensures { result ≤ 64 }
     {
         if self.newer.reaches(at) {

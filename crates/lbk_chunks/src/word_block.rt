@@ -1,10 +1,10 @@
 //! The words of a text, read a block at a time.
 
-ghost use Rattle.std.specs.Prelude.{◌≡◌, ℕ, ◌-◌, ◌<◌, List, [], IfSome, MatchOption};
-ghost use Rattle.lbk_words.specs.Words.{words_on};
-ghost use Rattle.lbk_chunks.specs.Coming.{AreRead, IsFirstWord, IsLoaded};
+ghost use Rattle.std.specs.Prelude.{◌≡◌, ℕ, ◌-◌, ◌<◌, ◌≤◌, List, [], ◌++◌, IfNone, IfSome, MatchOption, drop, length, take};
+ghost use Rattle.lbk_words.specs.Words.{AreRising, words_on};
+ghost use Rattle.lbk_chunks.specs.Blocks.{AreRising-prop};
 
-use lbk_words::{Word, fill};
+use lbk_words::{Filled, Word, fill};
 
 /// How many words are read first. Each further block has four times as many, up to the most that a block holds.
 const FIRST: usize = 4;
@@ -27,9 +27,17 @@ pub(crate) struct WordBlock {
     room: usize,
     /// The block.
     words: [Word; 64],
+    ghost some: { 0 < room },
+    ghost most: { room ≤ 64 },
+    ghost size: { length words ≡ 64 },
+    ghost within: { count ≤ 64 },
+    ghost few: { next ≤ count },
+    ghost rising: { AreRising from rest (drop next (take count words)) } by { AreRising-prop from rest (drop next (take count words)) },
 }
 
 impl WordBlock {
+    ghost use Rattle.lbk_chunks.specs.Coming.{AreRead, IsFirstWord};
+
     /// None is read yet.
     pub(crate) fn none() -> WordBlock
         ensures { (text : List ℕ) → AreRead text result }
@@ -44,74 +52,69 @@ impl WordBlock {
         }
     }
 
-    /// Reads the words from a byte on, unless they are in the block or the text has none left.
-    #[inline(always)]
-    fn load(&mut self, text: &[u8], from: usize)
-        requires { AreRead text.now self.old }
-        ensures { IsLoaded text.now from self.new }
-    {
-        if self.from == from && self.next < self.count {
-            return;
-        }
-        if self.from == from && text.len() <= self.rest {
-            return;
-        }
-        self.read(text, from);
-    }
-
     /// Reads the words from a byte on.
     #[inline(never)]
     fn read(&mut self, text: &[u8], from: usize)
-        requires { AreRead text.now self.old }
-        ensures { IsLoaded text.now from self.new }
+        ensures read { AreRead text.now self.new }
+        ensures from { self.new.from ≡ from }
+        ensures none { self.new.next ≡ self.new.count → words_on text.now from ≡ [] }
     {
-        let filled = fill::<true>(text, from, &mut self.words[..self.room]);
+        let room = self.room;
+        let filled = fill_front(text, from, room, &mut self.words);
         self.from = from;
         self.next = 0;
         self.count = filled.count;
         self.rest = filled.at;
-        self.room = (self.room * 4).min(BLOCK);
-    }
-
-    /// The first word of those that were read.
-    #[inline(always)]
-    fn take(&mut self) -> Word
-        requires { (text : List ℕ) × AreRead text self.old × (self.old.next < self.old.count) }
-        ensures read { (text : List ℕ) → AreRead text self.old → AreRead text self.new }
-        ensures first { (text : List ℕ) → AreRead text self.old → IsFirstWord text self.old.from result }
-        ensures fewer { self.new.count - self.new.next < self.old.count - self.old.next }
-    {
-        let word = self.words[self.next];
-        self.next += 1;
-        self.from = word.end;
-        word
+        self.room = (room * 4).min(BLOCK);
     }
 
     /// The first word from a byte on.
     #[inline(always)]
     pub(crate) fn first_from(&mut self, text: &[u8], from: usize) -> Option<Word>
-        requires { AreRead text.now self.old }
-        ensures read { AreRead text.now self.new }
-        ensures first { MatchOption result (words_on text.now from ≡ []) (IsFirstWord text.now from) }
+        ensures read { AreRead text.now self.old → AreRead text.now self.new }
+        ensures first { AreRead text.now self.old
+            → MatchOption result (words_on text.now from ≡ []) (IsFirstWord text.now from) }
+        ensures past { IfSome result (λ word. from < word.end) }
     {
-        self.load(text, from);
-        if self.next == self.count {
+        if let Some(word) = self.known_from(from) {
+            return Some(word);
+        }
+        if self.from == from && text.len() <= self.rest {
             return None;
         }
-        Some(self.take())
+        self.read(text, from);
+        self.known_from(from)
     }
 
     /// The first word from a byte on, if it was read.
     #[inline(always)]
     pub(crate) fn known_from(&mut self, from: usize) -> Option<Word>
-        requires { (text : List ℕ) × AreRead text self.old }
         ensures read { (text : List ℕ) → AreRead text self.old → AreRead text self.new }
         ensures first { (text : List ℕ) → AreRead text self.old → IfSome result (IsFirstWord text from) }
+        ensures past { IfSome result (λ word. from < word.end) }
         ensures fewer { IfSome result (λ _. self.new.count - self.new.next < self.old.count - self.old.next) }
+        ensures none { IfNone result ((self.new ≡ self.old)
+            × (self.old.from ≡ from → self.old.next ≡ self.old.count)) }
     {
         if self.from != from || self.count <= self.next {
             return None;
         }
-        Some(self.take())
+        let word = self.words[self.next];
+        self.next += 1;
+        self.from = word.end;
+        Some(word)
     }
+}
+
+/// Puts the first words from a byte on into the front of a block, as many as there is room for.
+fn fill_front(text: &[u8], from: usize, room: usize, words: &mut [Word; 64]) -> Filled
+    requires { room ≤ 64 }
+    ensures few { result.count ≤ room }
+    ensures size { length words.new ≡ 64 }
+    ensures joined { words_on text.now from ≡ take result.count words.new ++ words_on text.now result.at }
+    ensures rising { AreRising from result.at (take result.count words.new) }
+    ensures within { from ≤ length text.now → result.at ≤ length text.now }
+    ensures none { 0 < room → result.count ≡ 0 → words_on text.now from ≡ [] }
+{
+    fill::<true>(text, from, &mut words[..room])
 }

@@ -1,7 +1,7 @@
 //! The words before an offset.
 
-ghost use Rattle.std.specs.Prelude.{◌≡◌, ◌⊎◌, ℕ, [], ◌+◌, ◌-◌, ◌<◌, ◌≤◌, List, length};
-ghost use Rattle.lbk_chunks.specs.Coming.{AreRead, IsFirstWord, IsPassed, held, left, words_ahead};
+ghost use Rattle.std.specs.Prelude.{◌≡◌, ◌⊎◌, ℕ, [], ◌+◌, ◌-◌, ◌<◌, ◌≤◌, List};
+ghost use Rattle.lbk_chunks.specs.Coming.{AreRead, IsFirstWord, IsLoaded, IsPassed, held, words_ahead};
 
 use crate::cut::Place;
 use crate::word_block::WordBlock;
@@ -10,10 +10,9 @@ use lbk_words::Word;
 /// Passes the words that end at a byte or before it.
 #[inline(always)]
 pub(crate) fn pass_words(text: &[u8], at: usize, place: Place, words: &mut WordBlock) -> Place
-    requires { AreRead text.now words.old }
-    ensures read { AreRead text.now words.new }
-    ensures passed { IsPassed text.now at place result }
-    ensures none { result.word.end ≡ 0 → words_ahead text.now result ≡ [] }
+    ensures same { result.breaks ≡ place.breaks }
+    ensures passed { AreRead text.now words.old → AreRead text.now words.new × IsPassed text.now at place result }
+    ensures none { AreRead text.now words.old → result.word.end ≡ 0 → words_ahead text.now result ≡ [] }
     ensures past { (result.word.end ≡ 0) ⊎ (at < result.word.end) }
 {
     let mut here = loaded(text, place, words);
@@ -26,9 +25,7 @@ pub(crate) fn pass_words(text: &[u8], at: usize, place: Place, words: &mut WordB
 /// Passes the words that end at a byte or before it, as far as they were read.
 #[inline(always)]
 pub(crate) fn pass_known(at: usize, place: Place, words: &mut WordBlock) -> Place
-    requires { (text : List ℕ) × AreRead text words.old }
-    ensures read { (text : List ℕ) → AreRead text words.old → AreRead text words.new }
-    ensures passed { (text : List ℕ) → AreRead text words.old → IsPassed text at place result }
+    ensures passed { (text : List ℕ) → AreRead text words.old → AreRead text words.new × IsPassed text at place result }
 {
     let mut here = place;
     while here.word.end != 0 && here.word.end <= at {
@@ -47,13 +44,10 @@ pub(crate) fn pass_known(at: usize, place: Place, words: &mut WordBlock) -> Plac
 /// Reads a word, if none was read and one is left.
 #[inline(always)]
 fn loaded(text: &[u8], place: Place, words: &mut WordBlock) -> Place
-    requires { AreRead text.now words.old }
-    ensures read { AreRead text.now words.new }
     ensures same { (result.breaks ≡ place.breaks) × (result.words ≡ place.words) }
-    ensures ahead { words_ahead text.now result ≡ words_ahead text.now place }
-    ensures counted { place.words + held place.word ≤ place.from → result.words + held result.word ≤ result.from }
-    ensures none { result.word.end ≡ 0 → words_ahead text.now result ≡ [] }
-    ensures shorter { left text.now result ≤ left text.now place }
+    ensures loaded { AreRead text.now words.old → AreRead text.now words.new × IsLoaded text.now place result }
+    ensures further { place.word.end ≡ 0 → (result.word.end ≡ 0)
+        ⊎ ((result.word.end ≡ result.from) × (place.from < result.from)) }
 {
     if place.word.end != 0 {
         return place;
@@ -77,8 +71,7 @@ fn with_word(place: Place, word: Word) -> Place
         → words_ahead text result ≡ words_ahead text place }
     ensures counted { (text : List ℕ) → IsFirstWord text place.from word
         → place.words + held place.word ≤ place.from → result.words + held result.word ≤ result.from }
-    ensures shorter { (text : List ℕ) → IsFirstWord text place.from word → left text result ≤ left text place }
-    ensures some { result.word ≡ word }
+    ensures some { (result.word ≡ word) × (result.from ≡ word.end) }
 {
     Place {
         from: word.end,

@@ -1,5 +1,6 @@
 use Rattle.std.proofs.Common.{None, ap, refl, sym, ◌∙◌, arith}
 use Rattle.std.specs.Option.{unwrap_or}
+use Rattle.lbk_chunks.specs.declared.cut.Cut.{Cut}
 use Rattle.lbk_chunks.specs.Chunks.{is_early}
 use Rattle.lbk_chunks.proofs.CutLemmas.{cut-past}
 use Rattle.lbk_chunks.proofs.EndLemmas.{end-alone, end-begins, end-full, end-goes, end-whole, placed-on}
@@ -30,11 +31,11 @@ loop-next-init c =
           let joined = f.first cell cuts knows.rising knows.kept (omega (arith, knows.home, knows.told)) in
           on.ending cell c.args.table.now c.args.text.now cuts
           (knows-still cell c.args.table.now c.args.text.now cuts c.args.window.now c.first_past.new.self here f.keeps knows)
-          f.keeps.kept
           (end-begins c.args.limits.now cuts here first u.result.last u.result.early joined (cut-past cuts here.told first _ knows.rising joined)
           (sym (c.fits.ensures first refl refl) ∙ c.if-not-fits.false) u.ensures.last u.ensures.early));
-      placed = on.placed c.args.text.now f.keeps.kept
-          (placed-on here.told _ (is_early c.args.limits.now here first) first u.result.last None u.result.early (f.places.0, f.places.1)
+      past = (let same = ap (λ (d : Cut). d.at) u.ensures.last in omega (arith, same, f.past, on.onward));
+      placed = λ kept. on.placed c.args.text.now (f.keeps.kept kept)
+          (placed-on here.told _ (is_early c.args.limits.now here first) first u.result.last None u.result.early (f.past, f.within kept)
           (λ g no. absurd (let wrong : ⊥ = cc in wrong)) u.ensures.last u.ensures.early);
     }
 
@@ -53,16 +54,18 @@ loop-next-preserved c =
       keeps = keeps-from c.args.table.now c.args.text.now c.args.window.now window c.fit_on-so_far-in-Some-first_past.result.next keeps;
       ending = λ cell cuts knows. (
           let joined = f.first cell cuts knows.rising (i.keeps.are cell cuts knows.rising knows.kept)
-          (keeps-behind c.args.table.now c.args.text.now c.args.window.now c.loop-next.window last.at i.keeps (omega (arith, knows.home, knows.told, i.placed.0.0))) in
+          (keeps-behind c.args.table.now c.args.text.now c.args.window.now c.loop-next.window last.at i.keeps (omega (arith, knows.home, knows.told, i.past))) in
           on.ending cell c.args.table.now c.args.text.now cuts
           (knows-still cell c.args.table.now c.args.text.now cuts c.args.window.now window here keeps knows)
-          f.keeps.kept
           (end-goes c.args.limits.now cuts here last next u.result.last c.loop-next.so_far.early u.result.early (i.ending cell cuts knows) joined
           (cut-past cuts last.at next _ knows.rising joined)
           (sym (c.fits-in-Some-first_past.ensures next refl refl) ∙ c.if-not-fits-2.false) u.ensures.last u.ensures.early));
-      placed = on.placed c.args.text.now f.keeps.kept
-          (placed-on here.told _ (is_early c.args.limits.now here next) next u.result.last c.loop-next.so_far.early u.result.early (omega (arith, i.placed.0.0, f.places.0), f.places.1)
-          i.placed.1 u.ensures.last u.ensures.early);
+      past = (let same = ap (λ (d : Cut). d.at) u.ensures.last in omega (arith, same, i.past, f.past, on.onward));
+      placed = λ kept. (
+          let were = i.keeps.kept kept in
+          on.placed c.args.text.now (f.keeps.kept were)
+          (placed-on here.told _ (is_early c.args.limits.now here next) next u.result.last c.loop-next.so_far.early u.result.early (omega (arith, i.past, f.past), f.within were)
+          (i.placed kept).1 u.ensures.last u.ensures.early));
     }
 
 pub returns-in-Some-early-clause-end : goal.returns-in-Some-early-clause-end
@@ -71,7 +74,7 @@ returns-in-Some-early-clause-end c = λ cell cuts knows.
     let next = c.in-Some-first_past.next in
     let i = c.loop-next.invariant in
     let joined = c.in-Some-first_past.ensures.first cell cuts knows.rising (i.keeps.are cell cuts knows.rising knows.kept)
-    (keeps-behind c.args.table.now c.args.text.now c.args.window.now c.loop-next.window last.at i.keeps (omega (arith, knows.home, knows.told, i.placed.0.0))) in
+    (keeps-behind c.args.table.now c.args.text.now c.args.window.now c.loop-next.window last.at i.keeps (omega (arith, knows.home, knows.told, i.past))) in
     end-full c.args.limits.now cuts c.args.here.now last next _ c.loop-next.so_far.early (i.ending cell cuts knows) joined
     (sym (c.fits-in-Some-first_past.ensures next refl refl) ∙ c.if-not-fits-2.true) (ap (λ e. unwrap_or e last) c.in-Some-early.is)
 
@@ -81,7 +84,7 @@ returns-then-not-fits-2-clause-end c = λ cell cuts knows.
     let next = c.in-Some-first_past.next in
     let i = c.loop-next.invariant in
     let joined = c.in-Some-first_past.ensures.first cell cuts knows.rising (i.keeps.are cell cuts knows.rising knows.kept)
-    (keeps-behind c.args.table.now c.args.text.now c.args.window.now c.loop-next.window last.at i.keeps (omega (arith, knows.home, knows.told, i.placed.0.0))) in
+    (keeps-behind c.args.table.now c.args.text.now c.args.window.now c.loop-next.window last.at i.keeps (omega (arith, knows.home, knows.told, i.past))) in
     end-full c.args.limits.now cuts c.args.here.now last next _ c.loop-next.so_far.early (i.ending cell cuts knows) joined
     (sym (c.fits-in-Some-first_past.ensures next refl refl) ∙ c.if-not-fits-2.true) (ap (λ e. unwrap_or e last) c.in_default-early.is)
 
@@ -92,7 +95,7 @@ returns-clause-end c = λ cell cuts knows.
     let e = i.ending cell cuts knows in (
       end-whole c.args.limits.now cuts c.args.here.now last c.loop-next.so_far.early e
           (c.in_default-first_past.ensures.first cell cuts knows.rising (i.keeps.are cell cuts knows.rising knows.kept)
-          (keeps-behind c.args.table.now c.args.text.now c.args.window.now c.loop-next.window last.at i.keeps (omega (arith, knows.home, knows.told, i.placed.0.0)))),
+          (keeps-behind c.args.table.now c.args.text.now c.args.window.now c.loop-next.window last.at i.keeps (omega (arith, knows.home, knows.told, i.past)))),
       e.cut,
     )
 

@@ -8,10 +8,10 @@ use Rattle.lbk_chunks.proofs.chunking.give_chunks.Goals as goal
 
 pub loop-count-init : goal.loop-count-init
 loop-count-init c = record {
-  kept = c.requires.kept;
+  kept = λ kept. kept;
   room = omega arith;
-  told = refl;
-  order = c.requires.order;
+  told = λ kept. refl;
+  order = c.requires;
   given = λ cell cuts to_come knows are. give-none cell c.args.table.now c.args.text.now c.args.limits.now cuts to_come c.args.out.now c.args.window.now c.args.here.now knows are;
 }
 
@@ -25,21 +25,23 @@ loop-count-preserved c =
     let text = c.args.text.now in
     let more = take_more_set c.loop-count.out count given.chunk c.loop-count-test.true in
     record {
-      kept = c.settle.ensures.kept text g.keeps.kept;
+      kept = λ kept. c.settle.ensures.kept text (g.keeps.kept (i.kept kept));
       room = omega (arith, length-set {A = Chunk}, c.loop-count-test.true);
-      told = subst (AreTold c.args.here.now.told given.next.told (length text)) (sym more)
-          (subst (λ n. AreTold c.args.here.now.told n (length text) (take count c.loop-count.out ++ given.chunk ∷ [])) (sym places.3)
-          (told-more c.args.here.now.told c.loop-count.here.told (length text) (take count c.loop-count.out) given.chunk i.told
-          (omega (arith, places.0, i.order)) places.1 places.2));
-      order = places.4;
+      told = λ kept. (
+          let within = g.within (i.kept kept) in
+          subst (AreTold c.args.here.now.told given.next.told (length text)) (sym more)
+          (subst (λ n. AreTold c.args.here.now.told n (length text) (take count c.loop-count.out ++ given.chunk ∷ [])) (sym places.1)
+          (told-more c.args.here.now.told c.loop-count.here.told (length text) (take count c.loop-count.out) given.chunk (i.told kept)
+          (omega (arith, places.0, i.order)) within.0 within.1)));
+      order = places.2;
       given = λ cell cuts to_come knows are. (
           let were = i.given cell cuts to_come knows are in
           let k = were.knows in
           let now = g.given cell cuts k in
-          let onward = g.onward i.order in
+          let onward = g.onward k.kept.within i.order in
           let on = knows-on cell c.args.table.now text cuts c.loop-count.window c.settle.new.self c.loop-count.here given.next k
           (c.settle.ensures.are cell c.args.table.now text cuts (g.keeps.are cell cuts k.rising k.kept))
-          (c.settle.ensures.home (keeps-behind c.args.table.now text c.loop-count.window c.next_chunk.new.window given.next.start g.keeps (omega (arith, k.home, onward)))) places.4 in
+          (c.settle.ensures.home (keeps-behind c.args.table.now text c.loop-count.window c.next_chunk.new.window given.next.start g.keeps (omega (arith, k.home, onward)))) places.2 in
           give-more cell c.args.table.now text c.args.limits.now cuts to_come count c.loop-count.out _ c.loop-count.window c.settle.new.self c.loop-count.here given were now more on);
     }
 

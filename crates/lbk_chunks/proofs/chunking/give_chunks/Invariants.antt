@@ -8,9 +8,9 @@ use Rattle.lbk_chunks.proofs.chunking.give_chunks.Given as goal
 
 abbrev pub invariant-loop-count : goal.invariant-loop-count
 invariant-loop-count l = record {
-  kept : IsKept l.text l.window;
+  kept : IsKept l.text l.fn.window → IsKept l.text l.window;
   room : l.count ≤ length l.out;
-  told : AreTold l.fn.here.told l.here.told (length l.text) (take l.count l.out);
+  told : IsKept l.text l.fn.window → AreTold l.fn.here.told l.here.told (length l.text) (take l.count l.out);
   order : l.here.start ≤ l.here.told;
   given : (cell : ℕ → Cell) (cuts : List Cut) (to_come : List Chunk) → Knows cell l.table l.text cuts l.fn.window l.fn.here
       → AreChunks l.limits cuts l.fn.here to_come → AreGiven cell l.table l.text l.limits cuts to_come l.count l.out l.window l.here;

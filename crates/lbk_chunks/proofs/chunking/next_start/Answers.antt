@@ -40,7 +40,7 @@ loop-found-preserved c =
     let again = c.start_at-again.ensures in
     record {
       keeps = keeps-more c.args.table.now c.args.text.now c.args.window.now c.loop-found.window c.first_past-in-loop-found.new.self i.keeps f.keeps;
-      onward = omega (arith, i.onward, f.places.0);
+      onward = omega (arith, i.onward, f.past);
       find = λ cell cuts knows told. (
           let joined = f.first cell cuts knows.rising (i.keeps.are cell cuts knows.rising knows.kept)
           (keeps-behind c.args.table.now c.args.text.now c.args.window.now c.loop-found.window c.loop-found.at i.keeps (omega (arith, knows.home, i.onward))) in

@@ -14,12 +14,11 @@ loop-k-preserved c =
     let text = c.args.text.now in
     record {
       few = m.ensures.next.1;
-      read = m.ensures.read text a.ensures.read;
       among = λ cuts found rest is were. (
           let s = shown-at k c.args.count found c.args.breaks.now is c.loop-k-test.true c.requires.count in
-          m.ensures.among text cuts found rest a.ensures.read is
+          m.ensures.among text cuts found rest is
           (a.ensures.among cuts s.break_at (drop (k + 1) found ++ rest) s.shown
-          (subst (λ l. AreAmong text cuts (l ++ rest) c.loop-k.here c.loop-k.out) s.joined (i.among cuts found rest is were))));
+          (subst (λ l. AreAmong text cuts (l ++ rest) c.loop-k.here c.loop-k.words c.loop-k.out) s.joined (i.among cuts found rest is were))));
       same = m.ensures.same ∙ a.ensures.same ∙ i.same;
       counts = (omega (arith, m.ensures.few.0, a.ensures.few.0, i.counts.0), omega (arith, m.ensures.few.1, a.ensures.few.1, i.counts.1));
       within = λ size below before. m.ensures.within size below (a.ensures.within size (below k c.loop-k-test.true) (i.within size below before));
@@ -34,7 +33,7 @@ returns-clause-among c = λ cuts found rest is were.
     let many = ap length is in
     let taken = length-take-le c.args.count c.args.breaks.now c.requires.count in
     let none : drop c.loop-k.k found ≡ [] = drop_of_length-le found (omega (arith, size, many, taken, all)) in
-    subst (λ l. AreAmong c.args.text.now cuts (l ++ rest) c.loop-k.here c.loop-k.out) none (c.loop-k.invariant.among cuts found rest is were)
+    subst (λ l. AreAmong c.args.text.now cuts (l ++ rest) c.loop-k.here c.loop-k.words c.loop-k.out) none (c.loop-k.invariant.among cuts found rest is were)
 
 pub returns-clause-few : goal.returns-clause-few
 returns-clause-few c =

@@ -6,8 +6,7 @@ use Rattle.lbk_chunks.proofs.cursor.fill_cuts.Goals as goal
 
 pub loop-here-init : goal.loop-here-init
 loop-here-init c = record {
-  read = c.requires.read;
-  first = λ cell cuts is. record { rest = cuts; joined = refl; onward = is };
+  first = λ cell cuts read is. record { rest = cuts; joined = refl; onward = is; read = read };
   room = omega arith;
   within = λ k no. absurd (omega arith);
   counted = λ no. absurd (omega arith);
@@ -25,13 +24,12 @@ loop-here-preserved c =
     let here = c.loop-here.here in
     let out = c.loop-here.out in
     record {
-      read = a.ensures.read;
-      first = λ cell cuts is. (
-          let s = i.first cell cuts is in
+      first = λ cell cuts read is. (
+          let s = i.first cell cuts read is in
           let next = n.ensures.first cell s.onward.breaks s.onward.comes in
-          read-on cell table text cuts _ here a.result out a.new.out n.new.block n.result s next a.ensures.same
+          read-on cell table text cuts _ here a.result out a.new.out n.new.block n.result c.loop-here.words a.new.words s next a.ensures.same
           (a.ensures.among cuts (take n.result.count s.onward.breaks) (drop n.result.count s.onward.breaks) next.shown
-          (read-breaks cell table text cuts _ here out n.new.block n.result s next)));
+          (read-breaks cell table text cuts _ here out n.new.block n.result c.loop-here.words s next)));
       room = a.ensures.few.1;
       within = a.ensures.within (length text) n.ensures.within i.within;
       counted = λ _. a.ensures.counted (omega (arith, c.if-next-eq0.false));
@@ -40,18 +38,20 @@ loop-here-preserved c =
     }
 
 pub returns-then-next-eq0-clause-first : goal.returns-then-next-eq0-clause-first
-returns-then-next-eq0-clause-first c = λ cell cuts is.
+returns-then-next-eq0-clause-first c = λ cell cuts read is.
     let n = c.next_breaks-next in
-    let s = c.loop-here.invariant.first cell cuts is in
-    let next = n.ensures.first cell s.onward.breaks s.onward.comes in
-    record {
-      rest = s.rest;
-      joined = s.joined;
-      onward = s.onward;
-      all = λ _. read-all cell c.args.table.now c.args.text.now cuts _ c.loop-here.here c.loop-here.out n.new.block n.result (grind (arith, common_steps)) c.if-next-eq0.true s next;
-    }
+    let s = c.loop-here.invariant.first cell cuts read is in
+    let next = n.ensures.first cell s.onward.breaks s.onward.comes in (
+      record {
+        rest = s.rest;
+        joined = s.joined;
+        onward = s.onward;
+        all = λ _. read-all cell c.args.table.now c.args.text.now cuts _ c.loop-here.here c.loop-here.out n.new.block n.result c.loop-here.words (grind (arith, common_steps)) c.if-next-eq0.true s next;
+      },
+      s.read,
+    )
 
 pub returns-clause-first : goal.returns-clause-first
-returns-clause-first c = λ cell cuts is.
-    let s = c.loop-here.invariant.first cell cuts is in
-    record { rest = s.rest; joined = s.joined; onward = s.onward; all = λ few. absurd (omega (arith, few, c.loop-here-test.false)) }
+returns-clause-first c = λ cell cuts read is.
+    let s = c.loop-here.invariant.first cell cuts read is in
+    (record { rest = s.rest; joined = s.joined; onward = s.onward; all = λ few. absurd (omega (arith, few, c.loop-here-test.false)) }, s.read)

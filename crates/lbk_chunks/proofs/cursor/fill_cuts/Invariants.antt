@@ -7,8 +7,8 @@ use Rattle.lbk_chunks.proofs.cursor.fill_cuts.Given as goal
 
 abbrev pub invariant-loop-here : goal.invariant-loop-here
 invariant-loop-here l = record {
-  read : AreRead l.text l.words;
-  first : (cell : ℕ → Cell) (cuts : List Cut) → IsAhead cell l.table l.text l.fn.place cuts → IsSoFar cell l.table l.text cuts l.out l.here;
+  first : (cell : ℕ → Cell) (cuts : List Cut) → AreRead l.text l.fn.words → IsAhead cell l.table l.text l.fn.place cuts
+      → IsSoFar cell l.table l.text cuts l.out l.here l.words;
   room : l.here.count ≤ l.fn.room;
   within : StandWithin (length l.text) l.here.count l.out;
   counted : 0 < l.here.count → l.here.count ≡ l.fn.room → l.here.place.words ≡ (slice_index_or l.out (l.here.count - 1) no_cut).words;

@@ -1,4 +1,5 @@
-use Rattle.std.proofs.Common.{arith, refl, subst, sym, ◌<◌}
+use Rattle.std.proofs.Common.{ap, arith, refl, subst, sym, ◌<◌}
+use Rattle.lbk_words.specs.declared.word.Word.{Word}
 use Rattle.lbk_chunks.specs.Coming.{IsFirstWord}
 use Rattle.lbk_chunks.proofs.WordLemmas.{load, load-none, pass, pass-more, with-breaks}
 use Rattle.lbk_chunks.proofs.words_behind.pass_known.Goals as goal
@@ -24,5 +25,9 @@ loop-here-preserved c =
           let one = pass text c.args.at c.loop-here.here w.result some c.if-here-at.true w.ensures.same.0 w.ensures.same.1 w.ensures.same.2 w.ensures.one_more in
           with-breaks text c.args.at c.args.place l.result c.args.place.breaks
           (load text c.args.at c.args.place w.result l.result (pass-more text c.args.at c.args.place c.loop-here.here w.result (i.passed text read) one)
-          l.ensures.same.0 l.ensures.same.1 (l.ensures.ahead text first) (l.ensures.counted text first)) refl);
+          l.ensures.same (record {
+            ahead = l.ensures.ahead text first;
+            counted = l.ensures.counted text first;
+            none = λ none. absurd (let same = ap (λ (v : Word). v.end) l.ensures.some.0 in omega (arith, none, same, first.some));
+          })) refl);
     }

@@ -8,14 +8,14 @@ returns-then-reaches-clause-first c = λ cell cuts rising kept home.
     let k = c.first_past-k in
     let block = c.args.self.now.newer in
     let within = reach-le block.before.at block.behind.at c.args.at (sym c.reaches.ensures ∙ c.if-reaches.true) in
-    block-first cell c.args.table.now c.args.text.now cuts rising block k.result c.args.at kept.newer c.requires.newer k.ensures.few within.0 k.ensures.past k.ensures.first
+    block-first cell c.args.table.now c.args.text.now cuts rising block k.result c.args.at kept.newer k.ensures.few within.0 k.ensures.past k.ensures.first
 
 pub returns-then-reaches-2-clause-first : goal.returns-then-reaches-2-clause-first
 returns-then-reaches-2-clause-first c = λ cell cuts rising kept home.
     let k = c.first_past-k-then-reaches-2 in
     let block = c.args.self.now.older in
     let within = reach-le block.before.at block.behind.at c.args.at (sym c.reaches-2.ensures ∙ c.if-reaches-2.true) in
-    block-first cell c.args.table.now c.args.text.now cuts rising block k.result c.args.at kept.older c.requires.older k.ensures.few within.0 k.ensures.past k.ensures.first
+    block-first cell c.args.table.now c.args.text.now cuts rising block k.result c.args.at kept.older k.ensures.few within.0 k.ensures.past k.ensures.first
 
 pub returns-then-not-read_past-clause-first : goal.returns-then-not-read_past-clause-first
 returns-then-not-read_past-clause-first c = λ cell cuts rising kept home. c.read_past.ensures.none cell cuts rising kept home c.if-not-read_past.true
@@ -25,7 +25,7 @@ returns-clause-first c = λ cell cuts rising kept home.
     let k = c.first_past-k-2 in
     let read = c.read_past.ensures in
     let within = read.reaches c.if-not-read_past.false in
-    block-first cell c.args.table.now c.args.text.now cuts rising c.read_past.new.self.newer k.result c.args.at (read.keeps.are cell cuts rising kept).newer read.keeps.kept.newer
+    block-first cell c.args.table.now c.args.text.now cuts rising c.read_past.new.self.newer k.result c.args.at (read.keeps.are cell cuts rising kept).newer
     k.ensures.few within.0 k.ensures.past k.ensures.first
 
 pub returns-clause-keeps : goal.returns-clause-keeps

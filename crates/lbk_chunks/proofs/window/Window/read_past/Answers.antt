@@ -23,7 +23,7 @@ pub returns-then-self-clause-none : goal.returns-then-self-clause-none
 returns-then-self-clause-none c = λ cell cuts rising kept home no.
     let i = c.loop-self.invariant in
     let are = i.keeps.are cell cuts rising kept in
-    block-none cell c.args.table.now c.args.text.now cuts rising c.loop-self.self.newer c.args.at are.newer i.keeps.kept.newer c.if-self.true c.loop-self-test.true
+    block-none cell c.args.table.now c.args.text.now cuts rising c.loop-self.self.newer c.args.at are.newer c.if-self.true c.loop-self-test.true
 
 pub returns-clause-reaches : goal.returns-clause-reaches
 returns-clause-reaches c = λ yes.
