@@ -141,14 +141,14 @@ fn ends_of_few(text: &[u8]) -> u64
 
 /// Whether bits are likely to tell the end of the part at the front of some bytes.
 #[inline(always)]
-fn may_tell(bytes: &[u8]) -> bool
-    requires { 0 < length bytes.now }
-{
-    let first = bytes[0];
-    if LONG <= first || bytes.len() < FEW {
+fn may_tell(bytes: &[u8]) -> bool {
+    let Some(first) = bytes.first() else {
+        return false;
+    };
+    if LONG <= *first || bytes.len() < FEW {
         return false;
     }
-    is_usual(first) && (0x80 <= first || is_usual(bytes[1]))
+    is_usual(*first) && (0x80 <= *first || is_usual(bytes[1]))
 }
 
 /// Whether a byte is below 128, or one with which most letters of two bytes begin.

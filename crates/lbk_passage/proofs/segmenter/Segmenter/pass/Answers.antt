@@ -9,7 +9,6 @@ use Rattle.lbk_passage.specs.Segments.{segments_of}
 use Rattle.lbk_passage.specs.Pieces.{pieces_of}
 use Rattle.lbk_passage.specs.Next.{failures_with, fault_in}
 use Rattle.lbk_passage.specs.State.{text_held}
-use Rattle.lbk_passage.specs.declared.faults.PassageFault.{PassageFault}
 use Rattle.lbk_passage.specs.declared.faults.PassageFault.TheVariants.{Memory}
 use Rattle.lbk_passage.specs.declared.paragraph.Paragraph.{Paragraph}
 use Rattle.lbk_passage.specs.declared.passage.Passage.{Passage}
