@@ -7,8 +7,8 @@ use Rattle.std.proofs.lemmas.List.{drop-drop, length-append, length-drop, length
 use Rattle.std.proofs.lemmas.Slice.{take-put_mid}
 use Rattle.lbk_calls.specs.declared.runs.Run.{Run}
 use Rattle.lbk_calls.specs.Packing.{record_of, records_of}
-use Rattle.lbk_calls.specs.Runs.{one_code, runs_of, with_code}
-use Rattle.lbk_calls.proofs.PackingLemmas.{IsNext, records_of-next, records_of-none}
+use Rattle.lbk_calls.specs.Runs.{IsNext, one_code, runs_of, with_code}
+use Rattle.lbk_calls.proofs.PackingLemmas.{records_of-next, records_of-none}
 
 -- the run with which a list begins
 pub record IsFirst (kinds : List ℕ) (run : Run) : Type 0 where

@@ -9,7 +9,7 @@ use Rattle.std.proofs.lemmas.List.Concat.{flat_map-cons}
 use Rattle.std.proofs.lemmas.Slice.{drop-append-drop}
 use Rattle.lbk_calls.specs.declared.runs.Run.{Run}
 use Rattle.lbk_calls.specs.Packing.{record_of, records_of}
-use Rattle.lbk_calls.specs.Runs.{runs_of}
+use Rattle.lbk_calls.specs.Runs.{IsNext, runs_of}
 
 -- what a part written at a place leaves
 abbrev pub put_at : List ℕ → ℕ → List ℕ → List ℕ
@@ -37,12 +37,6 @@ pub record IsPutting (kinds start : List ℕ) (at size : ℕ) (bytes : List ℕ)
   pub count : size + length (records_of (drop at kinds)) ≡ length (records_of kinds)
   pub records : length (records_of kinds) ≤ length start → take size bytes ++ records_of (drop at kinds) ≡ records_of kinds
   pub after : length (records_of kinds) ≤ length start → drop (length (records_of kinds)) bytes ≡ drop (length (records_of kinds)) start
-
--- the first run of the kinds that are left, and the records then
-pub record IsNext (kinds : List ℕ) (at : ℕ) (run : Run) : Type 0 where
-  pub some : 0 < run.length
-  pub within : at + run.length ≤ length kinds
-  pub first : runs_of (drop at kinds) ≡ run ∷ runs_of (drop (at + run.length) kinds)
 
 pub records_of-next : (kinds : List ℕ) (at : ℕ) (run : Run) → IsNext kinds at run
     → records_of (drop at kinds) ≡ record_of run ++ records_of (drop (at + run.length) kinds)

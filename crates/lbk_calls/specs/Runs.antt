@@ -1,5 +1,5 @@
 -- Runs: the parts of a list of kinds in which one kind stands again and again.
-use Rattle.std.specs.Prelude.{ℕ, ◌+◌, ◌==◌, List, [], ◌∷◌, if◌then◌else◌}
+use Rattle.std.specs.Prelude.{◌≡◌, ℕ, ◌+◌, ◌==◌, ◌<◌, ◌≤◌, List, [], ◌∷◌, drop, if◌then◌else◌, length}
 use Rattle.lbk_calls.specs.declared.runs.Run.{Run}
 
 abbrev pub one_code : ℕ → Run
@@ -15,3 +15,9 @@ with_code kind (run ∷ runs) =
 unfoldable pub runs_of : List ℕ → List Run
 runs_of [] = []
 runs_of (kind ∷ rest) = with_code kind (runs_of rest)
+
+-- this run comes next in a list of kinds, from this place on
+pub record IsNext (kinds : List ℕ) (at : ℕ) (run : Run) : Type 0 where
+  pub some : 0 < run.length
+  pub within : at + run.length ≤ length kinds
+  pub first : runs_of (drop at kinds) ≡ run ∷ runs_of (drop (at + run.length) kinds)

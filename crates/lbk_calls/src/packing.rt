@@ -38,8 +38,7 @@ fn put_head(version: u8, digest: u64, bytes: &mut [u8])
 }
 
 /// Writes the records of kinds to the front of the bytes if there is room for all of them, and returns their size.
-fn put_records(kinds: &[u8], bytes: &mut [u8]) -> usize
-    requires { length kinds.now ≤ 0x11_0000 }
+fn put_records(kinds: &[u8; KINDS_SIZE], bytes: &mut [u8]) -> usize
     ensures size { result ≡ length (records_of kinds.now) }
     ensures records { result ≤ length bytes.old → bytes.new ≡ records_of kinds.now ++ drop result bytes.old }
     ensures few { result ≤ 0x44_0000 }

@@ -1,7 +1,7 @@
 //! Runs of codes of one kind.
 
-ghost use Rattle.std.specs.Prelude.{◌≡◌, ◌∷◌, ◌+◌, ◌<◌, ◌≤◌, drop, length, replicate, take};
-ghost use Rattle.lbk_calls.specs.Runs.{runs_of};
+ghost use Rattle.std.specs.Prelude.{◌≡◌, ◌∷◌, ◌<◌, ◌≤◌, drop, length, replicate, take};
+ghost use Rattle.lbk_calls.specs.Runs.{IsNext, runs_of};
 
 /// How many kinds are packed: one for each code, 0 to 10FFFF.
 pub const KINDS_SIZE: usize = 0x11_0000;
@@ -16,9 +16,7 @@ pub struct Run {
 /// The first run of the kinds from a place on.
 pub(crate) fn run_at(kinds: &[u8], at: usize) -> Run
     requires { at < length kinds.now }
-    ensures some { 0 < result.length }
-    ensures within { at + result.length ≤ length kinds.now }
-    ensures first { runs_of (drop at kinds.now) ≡ result ∷ runs_of (drop (at + result.length) kinds.now) }
+    ensures next { IsNext kinds.now at result }
     ensures same { take result.length (drop at kinds.now) ≡ replicate result.length result.kind }
 {
     first_run(&kinds[at..])

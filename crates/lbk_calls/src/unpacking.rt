@@ -74,8 +74,7 @@ fn fill_runs(records: &[u8], kinds: &mut [u8])
 }
 
 /// Whether some bytes are the records of kinds.
-fn are_records(kinds: &[u8], bytes: &[u8]) -> bool
-    requires { length kinds.now ≤ 0x11_0000 }
+fn are_records(kinds: &[u8; KINDS_SIZE], bytes: &[u8]) -> bool
     ensures { IsTrue result ↔ (bytes.now ≡ records_of kinds.now) }
 {
     let mut left = bytes;
