@@ -2,6 +2,7 @@
 pub mod Letters
 pub mod Words
 pub mod Places
+pub mod Calls
 -- What only carries proofs.
 pub mod Contexts
 pub mod Kinds

@@ -1,8 +1,8 @@
 //! The words of a text, a block at a time, for a caller in another language. The function under `no_mangle` is the
 //! export of the module for JavaScript that `scripts/module` builds of this crate.
 
-ghost use Rattle.std.specs.Prelude.{◌≡◌, ◌<◌, ◌≤◌, drop, length, min, take};
-ghost use Rattle.lbk_words.specs.Words.{AreRising, IsBoundary, words_on};
+ghost use Rattle.std.specs.Prelude.{length};
+ghost use Rattle.lbk_words.specs.Calls.{GivesWords};
 
 use crate::filling::fill;
 use crate::word::Word;
@@ -23,16 +23,7 @@ pub struct WordState {
 /// text. The entries of the block after the words are unspecified.
 #[unsafe(no_mangle)]
 pub extern "C" fn lbk_words(state: &mut WordState, text: &[u8], out: &mut [Word]) -> usize
-    ensures count { result ≡ min (length out.old) (length (words_on text.now state.old.at)) }
-    ensures front { take result out.new ≡ take result (words_on text.now state.old.at) }
-    ensures rest { words_on text.now state.new.at ≡ drop result (words_on text.now state.old.at) }
-    ensures onward { state.old.at ≤ state.new.at }
-    ensures boundary { IsBoundary text.now state.old.at state.new.at }
-    ensures rising { AreRising state.old.at state.new.at (take result out.new) }
-    ensures within { state.old.at ≤ length text.now → state.new.at ≤ length text.now }
-    ensures all { result < length out.old → state.old.at ≤ length text.now → state.new.at ≡ length text.now }
-    ensures ended { length text.now ≤ state.old.at → (result ≡ 0) × (state.new ≡ state.old) }
-    ensures no_room { length out.old ≡ 0 → (result ≡ 0) × (state.new ≡ state.old) }
+    ensures { GivesWords text.now state.old state.new (length out.old) out.new result }
 {
     let filled = fill::<false>(text, state.at, out);
     state.at = filled.at;
