@@ -1,15 +1,11 @@
 //! Laws about states, digests and empty files. Each is the contract of a function that does nothing.
 
 ghost use Rattle.std.specs.Prelude.{◌≡◌, ℕ, ◌^◌, ◌<◌, ◌≤◌, List, [], drop, length};
-ghost use Rattle.lbk_rules.specs.declared.Break.{Break};
-ghost use Rattle.lbk_rules.specs.declared.Cell.{Cell};
-ghost use Rattle.lbk_rules.specs.declared.flat_table.FlatTable.{FlatTable};
+ghost use Rattle.lbk_calls.specs.Terms.{Break, Cell, Decoded, FlatTable, IsWhole, digest_with, pieces_of_utf16};
+ghost use Rattle.lbk_calls.specs.Terms.{pieces_of_utf32};
 ghost use Rattle.lbk_calls.specs.declared.interface.State.{State};
-ghost use Rattle.bstr.specs.Utf8.{Decoded};
 ghost use Rattle.lbk_ucd.specs.File.{Format, IsLawful, property_of};
-ghost use Rattle.lbk_rules.specs.FlatTable.{IsWhole, digest_with};
 ghost use Rattle.lbk_c.specs.Checked.{DifferInOne, numbers_of};
-ghost use Rattle.lbk_units.specs.Units.{pieces_of_utf16, pieces_of_utf32};
 ghost use Rattle.lbk_calls.specs.Coming.{Comes, PositionsCome, UnitsCome};
 ghost use Rattle.lbk_words.specs.Words.{words_on};
 

@@ -1,12 +1,7 @@
 //! The breaks of a text as bits, one for each byte.
 
 ghost use Rattle.std.specs.Prelude.{◌≡◌, ℕ, false, suc, ◌+◌, ◌-◌, ◌*◌, ◌<◌, ◌≤◌, ◌⊎◌, [], List, length, min};
-ghost use Rattle.lbk_rules.specs.declared.Break.{Break};
-ghost use Rattle.lbk_rules.specs.declared.Cell.{Cell};
-ghost use Rattle.bstr.specs.Utf8.{pieces};
-ghost use Rattle.lbk_rules.specs.FlatTable.{IsFlatOf};
-ghost use Rattle.lbk_bytes.specs.Marks.{is_marked};
-ghost use Rattle.lbk_units.specs.Reached.{UnitsReachedBy, on_from};
+ghost use Rattle.lbk_calls.specs.Terms.{Break, Cell, IsFlatOf, UnitsReachedBy, is_marked, on_from, pieces};
 ghost use Rattle.lbk_calls.specs.Calls.{BreaksComeAtStart};
 ghost use Rattle.lbk_calls.specs.Coming.{Comes, IsGoing, MarksBy, from_state, onward_in};
 ghost use Rattle.lbk_calls.specs.State.{plain};

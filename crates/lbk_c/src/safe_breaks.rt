@@ -1,13 +1,7 @@
 //! Where the rest of a text can be broken alone.
 
 ghost use Rattle.std.specs.Prelude.{◌≡◌, ◌∷◌, [], ℕ, ◌<◌, ◌≤◌, true, List, MatchOption, IfSome, drop, length, map};
-ghost use Rattle.lbk_rules.specs.declared.Break.{Break};
-ghost use Rattle.lbk_rules.specs.declared.Cell.{Cell};
-ghost use Rattle.lbk_values.specs.declared.profile.Profile.{Profile};
-ghost use Rattle.lbk_rules.specs.Joins.{moved};
-ghost use Rattle.lbk_rules.specs.FlatTable.{IsFlatOf};
-ghost use Rattle.lbk_bytes.specs.Bytes.{breaks_of_bytes};
-ghost use Rattle.lbk_bytes.specs.Shown.{shown};
+ghost use Rattle.lbk_calls.specs.Terms.{Break, Cell, IsFlatOf, Profile, breaks_of_bytes, moved, shown};
 ghost use Rattle.lbk_calls.specs.Coming.{Comes};
 ghost use Rattle.lbk_calls.specs.State.{profile_number};
 ghost use Rattle.lbk_streams.specs.Cuts.{IsSafeCut};

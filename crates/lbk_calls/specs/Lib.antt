@@ -12,3 +12,5 @@ pub mod Refusals
 pub mod Runs
 -- What only carries proofs.
 pub mod Coming
+-- Terms of other crates.
+pub mod Terms

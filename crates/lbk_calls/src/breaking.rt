@@ -2,14 +2,9 @@
 
 ghost use Rattle.std.specs.Prelude.{◌≡◌, ℕ, MatchOption, length};
 ghost use Rattle.std.specs.Str.{IsUtf8, chars, encode_utf8_all};
-ghost use Rattle.lbk_rules.specs.declared.Cell.{Cell};
-ghost use Rattle.lbk_values.specs.declared.profile.Profile.{Profile};
-ghost use Rattle.lbk_rules.specs.Breaks.{breaks};
-ghost use Rattle.lbk_bytes.specs.Bytes.{breaks_of_bytes};
-ghost use Rattle.lbk_units.specs.Encodings.{AreThoseOfScalars, encode_utf16_all};
-ghost use Rattle.lbk_units.specs.Units.{breaks_of_utf16, breaks_of_utf32, pieces_of_utf16};
-ghost use Rattle.bstr.specs.Utf8.{pieces};
-ghost use Rattle.lbk_units.specs.Positions.{positions_of_bytes, positions_of_utf32};
+ghost use Rattle.lbk_calls.specs.Terms.{AreThoseOfScalars, Cell, Profile, breaks, breaks_of_bytes, breaks_of_utf16};
+ghost use Rattle.lbk_calls.specs.Terms.{breaks_of_utf32, encode_utf16_all, pieces, pieces_of_utf16, positions_of_bytes};
+ghost use Rattle.lbk_calls.specs.Terms.{positions_of_utf32};
 ghost use Rattle.lbk_calls.specs.Calls.{AreAmong, GivesBreaks, GivesBreaksOf, GivesPositionsOf};
 ghost use Rattle.lbk_calls.specs.Coming.{IsGoing, IsSpent};
 ghost use Rattle.lbk_calls.specs.State.{plain};

@@ -1,17 +1,8 @@
 //! The next breaks or positions of a text, a block at a time.
 
 ghost use Rattle.std.specs.Prelude.{◌≡◌, ℕ, Bool, ◌<◌, [], List, length};
-ghost use Rattle.bstr.specs.Utf8.{Decoded};
-ghost use Rattle.lbk_rules.specs.declared.Break.{Break};
-ghost use Rattle.lbk_rules.specs.declared.Cell.{Cell};
-ghost use Rattle.lbk_values.specs.declared.profile.Profile.{Profile};
-ghost use Rattle.lbk_rules.specs.Rows.{IsPlace};
-ghost use Rattle.lbk_bytes.specs.Bytes.{AtEnd, end_in};
-ghost use Rattle.lbk_bytes.specs.Order.{AreInOrderBy};
-ghost use Rattle.lbk_bytes.specs.Reached.{IsInOrderBy, position_end_in};
-ghost use Rattle.lbk_bytes.specs.Shown.{given_in};
-ghost use Rattle.lbk_units.specs.Filling.{IsInText};
-ghost use Rattle.lbk_units.specs.Reached.{UnitsReachedBy, on_from};
+ghost use Rattle.lbk_calls.specs.Terms.{AreInOrderBy, AtEnd, Break, Cell, Decoded, IsInOrderBy, IsInText, IsPlace};
+ghost use Rattle.lbk_calls.specs.Terms.{Profile, UnitsReachedBy, end_in, given_in, on_from, position_end_in};
 ghost use Rattle.lbk_calls.specs.Calls.{AreGivenWhole, GivesBreaks, GivesBy, GoesOver};
 ghost use Rattle.lbk_calls.specs.Coming.{IsGoing, PutsEnd, UnitsGo, from_state, start_by};
 ghost use Rattle.lbk_calls.specs.State.{goes_on, plain};
