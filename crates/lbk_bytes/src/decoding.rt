@@ -11,12 +11,13 @@ pub(crate) struct Scalar {
     pub(crate) size: usize,
 }
 
-/// How many bytes a scalar takes, if at most three.
+/// How many bytes a scalar takes.
 #[derive(Clone, Copy)]
 pub(crate) enum Width {
     One,
     Two,
     Three,
+    Four,
 }
 
 impl Width {
@@ -29,6 +30,7 @@ impl Width {
             Width::One => 0,
             Width::Two => 1,
             Width::Three => 2,
+            Width::Four => 3,
         }
     }
 }
@@ -70,6 +72,22 @@ pub(crate) fn scalar_of(width: Width, bytes: &[u8]) -> Option<Scalar>
                 return None;
             }
             Some(Scalar { code, size: 3 })
+        }
+        Width::Four => {
+            let (next, third, last) = (bytes[1], bytes[2], bytes[3]);
+            if first < 0xF0
+                || 0xF4 < first
+                || !is_continuation(next)
+                || !is_continuation(third)
+                || !is_continuation(last)
+            {
+                return None;
+            }
+            let code = code_of_four(first, next, third, last);
+            if !takes_four(code) {
+                return None;
+            }
+            Some(Scalar { code, size: 4 })
         }
     }
 }
@@ -175,6 +193,14 @@ fn takes_three(code: u32) -> bool
     ensures { result ≡ true → (0x800 ≤ code) × (code < 0xD800 ⊎ 0xE000 ≤ code) }
 {
     (0x7FF < code && code < 0xD800) || 0xDFFF < code
+}
+
+/// Whether a scalar that four bytes spell takes four: it is of no fewer, and a code.
+#[inline(always)]
+fn takes_four(code: u32) -> bool
+    ensures { result ≡ true → (0x1_0000 ≤ code) × (code < 0x11_0000) }
+{
+    0xFFFF < code && code < 0x11_0000
 }
 
 #[inline(always)]

@@ -44,7 +44,7 @@ pub(crate) fn pieces<T: Target, K: KindSource>(
         count = target.put(out, count, at, step.shown);
         row = step.next as usize;
         at += piece.size;
-        patience = patience_after(REPLACEMENT <= piece.code, PATIENCE, patience);
+        patience = patience_after(piece.code == REPLACEMENT, PATIENCE, patience);
     }
     FillState { count, row, at }
 }

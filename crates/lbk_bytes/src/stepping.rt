@@ -38,7 +38,7 @@ pub(crate) fn quick<T: Target, K: KindSource>(
     here
 }
 
-/// Takes common scalars that begin before a byte: of at most three bytes, and where no position is held.
+/// Takes common scalars that begin before a byte: well-formed ones, where no position is held.
 #[inline(always)]
 pub(crate) fn scalars<T: Target, K: KindSource>(
     target: T,
@@ -83,7 +83,8 @@ pub(crate) fn runs<T: Target, K: KindSource>(
     if stop <= behind_one.at {
         return behind_one;
     }
-    if text[behind_one.at] < 0xE0 {
+    let first = text[behind_one.at];
+    if first < 0xE0 {
         return run(
             target,
             Width::Two,
@@ -95,9 +96,21 @@ pub(crate) fn runs<T: Target, K: KindSource>(
             out,
         );
     }
+    if first < 0xF0 {
+        return run(
+            target,
+            Width::Three,
+            kinds,
+            steps,
+            behind_one,
+            stop,
+            text,
+            out,
+        );
+    }
     run(
         target,
-        Width::Three,
+        Width::Four,
         kinds,
         steps,
         behind_one,
