@@ -76,7 +76,7 @@ breaks-most profile cell text utf8 =
     omega arith
 
 pub IsFound-start : (profile : Profile) (cell : ℕ → Cell) (text : List ℕ) → IsUtf8 text
-    → IsFound profile cell text (record { row = 0; at = 0; found = 0; ended = false })
+    → IsFound profile cell text (record { state = record { count = 0; row = 0; at = 0 }; ended = false })
 IsFound-start profile cell text utf8 = record {
   place = ((refl, lit< tt), omega arith);
   within = omega arith;
@@ -115,24 +115,24 @@ module _ {profile : Profile} {cell : ℕ → Cell} {text : List ℕ} {from : Pro
 
   -- a call goes on from where the first breaks were found to, over bytes that are those of the text
   pub reached-on : from.ended ≡ false → (bytes : List ℕ) → bytes ≡ text → {here : FillState} {front : List Break}
-      → (Reached profile cell bytes (record { breaks = to_come; end = closed_end }) (record { count = 0; row = from.row; at = from.at }) []
+      → (Reached profile cell bytes (record { breaks = to_come; end = closed_end }) (record { count = 0; row = from.state.row; at = from.state.at }) []
       → Reached profile cell bytes (record { breaks = to_come; end = closed_end }) here front)
       → Reached profile cell text (record { breaks = to_come; end = closed_end }) here front
   reached-on goes_on bytes same {here} {front} fill =
       subst (λ t. Reached profile cell t (record { breaks = to_come; end = closed_end }) here front) same
-      (fill (subst (λ t. Reached profile cell t (record { breaks = to_come; end = closed_end }) (record { count = 0; row = from.row; at = from.at }) []) (sym same)
+      (fill (subst (λ t. Reached profile cell t (record { breaks = to_come; end = closed_end }) (record { count = 0; row = from.state.row; at = from.state.at }) []) (sym same)
       (found.goes_on goes_on)))
 
-  same-count : (count : ℕ) → from.found + count - from.found ≡ count
+  same-count : (count : ℕ) → from.state.count + count - from.state.count ≡ count
   same-count count = omega arith
 
   -- so many are in a block, and those behind them come next
   record Finds (out : List RawBreak) (count room : ℕ) (more : List Break) : Type 0 where
-    counted : from.found + count ≡ from.found + min room (length to_come)
-    breaks : AreBreaks out (from.found + count - from.found)
-    front : given_in out (from.found + count - from.found) ≡ take (from.found + count - from.found) to_come
-    rest : drop (from.found + count) all ≡ more
-    within : from.found + count ≤ length all
+    counted : from.state.count + count ≡ from.state.count + min room (length to_come)
+    breaks : AreBreaks out (from.state.count + count - from.state.count)
+    front : given_in out (from.state.count + count - from.state.count) ≡ take (from.state.count + count - from.state.count) to_come
+    rest : drop (from.state.count + count) all ≡ more
+    within : from.state.count + count ≤ length all
 
   finds : (out : List RawBreak) (count room : ℕ) (more : List Break) → to_come ≡ given_in out count ++ more → count ≤ length out → count ≤ room
       → (count ≡ room) ⊎ (more ≡ []) → AreBreaks out count → Finds out count room more
@@ -140,16 +140,16 @@ module _ {profile : Profile} {cell : ℕ → Cell} {text : List ℕ} {from : Pro
       let many = given-many out count few in
       let g = gives to_come (given_in out count) more count room joined many within full in
       record {
-        counted = ap (λ n. from.found + n) g.counted;
+        counted = ap (λ n. from.state.count + n) g.counted;
         breaks = subst (AreBreaks out) (sym (same-count count)) each;
         front = subst (λ n. given_in out n ≡ take n to_come) (sym (same-count count)) g.same;
-        rest = drop-more from.found count all (given_in out count) more found.within joined many;
-        within = within-more from.found count all (given_in out count) more found.within joined many;
+        rest = drop-more from.state.count count all (given_in out count) more found.within joined many;
+        within = within-more from.state.count count all (given_in out count) more found.within joined many;
       }
 
   pub Finds-none : (out : List RawBreak) (room : ℕ) → from.ended ≡ true → FindsNext profile cell text from from room out
   Finds-none out room ended =
-      let none : from.found - from.found ≡ 0 = omega arith in
+      let none : from.state.count - from.state.count ≡ 0 = omega arith in
       let no_more = ap length (found.none_left ended) in
       record {
         found = found;
@@ -161,16 +161,16 @@ module _ {profile : Profile} {cell : ℕ → Cell} {text : List ℕ} {from : Pro
 
   -- how many are found, in a text of so many bytes
   pub found-few : (here : FillState) (out : List RawBreak) (count : ℕ) (more : List Break) → IsUtf8 text
-      → to_come ≡ given_in out count ++ more → count ≤ length out → from.found + count ≤ length text
+      → to_come ≡ given_in out count ++ more → count ≤ length out → from.state.count + count ≤ length text
   found-few here out count more utf8 joined few =
-      let within = within-more from.found count all (given_in out count) more found.within joined (given-many out count few) in
+      let within = within-more from.state.count count all (given_in out count) more found.within joined (given-many out count few) in
       omega (arith, within, breaks-most profile cell text utf8)
 
   -- the block is full
   pub Finds-full : (here : FillState) (out : List RawBreak) (room : ℕ)
       → Reached profile cell text (record { breaks = to_come; end = closed_end }) here (given_in out here.count)
       → IsPlace here.row → here.at ≤ length text → here.count ≤ length out → here.count ≡ room → AreBreaks out here.count
-      → FindsNext profile cell text from (record { row = here.row; at = here.at; found = from.found + here.count; ended = false }) room out
+      → FindsNext profile cell text from (record { state = record { count = from.state.count + here.count; row = here.row; at = here.at }; ended = false }) room out
   Finds-full here out room r row at few full each =
       let more = onward_to closed_end profile cell r.taken here.at (pieces (drop here.at text)) in
       let f = finds out here.count room more r.joined few (omega arith) (inl full) each in
@@ -184,7 +184,7 @@ module _ {profile : Profile} {cell : ℕ → Cell} {text : List ℕ} {from : Pro
         count = f.counted;
         breaks = f.breaks;
         front = f.front;
-        full = λ _. ap (λ n. from.found + n) full;
+        full = λ _. ap (λ n. from.state.count + n) full;
       }
 
   -- all of the text was taken, and the break at its end is the last
@@ -204,7 +204,7 @@ module _ {profile : Profile} {cell : ℕ → Cell} {text : List ℕ} {from : Pro
       → ((taken : List ℕ) → KnowsTaken cell here.row taken → (0 < here.row → 0 < length taken)
       → given_in out count ≡ given_in before here.count ++ closed_end profile cell taken (length text))
       → IsPlace here.row → here.at ≤ length text → count ≤ length out → count ≤ room → AreBreaks out count
-      → FindsNext profile cell text from (record { row = here.row; at = here.at; found = from.found + count; ended = true }) room out
+      → FindsNext profile cell text from (record { state = record { count = from.state.count + count; row = here.row; at = here.at }; ended = true }) room out
   Finds-end here before out count room r ends put row at few within each =
       let f = finds out count room [] (at-end here before out count r ends put) few within (inr refl) each in
       record {
@@ -224,36 +224,36 @@ module _ {profile : Profile} {cell : ℕ → Cell} {text : List ℕ} {from : Pro
       → Reached profile cell text (record { breaks = to_come; end = closed_end }) here (given_in before here.count) → here.at ≡ length text
       → ((taken : List ℕ) → KnowsTaken cell here.row taken → (0 < here.row → 0 < length taken)
       → given_in out count ≡ given_in before here.count ++ closed_end profile cell taken (length text))
-      → count ≤ length out → from.found + count ≤ length text
+      → count ≤ length out → from.state.count + count ≤ length text
   end-few here before out count utf8 r ends put few = found-few here out count [] utf8 (at-end here before out count r ends put) few
 
 -- what a call found, and what comes behind it, is what was left
 module _ {profile : Profile} {cell : ℕ → Cell} {text : List ℕ} {from to : Progress} {room : ℕ} {out : List RawBreak}
     (f : FindsNext profile cell text from to room out) where
-  pub left-on : left_after profile cell text to ≡ drop (to.found - from.found) (left_after profile cell text from)
+  pub left-on : left_after profile cell text to ≡ drop (to.state.count - from.state.count) (left_after profile cell text from)
   left-on =
-      let more : from.found + (to.found - from.found) ≡ to.found = omega (arith, f.count) in
-      ap (λ n. drop n (breaks profile cell (chars text))) (sym more) ∙ sym (drop-drop (to.found - from.found) from.found (breaks profile cell (chars text)))
+      let more : from.state.count + (to.state.count - from.state.count) ≡ to.state.count = omega (arith, f.count) in
+      ap (λ n. drop n (breaks profile cell (chars text))) (sym more) ∙ sym (drop-drop (to.state.count - from.state.count) from.state.count (breaks profile cell (chars text)))
 
-  pub rest-on : given_in out (to.found - from.found) ++ left_after profile cell text to ≡ left_after profile cell text from
+  pub rest-on : given_in out (to.state.count - from.state.count) ++ left_after profile cell text to ≡ left_after profile cell text from
   rest-on =
-      ap₂ (λ (g l : List Break). g ++ l) f.front left-on ∙ take-append-drop (to.found - from.found) (left_after profile cell text from)
+      ap₂ (λ (g l : List Break). g ++ l) f.front left-on ∙ take-append-drop (to.state.count - from.state.count) (left_after profile cell text from)
 
-  pub found-many : length (given_in out (to.found - from.found)) ≡ to.found - from.found
+  pub found-many : length (given_in out (to.state.count - from.state.count)) ≡ to.state.count - from.state.count
   found-many =
       let left = left_after profile cell text from in
-      ap length f.front ∙ length-take-le (to.found - from.found) left (omega (arith, f.count))
+      ap length f.front ∙ length-take-le (to.state.count - from.state.count) left (omega (arith, f.count))
 
-  pub left-many : length (left_after profile cell text to) + (to.found - from.found) ≡ length (left_after profile cell text from)
+  pub left-many : length (left_after profile cell text to) + (to.state.count - from.state.count) ≡ length (left_after profile cell text from)
   left-many =
       let left = left_after profile cell text from in
-      omega (arith, ap length left-on, length-drop (to.found - from.found) left, f.count)
+      omega (arith, ap length left-on, length-drop (to.state.count - from.state.count) left, f.count)
 
-  pub taken-many : length (take (to.found - from.found) out) ≡ to.found - from.found
-  taken-many = sym (length-map (take (to.found - from.found) out) shown) ∙ found-many
+  pub taken-many : length (take (to.state.count - from.state.count) out) ≡ to.state.count - from.state.count
+  taken-many = sym (length-map (take (to.state.count - from.state.count) out) shown) ∙ found-many
 
-  pub taken-breaks : AreBreaks (take (to.found - from.found) out) (length (take (to.found - from.found) out))
+  pub taken-breaks : AreBreaks (take (to.state.count - from.state.count) out) (length (take (to.state.count - from.state.count) out))
   taken-breaks k below =
-      let n = to.found - from.found in
+      let n = to.state.count - from.state.count in
       let here : k < n = omega (arith, taken-many) in
       subst IsBreak (sym (get_or-take n out k no_break here)) (f.breaks k here)

@@ -53,7 +53,7 @@ each-behind block next some left each k below =
 
 -- the block of breaks holds none, and none was found
 pub IsKept-start : (profile : Profile) (cell : ℕ → Cell) (text : List ℕ) (block : List RawBreak) → length block ≡ 64 → IsUtf8 text
-    → IsKept profile cell text (record { progress = record { row = 0; at = 0; found = 0; ended = false }; block = block; next = 0; left = 0 })
+    → IsKept profile cell text (record { progress = record { state = record { count = 0; row = 0; at = 0 }; ended = false }; block = block; next = 0; left = 0 })
 IsKept-start profile cell text block size utf8 = record {
   found = IsFound-start profile cell text utf8;
   size = size;
@@ -95,9 +95,9 @@ module _ {profile : Profile} {cell : ℕ → Cell} {text : List ℕ} {kept : Kep
 
   -- the next breaks are found, where the block holds none
   module _ (none : kept.left ≡ 0) {room : ℕ} {to : Progress} {block : List RawBreak} (f : FindsNext profile cell text kept.progress to room block)
-      (size : length block ≡ 64) (few : to.found - kept.progress.found ≤ 64) where
+      (size : length block ≡ 64) (few : to.state.count - kept.progress.state.count ≤ 64) where
     abbrev pub filled : Kept
-    filled = record { progress = to; block = block; next = 0; left = to.found - kept.progress.found }
+    filled = record { progress = to; block = block; next = 0; left = to.state.count - kept.progress.state.count }
 
     pub filled-same : to_give profile cell text filled ≡ to_give profile cell text kept
     filled-same =
@@ -113,7 +113,7 @@ module _ {profile : Profile} {cell : ℕ → Cell} {text : List ℕ} {kept : Kep
       given = (is.given.0, filled-same ∙ is.given.1);
     }
 
-    pub filled-none : 0 < room → to.found - kept.progress.found ≡ 0
+    pub filled-none : 0 < room → to.state.count - kept.progress.state.count ≡ 0
         → to_give profile cell text filled ≡ []
     filled-none some no_more =
         let left = left_after profile cell text kept.progress in

@@ -32,7 +32,7 @@ length-cut start (b ∷ bs) = let rest = length-cut b.at bs in omega (arith, res
 -- the segments of a block of breaks, and those of the breaks behind it, are those of what was left
 pub cut-on : {profile : Profile} {cell : ℕ → Cell} {text : List ℕ} {from to : Progress} {room : ℕ} {out : List RawBreak}
     → FindsNext profile cell text from to room out → (before after : List Segment) (start next : ℕ)
-    → ((more : List Break) → after ++ cut_at next more ≡ before ++ cut_at start (given_in out (to.found - from.found) ++ more))
+    → ((more : List Break) → after ++ cut_at next more ≡ before ++ cut_at start (given_in out (to.state.count - from.state.count) ++ more))
     → after ++ cut_at next (left_after profile cell text to) ≡ before ++ cut_at start (left_after profile cell text from)
 cut-on {profile} {cell} {text} {from} {to} f before after start next cut =
     cut (left_after profile cell text to) ∙ ap (λ bs. before ++ cut_at start bs) (rest-on f)

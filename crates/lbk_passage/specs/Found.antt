@@ -16,25 +16,25 @@ use Rattle.lbk_passage.specs.declared.kept.Kept.{Kept}
 
 -- the breaks that come after those found
 abbrev pub left_after : Profile → (ℕ → Cell) → List ℕ → Progress → List Break
-left_after profile cell text here = drop here.found (breaks profile cell (chars text))
+left_after profile cell text here = drop here.state.count (breaks profile cell (chars text))
 
 -- the first breaks of a text were found, and the others come from here on
 pub record IsFound (profile : Profile) (cell : ℕ → Cell) (text : List ℕ) (here : Progress) : Type 0 where
-  pub place : IsPlace here.row × (here.at ≤ length text)
-  pub within : here.found ≤ length (breaks profile cell (chars text))
+  pub place : IsPlace here.state.row × (here.state.at ≤ length text)
+  pub within : here.state.count ≤ length (breaks profile cell (chars text))
   pub goes_on : here.ended ≡ false
       → Reached profile cell text (record { breaks = left_after profile cell text here; end = closed_end })
-      (record { count = 0; row = here.row; at = here.at }) []
+      (record { count = 0; row = here.state.row; at = here.state.at }) []
   pub none_left : here.ended ≡ true → left_after profile cell text here ≡ []
 
 -- of those left as many were found as there was room for, and stand in the front of a block
 pub record FindsNext (profile : Profile) (cell : ℕ → Cell) (text : List ℕ) (from to : Progress) (room : ℕ)
     (out : List RawBreak) : Type 0 where
   pub found : IsFound profile cell text to
-  pub count : to.found ≡ from.found + min room (length (left_after profile cell text from))
-  pub breaks : AreBreaks out (to.found - from.found)
-  pub front : given_in out (to.found - from.found) ≡ take (to.found - from.found) (left_after profile cell text from)
-  pub full : to.ended ≡ false → to.found ≡ from.found + room
+  pub count : to.state.count ≡ from.state.count + min room (length (left_after profile cell text from))
+  pub breaks : AreBreaks out (to.state.count - from.state.count)
+  pub front : given_in out (to.state.count - from.state.count) ≡ take (to.state.count - from.state.count) (left_after profile cell text from)
+  pub full : to.ended ≡ false → to.state.count ≡ from.state.count + room
 
 -- the breaks of a block that are still to give
 abbrev pub held_in : Kept → List Break

@@ -16,21 +16,19 @@ const LONG: u8 = 0xE0;
 /// How far the breaks of a text were found.
 #[derive(Clone, Copy)]
 pub(crate) struct Progress {
-    /// The place of the row of steps that knows of what was taken.
-    pub(crate) row: usize,
-    /// How many bytes of the text were taken.
-    pub(crate) at: usize,
-    /// How many breaks were found.
-    pub(crate) found: usize,
+    /// How many were found, and where the engine goes on.
+    pub(crate) state: FillState,
     /// Whether the end was found.
     pub(crate) ended: bool,
 }
 
 /// Before the first break.
 pub(crate) const START: Progress = Progress {
-    row: 0,
-    at: 0,
-    found: 0,
+    state: FillState {
+        count: 0,
+        row: 0,
+        at: 0,
+    },
     ended: false,
 };
 
@@ -59,23 +57,27 @@ pub(crate) fn find<C: CellSource>(
     let table = CellTable::new(cells);
     let start = FillState {
         count: 0,
-        row: from.row,
-        at: from.at,
+        row: from.state.row,
+        at: from.state.at,
     };
     let here = fill_from(&table, profile, start, text.as_bytes(), out);
     if here.count == out.len() {
         return Progress {
-            row: here.row,
-            at: here.at,
-            found: from.found + here.count,
+            state: FillState {
+                count: from.state.count + here.count,
+                row: here.row,
+                at: here.at,
+            },
             ended: false,
         };
     }
     let count = put_end(false, here.row, out, here.count, text.len());
     Progress {
-        row: here.row,
-        at: here.at,
-        found: from.found + count,
+        state: FillState {
+            count: from.state.count + count,
+            row: here.row,
+            at: here.at,
+        },
         ended: true,
     }
 }

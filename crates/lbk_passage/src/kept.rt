@@ -48,7 +48,7 @@ impl Kept {
             return true;
         }
         let found = find(cells, profile, text, self.progress, &mut self.block);
-        self.left = found.found - self.progress.found;
+        self.left = found.state.count - self.progress.state.count;
         self.next = 0;
         self.progress = found;
         self.left != 0

@@ -91,7 +91,7 @@ fn cut_alone<C: CellSource>(
     let mut start = 0;
     loop {
         let next = find(cells, profile, text, here, block);
-        let count = next.found - here.found;
+        let count = next.state.count - here.state.count;
         start = cut_block(&block[..count], start, segments)?;
         if next.ended {
             return Ok(());

@@ -11,7 +11,7 @@ pub returns-then-here-out : goal.returns-then-here-out
 returns-then-here-out g c =
     let fill = c.fill_from-here in
     let reached = reached-on c.requires c.if-from.false c.as_bytes.result.now c.as_bytes.ensures.value (fill.ensures.reached (g.C.CellSource.cell_of c.args.cells.now) _ c.new-table.ensures.table) in
-    let order = fill.ensures.in_order c.args.from.at (omega arith, AreInOrder-none c.args.out.now c.args.from.at c.args.from.at) in
+    let order = fill.ensures.in_order c.args.from.state.at (omega arith, AreInOrder-none c.args.out.now c.args.from.state.at c.args.from.state.at) in
     Finds-full c.requires fill.result fill.new.out (length c.args.out.now) reached
     fill.ensures.within.1 (omega (arith, ap length c.as_bytes.ensures.value, fill.ensures.within.2)) (omega (arith, fill.ensures.within.0)) (omega (arith, c.if-here-out.true)) order.1.each
 
@@ -38,7 +38,7 @@ returns g c =
     let reached = reached-on c.requires c.if-from.false c.as_bytes.result.now c.as_bytes.ensures.value (fill.ensures.reached (g.C.CellSource.cell_of c.args.cells.now) _ c.new-table.ensures.table) in
     let put = c.put_end-count.ensures.front c.args.profile (g.C.CellSource.cell_of c.args.cells.now) in
     let ends : fill.result.at ≡ length c.args.text.now = fill.ensures.stops (omega (arith, c.if-here-out.false, fill.ensures.within.0)) ∙ ap length c.as_bytes.ensures.value in
-    let order = fill.ensures.in_order c.args.from.at (omega arith, AreInOrder-none c.args.out.now c.args.from.at c.args.from.at) in
+    let order = fill.ensures.in_order c.args.from.state.at (omega arith, AreInOrder-none c.args.out.now c.args.from.state.at c.args.from.state.at) in
     Finds-end c.requires fill.result fill.new.out c.put_end-count.new.out c.put_end-count.result (length c.args.out.now) reached ends put
     fill.ensures.within.1 (omega (arith, ends)) (omega (arith, c.put_end-count.ensures.within.0)) (omega (arith, c.put_end-count.ensures.within.0))
     (c.put_end-count.ensures.breaks order.1.each)

@@ -24,7 +24,7 @@ pub loop-start-preserved : goal.loop-start-preserved
 loop-start-preserved g c =
     let cell = g.C.CellSource.cell_of c.args.cells.now in
     let l = c.loop-start in
-    let n = c.find-next.result.found - l.here.found in
+    let n = c.find-next.result.state.count - l.here.state.count in
     let left = left_after c.args.profile cell c.args.text.now l.here in
     record {
       found = c.find-next.ensures.found;
@@ -52,7 +52,7 @@ pub cut_block-requires-clause-few : goal.cut_block-requires-clause-few
 cut_block-requires-clause-few g c =
     let cell = g.C.CellSource.cell_of c.args.cells.now in
     let l = c.loop-start in
-    let n = c.find-next.result.found - l.here.found in
+    let n = c.find-next.result.state.count - l.here.state.count in
     let left = left_after c.args.profile cell c.args.text.now l.here in
     raw-within 4294967296 (take n c.find-next.new.out)
     (subst (All (λ (one : Break). one.at < 4294967296)) (sym c.find-next.ensures.front)

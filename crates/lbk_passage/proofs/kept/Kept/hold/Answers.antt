@@ -16,6 +16,6 @@ returns-clause-same g c =
 pub returns-clause-none : goal.returns-clause-none
 returns-clause-none g c = λ none.
     let f = c.find-found in
-    let told : not (f.result.found - c.args.self.now.progress.found == 0) ≡ false = none in
-    let no : f.result.found - c.args.self.now.progress.found ≡ 0 = grind (arith, nat_tests, told) in
+    let told : not (f.result.state.count - c.args.self.now.progress.state.count == 0) ≡ false = none in
+    let no : f.result.state.count - c.args.self.now.progress.state.count ≡ 0 = grind (arith, nat_tests, told) in
     filled-none c.requires (omega (arith, c.if-self-ne0.false)) f.ensures (omega (arith, f.auto.out)) (omega (arith, f.ensures.count, f.auto.out)) (omega (arith, f.auto.out)) no
