@@ -1,5 +1,5 @@
 -- Where a part of a text may begin, told by the classes on both sides.
-use Rattle.std.proofs.Common.{◌≡◌, ℕ, ◌+◌, ◌-◌, ◌<◌, ◌≤◌, min, true, false, Option, List, [], ◌∷◌, ◌++◌, length, map, take, drop, refl, sym, ap, ap₂, ◌∙◌, inr, ⊎_elim, arith, length-drop, length-take-le}
+use Rattle.std.proofs.Common.{◌≡◌, ℕ, ◌+◌, ◌-◌, ◌<◌, ◌≤◌, min, Bool, true, false, Option, List, [], ◌∷◌, ◌++◌, length, map, take, drop, refl, sym, ap, ap₂, subst, ◌∙◌, inr, ⊎_elim, arith, length-drop, length-take-le}
 use Rattle.std.proofs.lemmas.Bool.{false≢true}
 use Rattle.std.proofs.lemmas.List.{map-append}
 use Rattle.bstr.specs.Utf8.{Decoded, IsLastPiece, decoded, lossy_chars, or_replacement, pieces}
@@ -94,6 +94,12 @@ joins-safe profile cell text place some inside safe =
     let within : place ≤ length text = omega arith in
     ⊎_elim (λ start. absurd (let no : ⊥ = omega arith in no))
     (⊎_elim (λ end. absurd (let no : ⊥ = omega arith in no)) (joins-at profile cell text place within)) safe
+
+-- nor may one begin where a look at the place says so
+pub unsafe-here : (pieces_of : List ℕ → List Decoded) (cell : ℕ → Cell) (text : List ℕ) (at place : ℕ) (may : Bool) → may ≡ false
+    → (IsSafeIn pieces_of cell text at → may ≡ true) → place ≡ at → ¬ (IsSafeIn pieces_of cell text place)
+unsafe-here pieces_of cell text at place may stays told is =
+    subst (λ n. ¬ (IsSafeIn pieces_of cell text n)) (sym is) (λ holds. false≢true (sym stays ∙ told holds))
 
 -- What a call promises that cuts a text, by what it found
 

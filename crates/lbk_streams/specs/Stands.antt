@@ -30,6 +30,12 @@ listed four = four.first ∷ four.second ∷ four.third ∷ four.fourth ∷ []
 abbrev pub front_of : {A : Type 0} → Cut A → List A
 front_of cut = take cut.size (listed cut.units)
 
+-- the units of a stream that are not taken as scalars
+pub record HoldsCut {A : Type 0} (carried : List ℕ → List A) (widest : ℕ) (stream : Stream) (cut : Cut A) : Type 0 where
+  pub within : cut.size ≤ widest
+  pub size : cut.size ≡ length (cut_units carried stream)
+  pub units : front_of cut ≡ cut_units carried stream
+
 -- a position waits: it stands before a quotation mark and the marks that join it
 pub record Waits (profile : Profile) (cell : ℕ → Cell) (taken : List ℕ) (place : StreamPosition) : Type 0 where
   pub second : profile ≡ Second

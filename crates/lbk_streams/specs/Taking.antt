@@ -62,3 +62,11 @@ pub record TakesOf {A : Type 0} (pieces_of : List A → List Decoded) (widest : 
   pub within : (start.taken ≤ result.taken) × (result.taken ≤ length piece)
   pub feeds : (cell : ℕ → Cell) (more : List A) → IsFlatOf table cell
       → FeedsOn pieces_of profile cell piece more old start new result
+
+-- it takes one unit at least, and leaves none that no more units could make a scalar of, unless the block is full
+pub record TakesSome {A : Type 0} (could_go_on : List A → Bool) (pieces_of : List A → List Decoded) (widest : ℕ)
+    (table : FlatTable) (profile : Profile) (piece : List A) (old : List RawBreak) (start : Feeding A)
+    (new : List RawBreak) (result : Feeding A) : Type 0 where
+  pub takes : TakesOf pieces_of widest table profile piece old start new result
+  pub onward : start.taken < result.taken
+  pub unfinished : result.count < length old → IsOpen could_go_on widest result.cut

@@ -4,7 +4,7 @@ ghost use Rattle.std.specs.Prelude.{◌≡◌, ◌⊎◌, ℕ, ◌+◌, ◌-◌,
 ghost use Rattle.lbk_rules.specs.declared.Cell.{Cell};
 ghost use Rattle.lbk_rules.specs.FlatTable.{IsFlatOf};
 ghost use Rattle.lbk_streams.specs.Stands.{front_of};
-ghost use Rattle.lbk_streams.specs.Taking.{FeedsOn, IsOpen, Takes, TakesOf};
+ghost use Rattle.lbk_streams.specs.Taking.{FeedsOn, IsOpen, Takes, TakesOf, TakesSome};
 
 use crate::cutting::{behind, kept, with_unit};
 use crate::skimming::skim;
@@ -24,8 +24,8 @@ pub(crate) fn take_piece<U: StreamUnit>(
 ) -> Feeding<U>
     requires { (start.cut.size ≤ U.widest) × (start.count ≤ length out.old) × (start.taken ≤ length piece.now) }
     ensures takes { TakesOf U.pieces_of U.widest table.now profile piece.now out.old start out.new result }
-    ensures all { result.count < length out.old → result.taken ≡ length piece.now }
-    ensures unfinished { result.count < length out.old → IsOpen U.could_go_on U.widest result.cut }
+    ensures settled { result.count < length out.old
+        → (result.taken ≡ length piece.now) × IsOpen U.could_go_on U.widest result.cut }
 {
     let mut here = drain(table, profile, start, false, out);
     while here.count < out.len() && here.taken < piece.len() {
@@ -90,15 +90,7 @@ fn take_cut<U: StreamUnit>(
         → FeedsOn U.pieces_of profile cell piece more out.old here out.new result }
 {
     let first = U::first_of_cut(&here.cut);
-    let step = take_scalar(
-        table,
-        profile,
-        here.place,
-        first.scalar,
-        first.size,
-        out,
-        here.count,
-    );
+    let step = take_scalar(table, profile, here.place, first, out, here.count);
     if step.passed {
         let cut = behind(here.cut, first.size);
         return Feeding {
@@ -125,9 +117,7 @@ fn take_more<U: StreamUnit>(
     out: &mut [RawBreak],
 ) -> Feeding<U>
     requires { (here.cut.size < U.widest) × (here.count < length out.old) × (here.taken < length piece.now) }
-    ensures takes { TakesOf U.pieces_of U.widest table.now profile piece.now out.old here out.new result }
-    ensures onward { here.taken < result.taken }
-    ensures unfinished { result.count < length out.old → IsOpen U.could_go_on U.widest result.cut }
+    ensures { TakesSome U.could_go_on U.pieces_of U.widest table.now profile piece.now out.old here out.new result }
 {
     if here.cut.size == 0 {
         if !U::could_go_on(&piece[here.taken..]) {
@@ -154,21 +144,11 @@ fn take_run<U: StreamUnit>(
 ) -> Feeding<U>
     requires { (here.cut.size ≡ 0) × (here.count < length out.old) × (here.taken < length piece.now)
         × (U.could_go_on (drop here.taken piece.now) ≡ false) }
-    ensures takes { TakesOf U.pieces_of U.widest table.now profile piece.now out.old here out.new result }
-    ensures onward { here.taken < result.taken }
-    ensures unfinished { result.count < length out.old → result.cut.size ≡ 0 }
+    ensures { TakesSome U.could_go_on U.pieces_of U.widest table.now profile piece.now out.old here out.new result }
 {
     let rest = &piece[here.taken..];
     let first = U::first(rest);
-    let step = take_scalar(
-        table,
-        profile,
-        here.place,
-        first.scalar,
-        first.size,
-        out,
-        here.count,
-    );
+    let step = take_scalar(table, profile, here.place, first, out, here.count);
     let taken = here.taken + first.size;
     if !step.passed {
         let cut = kept(here.cut, &rest[..first.size]);

@@ -8,8 +8,7 @@ ghost use Rattle.lbk_bytes.specs.Reached.{onward_to};
 ghost use Rattle.lbk_units.specs.Filling.{GivesOf, GoesOn, IsInText};
 ghost use Rattle.lbk_units.specs.Front.{IsFront};
 ghost use Rattle.lbk_units.specs.Reached.{on_from};
-ghost use Rattle.lbk_streams.specs.Stands.{front_of};
-ghost use Rattle.lbk_streams.specs.Streams.{cut_units};
+ghost use Rattle.lbk_streams.specs.Stands.{HoldsCut, front_of};
 
 use crate::stream::{Cut, Stream};
 use lbk_bytes::{FillState, RawBreak};
@@ -40,9 +39,7 @@ pub trait StreamUnit: Unit {
 
     /// The units of a stream that are not taken as scalars.
     fn cut_of(stream: &Stream) -> Cut<Self>
-        ensures within { result.size ≤ widest }
-        ensures size { result.size ≡ length (cut_units carried stream.now) }
-        ensures units { front_of result ≡ cut_units carried stream.now };
+        ensures { HoldsCut carried widest stream.now result };
 
     /// The bytes that hold the units that were cut.
     fn bytes_of(cut: Cut<Self>) -> [u8; 4]

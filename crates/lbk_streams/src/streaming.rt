@@ -12,7 +12,7 @@ ghost use Rattle.lbk_bytes.specs.Order.{AreBreaks, AreInOrder};
 ghost use Rattle.lbk_bytes.specs.Shown.{given_in};
 ghost use Rattle.lbk_bytes.specs.Profiles.{goes_on, plain_number, profile_numbered};
 ghost use Rattle.lbk_units.specs.Units.{breaks_of_part_of, breaks_of_pieces};
-ghost use Rattle.lbk_streams.specs.Stands.{IsOrdered, IsPlaced, StreamsIn, front_of};
+ghost use Rattle.lbk_streams.specs.Stands.{HoldsCut, IsOrdered, IsPlaced, StreamsIn, front_of};
 ghost use Rattle.lbk_streams.specs.Streams.{AreUnsettledIn, IsSoundIn, cut_units, most_left_in, next_place};
 ghost use Rattle.lbk_streams.specs.Streams.{part_stream, place_of, stream_start};
 
@@ -135,8 +135,7 @@ fn live_profile(stream: &Stream) -> Option<Profile>
 /// Where a call begins.
 fn start_of<U: StreamUnit>(stream: &Stream) -> Feeding<U>
     ensures place { result.place ≡ place_of stream.now }
-    ensures cut { (result.cut.size ≤ U.widest) × (front_of result.cut ≡ cut_units U.carried stream.now)
-        × (result.cut.size ≡ length (cut_units U.carried stream.now)) }
+    ensures cut { HoldsCut U.carried U.widest stream.now result.cut }
     ensures fresh { (result.taken ≡ 0) × (result.count ≡ 0) }
 {
     Feeding {

@@ -18,6 +18,7 @@ ghost use Rattle.lbk_streams.specs.Taking.{Steps};
 use crate::stream::StreamPosition;
 use lbk_bytes::{RawBreak, put};
 use lbk_rules::{FlatTable, HELD, Profile, place_by, shown_by, shows_break, step_in};
+use lbk_units::UnitScalar;
 
 /// A place, and how many breaks stand in the front of the block.
 #[derive(Clone, Copy)]
@@ -28,31 +29,38 @@ pub(crate) struct Step {
     pub(crate) passed: bool,
 }
 
-/// Takes the scalar `c` of `size` units: first it decides the position that waits, and then the one before the scalar.
+/// Takes a scalar: first it decides the position that waits, and then the one before the scalar.
 pub(crate) fn take_scalar(
     table: &FlatTable,
     profile: Profile,
     place: StreamPosition,
-    c: char,
-    size: usize,
+    next: UnitScalar,
     out: &mut [RawBreak],
     count: usize,
 ) -> Step
     requires { count < length out.old }
-    ensures steps { Steps size out.old count place out.new result }
+    ensures steps { Steps next.size out.old count place out.new result }
     ensures full { result.passed ≡ false → result.count ≡ length out.old }
     ensures stands { (cell : ℕ → Cell) (p : Decoded) (ps : List Decoded) (all : Ahead)
         → IsFlatOf table.now cell
-        → c ≡ or_replacement p.char → size ≡ p.size → 0 < size → place.at + size < 2 ^ 64
+        → next.scalar ≡ or_replacement p.char → next.size ≡ p.size → 0 < next.size → place.at + next.size < 2 ^ 64
         → Stands profile cell place (p ∷ ps) all (given_in out.old count)
         → Stands profile cell result.place (if result.passed then ps else p ∷ ps) all
         (given_in out.new result.count) }
 {
-    let met = meet(table, place, c, out, count);
+    let met = meet(table, place, next.scalar, out, count);
     if met.count == out.len() {
         return met;
     }
-    pass(table, profile, met.place, c, size, out, met.count)
+    pass(
+        table,
+        profile,
+        met.place,
+        next.scalar,
+        next.size,
+        out,
+        met.count,
+    )
 }
 
 /// Decides the position that waits, if `c` heads a unit.

@@ -1,4 +1,4 @@
-use Rattle.std.proofs.Common.{◌≡◌, ℕ, ◌+◌, ◌-◌, ◌%◌, ◌^◌, ◌<◌, ◌≤◌, ◌++◌, List, true, cond, drop, length, take, sym, ap, subst, ◌∙◌, length-drop, length-take-le, arith}
+use Rattle.std.proofs.Common.{◌≡◌, ℕ, ◌+◌, ◌-◌, ◌%◌, ◌^◌, ◌<◌, ◌≤◌, ◌++◌, List, true, cond, drop, length, take, sym, ap, subst, ◌∙◌, inl, length-drop, length-take-le, arith}
 use Rattle.std.proofs.lemmas.Bool.{false≢true}
 use Rattle.lbk_rules.specs.declared.Cell.{Cell}
 use Rattle.lbk_rules.specs.FlatTable.{IsFlatOf}
@@ -6,7 +6,8 @@ use Rattle.lbk_bytes.specs.Shown.{given_in}
 use Rattle.lbk_units.specs.Front.{IsFront}
 use Rattle.lbk_bytes.proofs.PieceLemmas.{rest-of}
 use Rattle.lbk_streams.specs.Stands.{Ahead, Feeds, Stands}
-use Rattle.lbk_streams.specs.Taking.{TakesOf}
+use Rattle.lbk_streams.specs.declared.stream.Cut.{Cut}
+use Rattle.lbk_streams.specs.Taking.{IsOpen, TakesOf}
 use Rattle.lbk_streams.proofs.FeedLemmas.{Feeds-kept, Feeds-run, IsTaken, is-taken, none-cut, not-false, not-true}
 use Rattle.lbk_streams.proofs.TakingLemmas.{TakesOf-then, takes-none, takes-one}
 use Rattle.lbk_streams.proofs.feeding.take_run.Given.{Over}
@@ -93,9 +94,13 @@ kept-cut-requires g c =
     let long = whole g (goal.at.kept-cut-requires g c).After-take_scalar-step in
     omega (arith, long, c.first-first.ensures.few, g.met.U.StreamUnit.narrow.1)
 
-pub returns-then-not-step-clause-takes : goal.returns-then-not-step-clause-takes
-returns-then-not-step-clause-takes g c =
-    let at_step = (goal.at.returns-then-not-step-clause-takes g c).After-take_scalar-step in
+-- no unit is cut
+none-open : (g : Over) (c : After-take_scalar-step g) (cut : Cut g.row.U.Denot) → cut.size ≡ 0 → IsOpen g.U.StreamUnit.could_go_on g.U.StreamUnit.widest cut
+none-open g c cut none = record { unfinished = inl none; few = omega (arith, none, g.met.U.StreamUnit.narrow.0) }
+
+pub returns-then-not-step : goal.returns-then-not-step
+returns-then-not-step g c =
+    let at_step = (goal.at.returns-then-not-step g c).After-take_scalar-step in
     let piece = c.args.piece.now in
     let here = c.args.here in
     let found = c.first-first.result in
@@ -109,38 +114,47 @@ returns-then-not-step-clause-takes g c =
     let at = steps.at ∙ ap (λ b. cond b ((here.place.at + found.size) % 2 ^ 64) here.place.at) stays in
     record {
       takes = record {
-        cut = omega (arith, size, c.first-first.ensures.few);
-        room = omega (arith, steps.within.1);
-        breaks = steps.breaks;
-        counted = omega (arith, steps.few, none, size, c.requires.0);
-        ordered = λ base from short o.
-            let seen = o.seen in
-            record { seen = omega (arith, at, size, c.requires.0); placed = steps.placed from (λ is. absurd (false≢true (sym stays ∙ is))) o.placed };
+        takes = record {
+          cut = omega (arith, size, c.first-first.ensures.few);
+          room = omega (arith, steps.within.1);
+          breaks = steps.breaks;
+          counted = omega (arith, steps.few, none, size, c.requires.0);
+          ordered = λ base from short o.
+              let seen = o.seen in
+              record { seen = omega (arith, at, size, c.requires.0); placed = steps.placed from (λ is. absurd (false≢true (sym stays ∙ is))) o.placed };
+        };
+        within = (omega arith, fits);
+        feeds = λ cell more flat base all feeds.
+            Feeds-kept g.U.Unit.pieces_of c.args.profile cell base piece more here step.result.place c.kept-cut.result step.result.count found.size all
+            (given_in c.args.out.now here.count) (given_in step.new.out step.result.count)
+            c.requires.0 fits (c.kept-cut.ensures.units ∙ ap (take found.size) (rest-of piece here.taken)) size
+            ((taken g (goal.at.returns-then-not-step g c).After-take_scalar-step cell more flat base all feeds).stays stays) feeds;
       };
-      within = (omega arith, fits);
-      feeds = λ cell more flat base all feeds.
-          Feeds-kept g.U.Unit.pieces_of c.args.profile cell base piece more here step.result.place c.kept-cut.result step.result.count found.size all
-          (given_in c.args.out.now here.count) (given_in step.new.out step.result.count)
-          c.requires.0 fits (c.kept-cut.ensures.units ∙ ap (take found.size) (rest-of piece here.taken)) size
-          ((taken g (goal.at.returns-then-not-step-clause-takes g c).After-take_scalar-step cell more flat base all feeds).stays stays) feeds;
+      onward = omega (arith, front.some);
+      unfinished = λ free. absurd (omega (arith, free, step.ensures.full stays));
     }
 
-pub returns-then-past-ne0-clause-takes : goal.returns-then-past-ne0-clause-takes
-returns-then-past-ne0-clause-takes g c =
-    past g (goal.at.returns-then-past-ne0-clause-takes g c).After-take_scalar-step (not-false c.take_scalar-step.result.passed c.if-not-step.false)
+pub returns-then-past-ne0 : goal.returns-then-past-ne0
+returns-then-past-ne0 g c = record {
+  takes = past g (goal.at.returns-then-past-ne0 g c).After-take_scalar-step (not-false c.take_scalar-step.result.passed c.if-not-step.false);
+  onward = omega (arith, c.first-first.ensures.front.some);
+  unfinished = λ _. none-open g (goal.at.returns-then-past-ne0 g c).After-take_scalar-step c.args.here.cut c.requires.0;
+}
 
 pub skim-requires : goal.skim-requires
 skim-requires g c =
     let fits = inside g (goal.at.skim-requires g c).After-take_scalar-step in
     (c.requires.0, c.if-past-ne0.false, omega (arith, c.take_scalar-step.ensures.steps.within.1), omega (arith, c.first-first.ensures.front.some), fits)
 
-pub returns-clause-takes : goal.returns-clause-takes
-returns-clause-takes g c =
+pub returns : goal.returns
+returns g c =
     let step = c.take_scalar-step in
     let here = c.args.here in
-    TakesOf-then g.U.Unit.pieces_of g.U.StreamUnit.widest c.args.table.now c.args.profile c.args.piece.now c.args.out.now here step.new.out
-    (record { place = step.result.place; cut = here.cut; taken = here.taken + c.first-first.result.size; count = step.result.count }) c.skim.new.out c.skim.result
-    (omega arith) (past g (goal.at.returns-clause-takes g c).After-take_scalar-step (not-false step.result.passed c.if-not-step.false)) c.skim.ensures.takes
-
-pub returns-clause-onward : goal.returns-clause-onward
-returns-clause-onward g c = omega (arith, c.skim.ensures.takes.within.0, c.first-first.ensures.front.some)
+    record {
+      takes =
+          TakesOf-then g.U.Unit.pieces_of g.U.StreamUnit.widest c.args.table.now c.args.profile c.args.piece.now c.args.out.now here step.new.out
+          (record { place = step.result.place; cut = here.cut; taken = here.taken + c.first-first.result.size; count = step.result.count }) c.skim.new.out c.skim.result
+          (omega arith) (past g (goal.at.returns g c).After-take_scalar-step (not-false step.result.passed c.if-not-step.false)) c.skim.ensures.takes;
+      onward = omega (arith, c.skim.ensures.takes.within.0, c.first-first.ensures.front.some);
+      unfinished = λ _. none-open g (goal.at.returns g c).After-take_scalar-step c.skim.result.cut c.skim.ensures.none_cut;
+    }

@@ -55,7 +55,7 @@ ordered g c sound =
     let start = c.start_of-start in
     let fits = sound.fits in
     c.take_piece-here.ensures.takes.takes.ordered (base g.U.StreamUnit.carried c.args.stream.now) (next_place (place_of old)) (omega arith)
-    (IsOrdered-start c.args.out.now g.U.StreamUnit.carried old start.result start.ensures.place start.ensures.cut.2 start.ensures.fresh.0 start.ensures.fresh.1 sound.waits)
+    (IsOrdered-start c.args.out.now g.U.StreamUnit.carried old start.result start.ensures.place start.ensures.cut.size start.ensures.fresh.0 start.ensures.fresh.1 sound.waits)
 
 -- and so were the units left at the end
 ordered-last : (g : Over) (c : After-close g) → let old = c.args.stream.now in
@@ -78,7 +78,7 @@ fed g c cell more to_come s =
     let live = c.in-Some.ensures in
     c.take_piece-here.ensures.takes.feeds cell more s.flat (base g.U.StreamUnit.carried c.args.stream.now) (ahead old.profile to_come)
     (Feeds-streams g.U.Unit.pieces_of g.U.StreamUnit.carried c.in-Some.profile cell c.args.table.now old c.args.piece.now more to_come (given_in c.args.out.now start.result.count) start.result
-    live.1 live.0 start.ensures.place start.ensures.cut.1 start.ensures.fresh.0 start.ensures.cut.2 (ap (given_in c.args.out.now) start.ensures.fresh.1) s)
+    live.1 live.0 start.ensures.place start.ensures.cut.units start.ensures.fresh.0 start.ensures.cut.size (ap (given_in c.args.out.now) start.ensures.fresh.1) s)
 
 -- what a call gives that goes on
 gives : (g : Over) (c : After-keep g) → let here = c.take_piece-here.result in
@@ -110,7 +110,7 @@ gives g c cell more to_come s feeds =
           kept.same.0 kept.same.1 many feeds;
       settled = λ _ free.
           Feeds-unsettled of carried profile cell g.U.StreamUnit.could_go_on old.profile at_base new piece more to_come given here here.count kept.place kept.cut.0
-          (take.ensures.unfinished (omega arith)).unfinished (take.ensures.all (omega arith)) many feeds;
+          (take.ensures.settled (omega arith)).1.unfinished (take.ensures.settled (omega arith)).0 many feeds;
       seen = (let seen = feeds.seen in let size = kept.cut.1 in omega arith);
       end = λ is_last free. absurd (false≢true (sym c.if-last.false ∙ is_last));
     }
@@ -141,7 +141,7 @@ gives-last g c cell more to_come none s feeds =
     let given = given_in drain.new.out done.count in
     let after = given_in close.new.out close.result.count in
     let nothing : here.count < length take.new.out → drop here.taken piece ++ more ≡ [] =
-    λ free. ap (λ n. drop n piece ++ more) (take.ensures.all (omega arith)) ∙ ap (λ l. l ++ more) (drop-length piece) ∙ none in
+    λ free. ap (λ n. drop n piece ++ more) (take.ensures.settled (omega arith)).0 ∙ ap (λ l. l ++ more) (drop-length piece) ∙ none in
     let ends = drain.ensures.feeds cell piece more s.flat (λ _. nothing) (base carried old) (ahead old.profile to_come) feeds in
     let taken : close.result.taken ≡ done.taken = close.ensures.within.1 in
     let closed = Feeds-closed of carried profile cell table (base g.U.StreamUnit.carried c.args.stream.now) old new piece to_come given after done close.result.count room g.met.U.Unit.ends live.1 live.0 s.flat
@@ -154,7 +154,7 @@ gives-last g c cell more to_come none s feeds =
           (let f = close.ensures.full (omega arith) in
           (ap (λ b. given_in b close.result.count) f.1 ∙ ap (given_in drain.new.out) f.0, f.2, f.3, f.4));
       taken = λ free.
-          ⊎_elim (λ (less : here.count < room). drain.ensures.taken ∙ take.ensures.all less)
+          ⊎_elim (λ (less : here.count < room). drain.ensures.taken ∙ (take.ensures.settled less).0)
           (λ (full : room ≤ here.count).
           let same = ap (λ (h : Feeding g.row.U.Denot). h.count) (drain.ensures.full (omega (arith, take.ensures.takes.takes.room))).0 in absurd (omega arith))
           (cases_lt here.count room);

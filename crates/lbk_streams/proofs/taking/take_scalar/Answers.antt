@@ -7,13 +7,13 @@ use Rattle.lbk_streams.proofs.taking.take_scalar.Goals as goal
 pub returns-then-met-out-clause-steps : goal.returns-then-met-out-clause-steps
 returns-then-met-out-clause-steps c =
     let met = c.meet-met in
-    Steps-none c.args.size c.args.out.now met.new.out c.args.count c.args.place met.result met.ensures.passed met.ensures.steps
+    Steps-none c.args.next.size c.args.out.now met.new.out c.args.count c.args.place met.result met.ensures.passed met.ensures.steps
 
 pub returns-clause-steps : goal.returns-clause-steps
 returns-clause-steps c =
     let met = c.meet-met in
     let pass = c.pass in
-    Steps-then c.args.size c.args.out.now met.new.out pass.new.out c.args.count c.args.place met.result pass.result (omega arith) met.ensures.passed met.ensures.steps pass.ensures.steps
+    Steps-then c.args.next.size c.args.out.now met.new.out pass.new.out c.args.count c.args.place met.result pass.result (omega arith) met.ensures.passed met.ensures.steps pass.ensures.steps
 
 pub returns-clause-stands : goal.returns-clause-stands
 returns-clause-stands c = λ cell p ps all flat is_char is_size some fits stands.

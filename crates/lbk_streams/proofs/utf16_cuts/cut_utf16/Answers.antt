@@ -1,9 +1,9 @@
 use Rattle.std.proofs.Common.{◌≡◌, length, refl, subst, sym, ◌∙◌, inr, inl, ⊎_elim, arith}
 use Rattle.std.proofs.lemmas.Bool.{cases_lt, false≢true}
 use Rattle.lbk_units.specs.Units.{pieces_of_utf16}
-use Rattle.lbk_streams.specs.Cuts.{BeginsIn, IsSafeIn}
+use Rattle.lbk_streams.specs.Cuts.{BeginsIn}
 use Rattle.lbk_streams.proofs.PairLemmas.{begins-last, joins-pair}
-use Rattle.lbk_streams.proofs.SafeLemmas.{cuts-after}
+use Rattle.lbk_streams.proofs.SafeLemmas.{cuts-after, unsafe-here}
 use Rattle.lbk_streams.proofs.utf16_cuts.cut_utf16.Goals as goal
 
 pub returns-then-text-at : goal.returns-then-text-at
@@ -22,9 +22,7 @@ loop-place-preserved c =
       none = λ cell place are_kinds from before.
           ⊎_elim (λ earlier. l.invariant.none cell place are_kinds from earlier)
           (λ not_earlier.
-          let is : place ≡ l.place = omega arith in
-          subst (λ n. ¬ (IsSafeIn pieces_of_utf16 cell c.args.text.now n)) (sym is)
-          (λ safe. false≢true (sym c.if-may_begin.false ∙ (c.may_begin.ensures.safe cell are_kinds).1 safe)))
+          unsafe-here pieces_of_utf16 cell c.args.text.now l.place place c.may_begin.result c.if-may_begin.false (c.may_begin.ensures.safe cell are_kinds).1 (omega arith))
           (cases_lt place l.place);
     }
 
