@@ -1,7 +1,7 @@
 -- The rules do not tell a context from its canonical one.
 use Rattle.std.proofs.Common.{◌≡◌, Bool, cond, not, ◌&&◌, ◌||◌, unwrap_or, refl, sym, ap, ap₂, ◌∙◌}
 use Rattle.ucd_breaks.specs.declared.WordBreak.{WordBreak}
-use Rattle.ucd_breaks.specs.declared.WordBreak.TheVariants.{Cr, DoubleQuote, ExtendNumLet, Extend, Format, HebrewLetter, Katakana, ALetter, Lf, MidNumLet, MidLetter, MidNum, Newline, Numeric, RegionalIndicator, SingleQuote, WSegSpace, Other, Zwj}
+use Rattle.ucd_breaks.specs.declared.WordBreak.TheVariants.{Cr, DoubleQuote, ExtendNumLet, Extend, Format, HebrewLetter, Katakana, ALetter, MidNumLet, MidLetter, MidNum, Newline, Numeric, RegionalIndicator, SingleQuote, Other, Zwj}
 use Rattle.unicode_segmentation.specs.Word.{break_by_pair, is_ah_letter, is_hebrew_letter, is_numeric, is_regional, joins}
 use Rattle.lbk_words.specs.Contexts.{Context, context_after}
 use Rattle.lbk_words.specs.Rows.{answer_like, answer_number, answer_value, breaks_value, canonical, like_far, like_left, near}
@@ -60,70 +60,22 @@ like-breaks x value pict far =
     sym (ap₂ (λ o j. unwrap_or o (not (j || (x.half_flag && is_regional value)))) (near-pair x.last value pict)
     (like-ahead (like_far x.left x.far_left) (like_left x.left x.far_left) value far ∙ like-joins x.far_left x.left value far))
 
-left-again : (left far : WordBreak) → like_left (like_left left far) (like_far left far) ≡ like_left left far
-left-again MidLetter ALetter = refl
-left-again MidLetter _ = refl
-left-again MidNumLet ALetter = refl
-left-again MidNumLet _ = refl
-left-again SingleQuote ALetter = refl
-left-again SingleQuote _ = refl
-left-again MidNum ALetter = refl
-left-again MidNum _ = refl
-left-again DoubleQuote ALetter = refl
-left-again DoubleQuote _ = refl
-left-again _ far = refl
+-- a canonical pair of values is its own, and passes the tests that the left value passes
+abbrev tests : WordBreak → WordBreak → WordBreak × WordBreak × Bool × Bool × Bool
+tests left far = (like_left left far, like_far left far, is_ah_letter left, is_numeric left, is_hebrew_letter left)
 
-far-again : (left far : WordBreak) → like_far (like_left left far) (like_far left far) ≡ like_far left far
-far-again MidLetter ALetter = refl
-far-again MidLetter _ = refl
-far-again MidNumLet ALetter = refl
-far-again MidNumLet _ = refl
-far-again SingleQuote ALetter = refl
-far-again SingleQuote _ = refl
-far-again MidNum ALetter = refl
-far-again MidNum _ = refl
-far-again DoubleQuote ALetter = refl
-far-again DoubleQuote _ = refl
-far-again _ far = refl
-
-ah-like : (left far : WordBreak) → is_ah_letter (like_left left far) ≡ is_ah_letter left
-ah-like MidLetter ALetter = refl
-ah-like MidLetter _ = refl
-ah-like MidNumLet ALetter = refl
-ah-like MidNumLet _ = refl
-ah-like SingleQuote ALetter = refl
-ah-like SingleQuote _ = refl
-ah-like MidNum ALetter = refl
-ah-like MidNum _ = refl
-ah-like DoubleQuote ALetter = refl
-ah-like DoubleQuote _ = refl
-ah-like _ far = refl
-
-num-like : (left far : WordBreak) → is_numeric (like_left left far) ≡ is_numeric left
-num-like MidLetter ALetter = refl
-num-like MidLetter _ = refl
-num-like MidNumLet ALetter = refl
-num-like MidNumLet _ = refl
-num-like SingleQuote ALetter = refl
-num-like SingleQuote _ = refl
-num-like MidNum ALetter = refl
-num-like MidNum _ = refl
-num-like DoubleQuote ALetter = refl
-num-like DoubleQuote _ = refl
-num-like _ far = refl
-
-heb-like : (left far : WordBreak) → is_hebrew_letter (like_left left far) ≡ is_hebrew_letter left
-heb-like MidLetter ALetter = refl
-heb-like MidLetter _ = refl
-heb-like MidNumLet ALetter = refl
-heb-like MidNumLet _ = refl
-heb-like SingleQuote ALetter = refl
-heb-like SingleQuote _ = refl
-heb-like MidNum ALetter = refl
-heb-like MidNum _ = refl
-heb-like DoubleQuote ALetter = refl
-heb-like DoubleQuote _ = refl
-heb-like _ far = refl
+again : (left far : WordBreak) → tests (like_left left far) (like_far left far) ≡ tests left far
+again MidLetter ALetter = refl
+again MidLetter _ = refl
+again MidNumLet ALetter = refl
+again MidNumLet _ = refl
+again SingleQuote ALetter = refl
+again SingleQuote _ = refl
+again MidNum ALetter = refl
+again MidNum _ = refl
+again DoubleQuote ALetter = refl
+again DoubleQuote _ = refl
+again _ far = refl
 
 -- what is behind a left value counts by three tests
 left-tests : (value far behind : WordBreak) → is_ah_letter far ≡ is_ah_letter behind → is_numeric far ≡ is_numeric behind → is_hebrew_letter far ≡ is_hebrew_letter behind
@@ -147,74 +99,29 @@ far-tests _ far behind ah num heb = refl
 abbrev made : WordBreak → WordBreak → WordBreak → Bool → Context
 made last left far half = record { last = last; left = left; far_left = far; half_flag = half }
 
+-- a value that is not passed over stands on the left of the next
+like-kept : (x : Context) (value : WordBreak) → canonical (made value value (like_left x.left x.far_left) (is_regional value && not x.half_flag))
+    ≡ canonical (made value value x.left (is_regional value && not x.half_flag))
+like-kept x value =
+    let left = x.left in
+    let same = again left x.far_left in
+    let ah = ap (λ t. t.2) same in
+    let num = ap (λ t. t.3) same in
+    let heb = ap (λ t. t.4) same in
+    ap₂ (λ a b. made (near value) a b (is_regional value && not x.half_flag))
+    (left-tests value (like_left left x.far_left) left ah num heb) (far-tests value (like_left left x.far_left) left ah num heb)
+
+like-passed : (x : Context) (value : WordBreak) → canonical (made value (like_left x.left x.far_left) (like_far x.left x.far_left) x.half_flag)
+    ≡ canonical (made value x.left x.far_left x.half_flag)
+like-passed x value =
+    let same = again x.left x.far_left in
+    ap₂ (λ l f. made (near value) l f x.half_flag) (ap (λ t. t.0) same) (ap (λ t. t.1) same)
+
 pub like-after : (x : Context) (value : WordBreak) → canonical (context_after (canonical x) value) ≡ canonical (context_after x value)
-like-after x Cr =
-    let l = x.left in let f = x.far_left in
-    ap₂ (λ a b. made (near Cr) a b (is_regional Cr && not x.half_flag))
-    (left-tests Cr (like_left l f) l (ah-like l f) (num-like l f) (heb-like l f)) (far-tests Cr (like_left l f) l (ah-like l f) (num-like l f) (heb-like l f))
-like-after x DoubleQuote =
-    let l = x.left in let f = x.far_left in
-    ap₂ (λ a b. made (near DoubleQuote) a b (is_regional DoubleQuote && not x.half_flag))
-    (left-tests DoubleQuote (like_left l f) l (ah-like l f) (num-like l f) (heb-like l f)) (far-tests DoubleQuote (like_left l f) l (ah-like l f) (num-like l f) (heb-like l f))
-like-after x ExtendNumLet =
-    let l = x.left in let f = x.far_left in
-    ap₂ (λ a b. made (near ExtendNumLet) a b (is_regional ExtendNumLet && not x.half_flag))
-    (left-tests ExtendNumLet (like_left l f) l (ah-like l f) (num-like l f) (heb-like l f)) (far-tests ExtendNumLet (like_left l f) l (ah-like l f) (num-like l f) (heb-like l f))
-like-after x Extend = ap₂ (λ l f. made (near Extend) l f x.half_flag) (left-again x.left x.far_left) (far-again x.left x.far_left)
-like-after x Format = ap₂ (λ l f. made (near Format) l f x.half_flag) (left-again x.left x.far_left) (far-again x.left x.far_left)
-like-after x HebrewLetter =
-    let l = x.left in let f = x.far_left in
-    ap₂ (λ a b. made (near HebrewLetter) a b (is_regional HebrewLetter && not x.half_flag))
-    (left-tests HebrewLetter (like_left l f) l (ah-like l f) (num-like l f) (heb-like l f)) (far-tests HebrewLetter (like_left l f) l (ah-like l f) (num-like l f) (heb-like l f))
-like-after x Katakana =
-    let l = x.left in let f = x.far_left in
-    ap₂ (λ a b. made (near Katakana) a b (is_regional Katakana && not x.half_flag))
-    (left-tests Katakana (like_left l f) l (ah-like l f) (num-like l f) (heb-like l f)) (far-tests Katakana (like_left l f) l (ah-like l f) (num-like l f) (heb-like l f))
-like-after x ALetter =
-    let l = x.left in let f = x.far_left in
-    ap₂ (λ a b. made (near ALetter) a b (is_regional ALetter && not x.half_flag))
-    (left-tests ALetter (like_left l f) l (ah-like l f) (num-like l f) (heb-like l f)) (far-tests ALetter (like_left l f) l (ah-like l f) (num-like l f) (heb-like l f))
-like-after x Lf =
-    let l = x.left in let f = x.far_left in
-    ap₂ (λ a b. made (near Lf) a b (is_regional Lf && not x.half_flag))
-    (left-tests Lf (like_left l f) l (ah-like l f) (num-like l f) (heb-like l f)) (far-tests Lf (like_left l f) l (ah-like l f) (num-like l f) (heb-like l f))
-like-after x MidNumLet =
-    let l = x.left in let f = x.far_left in
-    ap₂ (λ a b. made (near MidNumLet) a b (is_regional MidNumLet && not x.half_flag))
-    (left-tests MidNumLet (like_left l f) l (ah-like l f) (num-like l f) (heb-like l f)) (far-tests MidNumLet (like_left l f) l (ah-like l f) (num-like l f) (heb-like l f))
-like-after x MidLetter =
-    let l = x.left in let f = x.far_left in
-    ap₂ (λ a b. made (near MidLetter) a b (is_regional MidLetter && not x.half_flag))
-    (left-tests MidLetter (like_left l f) l (ah-like l f) (num-like l f) (heb-like l f)) (far-tests MidLetter (like_left l f) l (ah-like l f) (num-like l f) (heb-like l f))
-like-after x MidNum =
-    let l = x.left in let f = x.far_left in
-    ap₂ (λ a b. made (near MidNum) a b (is_regional MidNum && not x.half_flag))
-    (left-tests MidNum (like_left l f) l (ah-like l f) (num-like l f) (heb-like l f)) (far-tests MidNum (like_left l f) l (ah-like l f) (num-like l f) (heb-like l f))
-like-after x Newline =
-    let l = x.left in let f = x.far_left in
-    ap₂ (λ a b. made (near Newline) a b (is_regional Newline && not x.half_flag))
-    (left-tests Newline (like_left l f) l (ah-like l f) (num-like l f) (heb-like l f)) (far-tests Newline (like_left l f) l (ah-like l f) (num-like l f) (heb-like l f))
-like-after x Numeric =
-    let l = x.left in let f = x.far_left in
-    ap₂ (λ a b. made (near Numeric) a b (is_regional Numeric && not x.half_flag))
-    (left-tests Numeric (like_left l f) l (ah-like l f) (num-like l f) (heb-like l f)) (far-tests Numeric (like_left l f) l (ah-like l f) (num-like l f) (heb-like l f))
-like-after x RegionalIndicator =
-    let l = x.left in let f = x.far_left in
-    ap₂ (λ a b. made (near RegionalIndicator) a b (is_regional RegionalIndicator && not x.half_flag))
-    (left-tests RegionalIndicator (like_left l f) l (ah-like l f) (num-like l f) (heb-like l f)) (far-tests RegionalIndicator (like_left l f) l (ah-like l f) (num-like l f) (heb-like l f))
-like-after x SingleQuote =
-    let l = x.left in let f = x.far_left in
-    ap₂ (λ a b. made (near SingleQuote) a b (is_regional SingleQuote && not x.half_flag))
-    (left-tests SingleQuote (like_left l f) l (ah-like l f) (num-like l f) (heb-like l f)) (far-tests SingleQuote (like_left l f) l (ah-like l f) (num-like l f) (heb-like l f))
-like-after x WSegSpace =
-    let l = x.left in let f = x.far_left in
-    ap₂ (λ a b. made (near WSegSpace) a b (is_regional WSegSpace && not x.half_flag))
-    (left-tests WSegSpace (like_left l f) l (ah-like l f) (num-like l f) (heb-like l f)) (far-tests WSegSpace (like_left l f) l (ah-like l f) (num-like l f) (heb-like l f))
-like-after x Other =
-    let l = x.left in let f = x.far_left in
-    ap₂ (λ a b. made (near Other) a b (is_regional Other && not x.half_flag))
-    (left-tests Other (like_left l f) l (ah-like l f) (num-like l f) (heb-like l f)) (far-tests Other (like_left l f) l (ah-like l f) (num-like l f) (heb-like l f))
-like-after x Zwj = ap₂ (λ l f. made (near Zwj) l f x.half_flag) (left-again x.left x.far_left) (far-again x.left x.far_left)
+like-after x Extend = like-passed x Extend
+like-after x Format = like-passed x Format
+like-after x Zwj = like-passed x Zwj
+like-after x value = like-kept x value
 
 pub answered : (far : WordBreak) → answer_value (answer_number far) ≡ answer_like far
 answered ALetter = refl
