@@ -121,16 +121,16 @@ filled-written text start begin count word out f some =
 
 -- one scalar more
 taken-by : (text : List ℕ) (start : ℕ) (part : Filling) (out : List Word) (c end : ℕ) (step : Step) (cuts : Bool) → IsFilling text start part out
-    → part.count < length out → IsReadAt text part.at c end → IsStep part.row c (value_at (significant (scalars_on text end)) 0) step → step.cuts ≡ cuts
-    → IsFilling text start (record { count = part.count + from_bool (cuts && row_word part.row); begin = cond cuts part.at part.begin; at = end; row = step.next })
-    (set out part.count (record { start = part.begin; end = part.at }))
+    → part.filled.count < length out → IsReadAt text part.at c end → IsStep part.row c (value_at (significant (scalars_on text end)) 0) step → step.cuts ≡ cuts
+    → IsFilling text start (record { filled = record { count = part.filled.count + from_bool (cuts && row_word part.row); at = cond cuts part.at part.filled.at }; at = end; row = step.next })
+    (set out part.filled.count (record { start = part.filled.at; end = part.at }))
 taken-by text start part out c end step true f some read is cuts = record {
-  filled = filled-part text start part.begin part.at part.count (row_word part.row) out f.filled some (row-ends text part.begin part.at part.row c end step f.reads read is cuts);
+  filled = filled-part text start part.filled.at part.at part.filled.count (row_word part.row) out f.filled some (row-ends text part.filled.at part.at part.row c end step f.reads read is cuts);
   reads = row-begins text part.at part.row c end step read is cuts;
 }
 taken-by text start part out c end step false f some read is cuts = record {
-  filled = filled-written text start part.begin part.count (record { start = part.begin; end = part.at }) out f.filled some;
-  reads = row-goes-on text part.begin part.at part.row c end step f.reads read is cuts;
+  filled = filled-written text start part.filled.at part.filled.count (record { start = part.filled.at; end = part.at }) out f.filled some;
+  reads = row-goes-on text part.filled.at part.at part.row c end step f.reads read is cuts;
 }
 
 begin-between : (cuts : Bool) (begin at : ℕ) → begin < at → (begin ≤ cond cuts at begin) × (cond cuts at begin ≤ at)
@@ -139,28 +139,28 @@ begin-between false begin at some = (omega arith, omega arith)
 
 -- the same from a boundary on
 pub filling-taken : (text : List ℕ) (from : Filled) (old : List Word) (part : Filling) (out : List Word) (c end : ℕ) (step : Step)
-    → FillsUpTo text from old part out → part.count < length out → IsReadAt text part.at c end
+    → FillsUpTo text from old part out → part.filled.count < length out → IsReadAt text part.at c end
     → IsStep part.row c (value_at (significant (scalars_on text end)) 0) step
-    → FillsUpTo text from old (record { count = part.count + from_bool step.counts; begin = cond step.cuts part.at part.begin; at = end; row = step.next })
-    (set out part.count (record { start = part.begin; end = part.at }))
+    → FillsUpTo text from old (record { filled = record { count = part.filled.count + from_bool step.counts; at = cond step.cuts part.at part.filled.at }; at = end; row = step.next })
+    (set out part.filled.count (record { start = part.filled.at; end = part.at }))
 filling-taken text from old part out c end step f some read is =
     let few = from_bool-few step.counts in
-    let size = length-set out part.count (record { start = part.begin; end = part.at }) in
-    let begin = begin-between step.cuts part.begin part.at f.some in
+    let size = length-set out part.filled.count (record { start = part.filled.at; end = part.at }) in
+    let begin = begin-between step.cuts part.filled.at part.at f.some in
     record {
       onward = (omega (arith, f.onward, begin), omega (arith, f.onward));
       within = (read.within, omega (arith, few, size));
       some = omega (arith, begin, read.grows);
       few = is.next;
       filling = λ start filled.
-          subst (λ b. IsFilling text start (record { count = part.count + from_bool b; begin = cond step.cuts part.at part.begin; at = end; row = step.next })
-          (set out part.count (record { start = part.begin; end = part.at }))) (sym is.counts)
+          subst (λ b. IsFilling text start (record { filled = record { count = part.filled.count + from_bool b; at = cond step.cuts part.at part.filled.at }; at = end; row = step.next })
+          (set out part.filled.count (record { start = part.filled.at; end = part.at }))) (sym is.counts)
           (taken-by text start part out c end step step.cuts (f.filling start filled) some read is refl);
     }
 
 -- the text ends with a part
-pub filling-ended : (text : List ℕ) (start : ℕ) (part : Filling) (out : List Word) → IsFilling text start part out → part.count < length out → length text ≤ part.at
-    → IsFilled text start part.at (part.count + from_bool (row_word part.row)) (set out part.count (record { start = part.begin; end = part.at }))
+pub filling-ended : (text : List ℕ) (start : ℕ) (part : Filling) (out : List Word) → IsFilling text start part out → part.filled.count < length out → length text ≤ part.at
+    → IsFilled text start part.at (part.filled.count + from_bool (row_word part.row)) (set out part.filled.count (record { start = part.filled.at; end = part.at }))
 filling-ended text start part out f some past =
-    filled-part text start part.begin part.at part.count (row_word part.row) out f.filled some
-    (walk-end text part.begin part.at f.reads.context (row_word part.row) f.reads.walk past)
+    filled-part text start part.filled.at part.at part.filled.count (row_word part.row) out f.filled some
+    (walk-end text part.filled.at part.at f.reads.context (row_word part.row) f.reads.walk past)

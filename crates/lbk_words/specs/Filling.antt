@@ -62,13 +62,13 @@ pub record IsNextStep (text : List ℕ) (row at : ℕ) (next : NextStep) : Type 
 
 -- a block is filled up to a part, of which these scalars have been read
 pub record IsFilling (text : List ℕ) (start : ℕ) (part : Filling) (out : List Word) : Type 0 where
-  pub filled : IsFilled text start part.begin part.count out
-  pub reads : IsInRow text part.begin part.at part.row
+  pub filled : IsFilled text start part.filled.at part.filled.count out
+  pub reads : IsInRow text part.filled.at part.at part.row
 
 -- from a boundary on, a block is filled up to such a part
 pub record FillsUpTo (text : List ℕ) (from : Filled) (old : List Word) (part : Filling) (new : List Word) : Type 0 where
-  pub onward : (from.at ≤ part.begin) × (from.count ≤ part.count)
-  pub within : (part.at ≤ length text) × (part.count ≤ length new)
-  pub some : part.begin < part.at
+  pub onward : (from.at ≤ part.filled.at) × (from.count ≤ part.filled.count)
+  pub within : (part.at ≤ length text) × (part.filled.count ≤ length new)
+  pub some : part.filled.at < part.at
   pub few : part.row < 43
   pub filling : (start : ℕ) → IsFilled text start from.at from.count old → IsFilling text start part new

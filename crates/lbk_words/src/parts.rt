@@ -14,10 +14,8 @@ use crate::word::{Filled, Word};
 /// How far a block is filled, and the part of the text that is being read.
 #[derive(Clone, Copy)]
 pub(crate) struct Filling {
-    /// How many words are in the front of the block.
-    pub(crate) count: usize,
-    /// The boundary at which the part begins.
-    pub(crate) begin: usize,
+    /// The words before the part, and the boundary at which it begins.
+    pub(crate) filled: Filled,
     /// The byte after the scalars of the part so far.
     pub(crate) at: usize,
     /// The row of the part so far.
@@ -32,16 +30,15 @@ pub(crate) fn fill_by_scalars(text: &[u8], here: Filled, stop: usize, out: &mut 
 {
     let first = scalar_at(text, here.at);
     let mut part = Filling {
-        count: here.count,
-        begin: here.at,
+        filled: here,
         at: first.end,
         row: first_row(first),
     };
-    'scalars: while part.count < out.len() && part.begin < stop && part.at < text.len() {
+    'scalars: while part.filled.count < out.len() && part.filled.at < stop && part.at < text.len() {
         let next = next_step(part.row, text, part.at);
         part = taken(part, next.step, next.end, out);
         let from = part.at;
-        'bytes: while part.count < out.len() && part.at < stop {
+        'bytes: while part.filled.count < out.len() && part.at < stop {
             let byte = text[part.at];
             if 0x80 <= byte {
                 break;
@@ -53,33 +50,32 @@ pub(crate) fn fill_by_scalars(text: &[u8], here: Filled, stop: usize, out: &mut 
             part = taken(part, step, part.at + 1, out);
         }
     }
-    if part.count < out.len() && part.begin < stop {
+    if part.filled.count < out.len() && part.filled.at < stop {
         return ended(part, out);
     }
-    Filled {
-        count: part.count,
-        at: part.begin,
-    }
+    part.filled
 }
 
 /// Takes one more scalar, which ends at a byte. It writes the part so far whether the part ends there or not, so that
 /// no branch depends on it.
 #[inline(always)]
 fn taken(part: Filling, step: Step, end: usize, out: &mut [Word]) -> Filling
-    requires { part.count < length out.old }
+    requires { part.filled.count < length out.old }
     ensures fills { (text : List ℕ) (from : Filled) (old : List Word) (code : ℕ)
         → FillsUpTo text from old part out.old → IsReadAt text part.at code end
         → IsStep part.row code (value_at (significant (scalars_on text end)) 0) step
         → FillsUpTo text from old result out.new }
     ensures at { result.at ≡ end }
 {
-    out[part.count] = Word {
-        start: part.begin,
+    out[part.filled.count] = Word {
+        start: part.filled.at,
         end: part.at,
     };
     Filling {
-        count: part.count + usize::from(step.counts),
-        begin: one_of(step.cuts, part.at, part.begin),
+        filled: Filled {
+            count: part.filled.count + usize::from(step.counts),
+            at: one_of(step.cuts, part.at, part.filled.at),
+        },
         at: end,
         row: step.next,
     }
@@ -88,18 +84,18 @@ fn taken(part: Filling, step: Step, end: usize, out: &mut [Word]) -> Filling
 /// Ends the part where the text ends.
 #[inline(always)]
 fn ended(part: Filling, out: &mut [Word]) -> Filled
-    requires { (part.count < length out.old) × (part.row < 43) }
+    requires { (part.filled.count < length out.old) × (part.row < 43) }
     ensures filled { (text : List ℕ) (start : ℕ) → IsFilling text start part out.old → length text ≤ part.at
         → IsFilled text start result.at result.count out.new }
     ensures at { result.at ≡ part.at }
-    ensures count { (part.count ≤ result.count) × (result.count ≤ part.count + 1) }
+    ensures count { (part.filled.count ≤ result.count) × (result.count ≤ part.filled.count + 1) }
 {
-    out[part.count] = Word {
-        start: part.begin,
+    out[part.filled.count] = Word {
+        start: part.filled.at,
         end: part.at,
     };
     Filled {
-        count: part.count + usize::from(is_word(part.row)),
+        count: part.filled.count + usize::from(is_word(part.row)),
         at: part.at,
     }
 }

@@ -8,6 +8,6 @@ use Rattle.lbk_words.proofs.parts.ended.Goals as goal
 pub returns-clause-filled : goal.returns-clause-filled
 returns-clause-filled c = λ text start f past.
     let part = c.args.part in
-    subst (λ n. IsFilled text start part.at (part.count + n) (set c.args.out.now part.count (record { start = part.begin; end = part.at })))
+    subst (λ n. IsFilled text start part.at (part.filled.count + n) (set c.args.out.now part.filled.count (record { start = part.filled.at; end = part.at })))
     (sym (c.from.ensures ∙ ap from_bool c.is_word.ensures))
     (filling-ended text start part c.args.out.now f c.requires.0 past)
