@@ -12,8 +12,9 @@ use Rattle.lbk_bytes.proofs.PieceLemmas.{pieces-on}
 -- A piece whose bytes are cut
 
 -- two bytes of three or four, and three of four, are one piece
-short_two : (b c d e : ℕ) → 0xE0 ≤ b → b ≤ 0xF4 → second b c ≡ true → (decoded_by 2 b c d e).size ≡ 2
-short_two b c d e low high follows = by-shape 2 b c d e
+short : (k b c d e : ℕ) → 2 ≤ k → k < 4 → 0xE0 ≤ b → b ≤ 0xF4 → second b c ≡ true → (2 < k → 0xF0 ≤ b) → (2 < k → continues d ≡ true)
+    → (decoded_by k b c d e).size ≡ k
+short k b c d e some few low high follows lead third = by-shape k b c d e
     (λ h. absurd (omega arith))
     (λ h. absurd (omega arith))
     (λ h. absurd (omega arith))
@@ -21,26 +22,10 @@ short_two b c d e low high follows = by-shape 2 b c d e
     (λ h. absurd (omega arith))
     (λ h. absurd (false≢true (sym h.3 ∙ follows)))
     (λ h. absurd (omega arith))
-    (λ h. ap (λ p. p.size) h.5)
-    (λ h. absurd (omega arith))
-    (λ h. absurd (omega arith))
-    (λ h. absurd (omega arith))
-    (λ h. absurd (omega arith))
-    (λ h. absurd (omega arith))
-
-short_three : (b c d e : ℕ) → 0xF0 ≤ b → b ≤ 0xF4 → second b c ≡ true → continues d ≡ true → (decoded_by 3 b c d e).size ≡ 3
-short_three b c d e low high follows third = by-shape 3 b c d e
-    (λ h. absurd (omega arith))
-    (λ h. absurd (omega arith))
-    (λ h. absurd (omega arith))
-    (λ h. absurd (omega arith))
-    (λ h. absurd (omega arith))
-    (λ h. absurd (false≢true (sym h.3 ∙ follows)))
-    (λ h. absurd (omega arith))
-    (λ h. absurd (omega arith))
-    (λ h. absurd (false≢true (sym h.4 ∙ third)))
-    (λ h. absurd (omega arith))
-    (λ h. ap (λ p. p.size) h.6)
+    (λ h. let size = ap (λ p. p.size) h.5 in omega arith)
+    (λ h. absurd (false≢true (sym h.4 ∙ third (omega arith))))
+    (λ h. absurd (let least = lead (omega arith) in omega arith))
+    (λ h. let size = ap (λ p. p.size) h.6 in omega arith)
     (λ h. absurd (omega arith))
     (λ h. absurd (omega arith))
 
@@ -48,20 +33,10 @@ module _ (k n b c d e c' d' e' : ℕ) (some : 0 < k) (below : k < (decoded_by n 
   one : k < 2 → (decoded_by k b c' d' e').size ≡ k
   one few = let bounds = size-bounds k b c' d' e' some in omega arith
 
-  two : 0xE0 ≤ b → b ≤ 0xF4 → second b c ≡ true → k < 3 → (decoded_by k b c' d' e').size ≡ k
-  two low high follows few =
-      ⊎_elim one (λ more.
-      let is : k ≡ 2 = omega arith in
-      subst (λ v. (decoded_by v b c' d' e').size ≡ v) (sym is) (short_two b c' d' e' low high (ap (second b) (c_is (omega arith)) ∙ follows)))
+  more : 0xE0 ≤ b → b ≤ 0xF4 → second b c ≡ true → k < 4 → (2 < k → 0xF0 ≤ b) → (2 < k → continues d ≡ true) → (decoded_by k b c' d' e').size ≡ k
+  more low high follows few lead third =
+      ⊎_elim one (λ some. short k b c' d' e' some few low high (ap (second b) (c_is (omega arith)) ∙ follows) lead (λ long. ap continues (d_is long) ∙ third long))
       (cases_lt k 2)
-
-  three : 0xF0 ≤ b → b ≤ 0xF4 → second b c ≡ true → continues d ≡ true → k < 4 → (decoded_by k b c' d' e').size ≡ k
-  three low high follows third few =
-      ⊎_elim (two (omega arith) high follows) (λ more.
-      let is : k ≡ 3 = omega arith in
-      subst (λ v. (decoded_by v b c' d' e').size ≡ v) (sym is)
-      (short_three b c' d' e' low high (ap (second b) (c_is (omega arith)) ∙ follows) (ap continues (d_is (omega arith)) ∙ third)))
-      (cases_lt k 3)
 
   -- some first bytes of a piece are one piece
   decoded_by-short : (decoded_by k b c' d' e').size ≡ k
@@ -75,10 +50,10 @@ module _ (k n b c d e c' d' e' : ℕ) (some : 0 < k) (below : k < (decoded_by n 
       (λ h. let size = ap (λ p. p.size) h.4 in one (omega arith))
       (λ h. let size = ap (λ p. p.size) h.5 in one (omega arith))
       (λ h. let size = ap (λ p. p.size) h.5 in one (omega arith))
-      (λ h. let size = ap (λ p. p.size) h.5 in two h.1 (omega arith) h.3 (omega arith))
-      (λ h. let size = ap (λ p. p.size) h.6 in two (omega arith) h.2 h.3 (omega arith))
-      (λ h. let size = ap (λ p. p.size) h.6 in two (omega arith) h.2 h.3 (omega arith))
-      (λ h. let size = ap (λ p. p.size) h.6 in three h.1 h.2 h.3 h.4 (omega arith))
+      (λ h. let size = ap (λ p. p.size) h.5 in more h.1 (omega arith) h.3 (omega arith) (λ long. absurd (omega arith)) (λ long. absurd (omega arith)))
+      (λ h. let size = ap (λ p. p.size) h.6 in more (omega arith) h.2 h.3 (omega arith) (λ _. h.1) (λ _. h.4))
+      (λ h. let size = ap (λ p. p.size) h.6 in more (omega arith) h.2 h.3 (omega arith) (λ _. h.1) (λ _. h.4))
+      (λ h. let size = ap (λ p. p.size) h.6 in more (omega arith) h.2 h.3 (omega arith) (λ _. h.1) (λ _. h.4))
 
 -- what follows a piece may go
 pub decoded-take : (bs : List ℕ) (k : ℕ) → 0 < k → k ≤ length bs → (decoded bs).size ≤ k → decoded (take k bs) ≡ decoded bs

@@ -1,6 +1,6 @@
 -- Where a part of a text may begin, told by the classes on both sides.
 use Rattle.std.proofs.Common.{◌≡◌, ℕ, ◌+◌, ◌-◌, ◌<◌, ◌≤◌, min, Bool, true, false, Option, List, [], ◌∷◌, ◌++◌, length, map, take, drop, refl, sym, ap, ap₂, subst, ◌∙◌, inr, ⊎_elim, arith, length-drop, length-take-le}
-use Rattle.std.proofs.lemmas.Bool.{false≢true}
+use Rattle.std.proofs.lemmas.Bool.{cases_lt, false≢true}
 use Rattle.std.proofs.lemmas.List.{map-append}
 use Rattle.bstr.specs.Utf8.{Decoded, IsLastPiece, decoded, lossy_chars, or_replacement, pieces}
 use Rattle.bstr.proofs.lemmas.PieceLemmas.{lossy_chars-last, lossy_chars-step}
@@ -13,7 +13,7 @@ use Rattle.lbk_rules.specs.declared.flat_table.FlatTable.{FlatTable}
 use Rattle.lbk_rules.specs.FlatTable.{AreFlatKinds}
 use Rattle.lbk_streams.specs.Cuts.{BeginsIn, CutsAfter, CutsBefore, EndsBefore, IsPieceStart, IsSafeCut, IsSafeIn, JoinsAt, JoinsIn}
 use Rattle.lbk_streams.specs.Looking.{LastIs, NextIs}
-use Rattle.lbk_streams.proofs.PieceStartLemmas.{StartsNext, none-within}
+use Rattle.lbk_streams.proofs.PieceStartLemmas.{StartsNext, last-begins, last-holds, none-within}
 use Rattle.lbk_streams.proofs.JoinLemmas.{joins-at}
 
 pub must_end_between-snoc : (cell : ℕ → Cell) (front : List ℕ) (x y : ℕ) (more : List ℕ)
@@ -79,6 +79,13 @@ found text end char size some within last =
     let l = last (omega (arith, length-take-le end text within)) in
     record { of = l.0; char_is = l.1; last = l.2 }
 
+-- and where it begins
+pub found-starts : (text : List ℕ) (end char size : ℕ) → end ≤ length text → Found text end char size
+    → IsPieceStart text (end - size) × (end ≤ (end - size) + (decoded (drop (end - size) text)).size)
+found-starts text end char size within f =
+    let r : Decoded = record { char = f.of; size = size } in
+    (last-begins text end r within f.last, last-holds text end r within f.last)
+
 pub found-last : (cell : ℕ → Cell) (text : List ℕ) (end char size : ℕ) (class : Class) → Found text end char size → class ≡ (cell char).class → LastIs cell text end class
 found-last cell text end char size class f is = record {
   front = lossy_chars (take (length (take end text) - size) (take end text));
@@ -95,11 +102,20 @@ joins-safe profile cell text place some inside safe =
     ⊎_elim (λ start. absurd (let no : ⊥ = omega arith in no))
     (⊎_elim (λ end. absurd (let no : ⊥ = omega arith in no)) (joins-at profile cell text place within)) safe
 
+-- what holds of a place before another, there and behind it
+pub at-each : (P : ℕ → Type 0) (at place : ℕ) → P at → (place < at → P place) → (at < place → P place) → P place
+at-each P at place here before behind =
+    ⊎_elim before
+    (λ from. ⊎_elim behind (λ up. let is : place ≡ at = omega arith in subst P (sym is) here) (cases_lt at place))
+    (cases_lt place at)
+
 -- nor may one begin where a look at the place says so
 pub unsafe-here : (pieces_of : List ℕ → List Decoded) (cell : ℕ → Cell) (text : List ℕ) (at place : ℕ) (may : Bool) → may ≡ false
-    → (IsSafeIn pieces_of cell text at → may ≡ true) → place ≡ at → ¬ (IsSafeIn pieces_of cell text place)
-unsafe-here pieces_of cell text at place may stays told is =
-    subst (λ n. ¬ (IsSafeIn pieces_of cell text n)) (sym is) (λ holds. false≢true (sym stays ∙ told holds))
+    → (IsSafeIn pieces_of cell text at → may ≡ true)
+    → (place < at → ¬ (IsSafeIn pieces_of cell text place)) → (at < place → ¬ (IsSafeIn pieces_of cell text place))
+    → ¬ (IsSafeIn pieces_of cell text place)
+unsafe-here pieces_of cell text at place may stays told =
+    at-each (λ n. ¬ (IsSafeIn pieces_of cell text n)) at place (λ holds. false≢true (sym stays ∙ told holds))
 
 -- What a call promises that cuts a text, by what it found
 

@@ -1,11 +1,10 @@
-use Rattle.std.proofs.Common.{◌≡◌, ◌+◌, ◌<◌, ℕ, length, refl, subst, sym, ◌∙◌, inl, inr, ⊎_elim, arith}
-use Rattle.std.proofs.lemmas.Bool.{cases_lt}
+use Rattle.std.proofs.Common.{◌+◌, ◌<◌, ℕ, length, refl, subst, sym, ◌∙◌, inl, inr, arith}
 use Rattle.bstr.specs.Utf8.{pieces}
 use Rattle.lbk_bytes.proofs.PieceLemmas.{piece-within}
 use Rattle.lbk_streams.specs.Cuts.{IsPieceStart, IsSafeCut}
 use Rattle.lbk_streams.specs.Looking.{LastIs}
 use Rattle.lbk_streams.proofs.PieceStartLemmas.{starts_first, starts_last, starts_next}
-use Rattle.lbk_streams.proofs.SafeLemmas.{cuts-after, joins-safe, last-next, safe, unsafe-between, unsafe-within}
+use Rattle.lbk_streams.proofs.SafeLemmas.{at-each, cuts-after, joins-safe, last-next, safe, unsafe-between, unsafe-within}
 use Rattle.lbk_streams.proofs.safe_cuts.cut.Goals as goal
 
 pub returns-then-text-at : goal.returns-then-text-at
@@ -80,16 +79,11 @@ loop-place-preserved c =
       begins = subst (λ (n : ℕ). IsPieceStart text (at + n)) (sym size) next.begins;
       last = λ cell are_kinds. subst (λ (n : ℕ). LastIs cell text (at + n) class) (sym size) (last-next cell text at class next (c.class_at-next.ensures.class cell are_kinds));
       none = λ cell place are_kinds later before.
-          ⊎_elim (λ earlier. l.invariant.none cell place are_kinds later earlier)
-          (λ not_earlier. ⊎_elim
-          (λ behind. unsafe-within cell text at place behind (omega (arith, bounds.1, size)) (omega (arith, size)) l.invariant.begins)
-          (λ not_behind.
-          let is : place ≡ at = omega arith in
-          subst (λ (n : ℕ). ¬ (IsSafeCut cell text n)) (sym is)
+          at-each (λ (n : ℕ). ¬ (IsSafeCut cell text n)) at place
           (unsafe-between cell text at l.last class (omega (arith, l.invariant.behind)) inside (l.invariant.last cell are_kinds) (c.class_at-next.ensures.class cell are_kinds)
-          (sym c.must_end.ensures ∙ c.if-must_end.false)))
-          (cases_lt at place))
-          (cases_lt place at);
+          (sym c.must_end.ensures ∙ c.if-must_end.false))
+          (λ earlier. l.invariant.none cell place are_kinds later earlier)
+          (λ behind. unsafe-within cell text at place behind (omega (arith, bounds.1, size)) (omega (arith, size)) l.invariant.begins);
     }
 
 pub returns : goal.returns

@@ -1,9 +1,8 @@
-use Rattle.std.proofs.Common.{◌≡◌, ◌-◌, ℕ, length, refl, subst, sym, ◌∙◌, inl, inr, ⊎_elim, arith}
-use Rattle.std.proofs.lemmas.Bool.{cases_lt}
+use Rattle.std.proofs.Common.{◌-◌, ℕ, length, refl, sym, ◌∙◌, inl, inr, arith}
 use Rattle.bstr.specs.Utf8.{pieces}
 use Rattle.lbk_streams.specs.Cuts.{IsSafeCut}
 use Rattle.lbk_streams.proofs.PieceStartLemmas.{starts_first, starts_last}
-use Rattle.lbk_streams.proofs.SafeLemmas.{cuts-before, joins-safe, safe, unsafe-between, unsafe-within}
+use Rattle.lbk_streams.proofs.SafeLemmas.{at-each, cuts-before, joins-safe, safe, unsafe-between, unsafe-within}
 use Rattle.lbk_streams.proofs.safe_cuts.cut_before.Goals as goal
 
 pub returns-then-text-at : goal.returns-then-text-at
@@ -51,16 +50,11 @@ loop-place-preserved c =
       begins = found.begins;
       next = found.first;
       none = λ cell place are_kinds later before.
-          ⊎_elim (λ behind. l.invariant.none cell place are_kinds behind before)
-          (λ not_behind. ⊎_elim
-          (λ earlier. unsafe-within cell text start place later (omega arith) (omega arith) found.begins)
-          (λ not_earlier.
-          let is : place ≡ at = omega arith in
-          subst (λ (n : ℕ). ¬ (IsSafeCut cell text n)) (sym is)
+          at-each (λ (n : ℕ). ¬ (IsSafeCut cell text n)) at place
           (unsafe-between cell text at c.class_before-last.result.0 l.next c.loop-place-test.true (omega arith) (found.last cell are_kinds) (l.invariant.next cell are_kinds)
-          (sym c.must_end.ensures ∙ c.if-must_end.false)))
-          (cases_lt place at))
-          (cases_lt at place);
+          (sym c.must_end.ensures ∙ c.if-must_end.false))
+          (λ earlier. unsafe-within cell text start place later (omega arith) (omega arith) found.begins)
+          (λ behind. l.invariant.none cell place are_kinds behind before);
     }
 
 pub returns : goal.returns

@@ -1,5 +1,4 @@
-use Rattle.std.proofs.Common.{length, refl, inr, inl, ⊎_elim, arith}
-use Rattle.std.proofs.lemmas.Bool.{cases_lt}
+use Rattle.std.proofs.Common.{length, refl, inr, inl, arith}
 use Rattle.lbk_units.specs.Units.{pieces_of_utf16}
 use Rattle.lbk_streams.proofs.PairLemmas.{begins-apart, begins-last, joins-pair}
 use Rattle.lbk_streams.proofs.SafeLemmas.{cuts-before, unsafe-here}
@@ -17,10 +16,8 @@ loop-place-preserved c =
     record {
       before = omega (arith, l.invariant.before);
       none = λ cell place are_kinds later from.
-          ⊎_elim (λ behind. l.invariant.none cell place are_kinds behind from)
-          (λ not_behind.
-          unsafe-here pieces_of_utf16 cell c.args.text.now l.place place c.may_begin.result c.if-may_begin.false (c.may_begin.ensures.safe cell are_kinds).1 (omega arith))
-          (cases_lt l.place place);
+          unsafe-here pieces_of_utf16 cell c.args.text.now l.place place c.may_begin.result c.if-may_begin.false (c.may_begin.ensures.safe cell are_kinds).1
+          (λ earlier. absurd (omega arith)) (λ behind. l.invariant.none cell place are_kinds behind from);
     }
 
 pub returns-then-may_begin : goal.returns-then-may_begin

@@ -1,5 +1,5 @@
-use Rattle.std.proofs.Common.{◌≡◌, length, refl, subst, sym, ◌∙◌, inr, inl, ⊎_elim, arith}
-use Rattle.std.proofs.lemmas.Bool.{cases_lt, false≢true}
+use Rattle.std.proofs.Common.{◌≡◌, length, refl, subst, sym, ◌∙◌, inr, inl, arith}
+use Rattle.std.proofs.lemmas.Bool.{false≢true}
 use Rattle.lbk_units.specs.Units.{pieces_of_utf16}
 use Rattle.lbk_streams.specs.Cuts.{BeginsIn}
 use Rattle.lbk_streams.proofs.PairLemmas.{begins-last, joins-pair}
@@ -20,10 +20,8 @@ loop-place-preserved c =
       behind = omega (arith, l.invariant.behind);
       start = λ first. absurd (false≢true (sym c.if-may_begin.false ∙ c.may_begin.ensures.start (l.invariant.start first)));
       none = λ cell place are_kinds from before.
-          ⊎_elim (λ earlier. l.invariant.none cell place are_kinds from earlier)
-          (λ not_earlier.
-          unsafe-here pieces_of_utf16 cell c.args.text.now l.place place c.may_begin.result c.if-may_begin.false (c.may_begin.ensures.safe cell are_kinds).1 (omega arith))
-          (cases_lt place l.place);
+          unsafe-here pieces_of_utf16 cell c.args.text.now l.place place c.may_begin.result c.if-may_begin.false (c.may_begin.ensures.safe cell are_kinds).1
+          (λ earlier. l.invariant.none cell place are_kinds from earlier) (λ behind. absurd (omega arith));
     }
 
 pub returns-then-may_begin : goal.returns-then-may_begin
