@@ -16,7 +16,7 @@ use Rattle.lbk_notation.specs.TestLine.{Line, made}
 use Rattle.lbk_notation.specs.Grammar.{IsBlank, IsGap, mark_bytes, Has, digit_byte, token_bytes, number_of, IsToken, IsEnd, IsAfter, last, more, IsLine, no_line, line}
 use Rattle.lbk_notation.specs.Run.{step_of, sort_of, marking, comment_step, digits_step, takes_digit, is_scalar, can_end, run, run_line}
 use Rattle.lbk_notation.proofs.Runs.{run_taken, run_step}
-use Rattle.lbk_notation.proofs.Sorts.{sort-space, sort-digit, sort-lead, sort-times, sort-division, sort-exclamation, sort-return, sort-hash, sort-no-line-feed}
+use Rattle.lbk_notation.proofs.Sorts.{sort-space, sort-digit, sign-sorts, sort-no-line-feed}
 
 -- at whatever place, the run over these bytes answers the value
 abbrev pub Gives : Form → State → List ℕ → List Mark → List ℕ → Option Line → Type 0
@@ -58,10 +58,10 @@ pub ends : (form : Form) (state : State) (scalars : List ℕ) (marks : List Mark
 ends form state scalars marks [] can return hash end =
     λ place. cond-true (can_end state) (Ok (made scalars marks)) (Err place) can
 ends form state scalars marks (byte ∷ bytes) can return hash (inl (is, nothing)) =
-    take_byte form state (On Ended) scalars marks byte bytes (made scalars marks) (ap (λ b. step_of form state (sort_of b)) is ∙ ap (step_of form state) sort-return ∙ return)
+    take_byte form state (On Ended) scalars marks byte bytes (made scalars marks) (ap (λ b. step_of form state (sort_of b)) is ∙ ap (step_of form state) sign-sorts.returns ∙ return)
     (λ place. ap (run form Ended (place + 1) scalars marks) nothing)
 ends form state scalars marks (byte ∷ bytes) can return hash (inr (is, none)) =
-    take_byte form state (On Comment) scalars marks byte bytes (made scalars marks) (ap (λ b. step_of form state (sort_of b)) is ∙ ap (step_of form state) sort-hash ∙ hash)
+    take_byte form state (On Comment) scalars marks byte bytes (made scalars marks) (ap (λ b. step_of form state (sort_of b)) is ∙ ap (step_of form state) sign-sorts.hash ∙ hash)
     (λ place. comments form scalars marks bytes none (place + 1))
 
 -- ws+ behind a mark
@@ -77,13 +77,13 @@ pub marked : (form : Form) (state : State) (scalars : List ℕ) (marks : List Ma
     → step_of form state Lead ≡ On Half → step_of form state Exclamation ≡ marking form Exclamation → Has form mark
     → Gives form Marked scalars (marks ++ mark ∷ []) rest value → Gives form state scalars marks (mark_bytes mark ++ rest) value
 marked form state scalars marks No rest value lead exclamation has gives =
-    take_byte form state (On Half) scalars marks 0xC3 (0x97 ∷ rest) value (ap (step_of form state) sort-lead ∙ lead)
-    (λ place. take_byte form Half (OneMark No) scalars marks 0x97 rest value (ap (step_of form Half) sort-times) (λ p. gives (p + 1)) (place + 1))
+    take_byte form state (On Half) scalars marks 0xC3 (0x97 ∷ rest) value (ap (step_of form state) sign-sorts.lead ∙ lead)
+    (λ place. take_byte form Half (OneMark No) scalars marks 0x97 rest value (ap (step_of form Half) sign-sorts.times) (λ p. gives (p + 1)) (place + 1))
 marked form state scalars marks May rest value lead exclamation has gives =
-    take_byte form state (On Half) scalars marks 0xC3 (0xB7 ∷ rest) value (ap (step_of form state) sort-lead ∙ lead)
-    (λ place. take_byte form Half (OneMark May) scalars marks 0xB7 rest value (ap (step_of form Half) sort-division) (λ p. gives (p + 1)) (place + 1))
+    take_byte form state (On Half) scalars marks 0xC3 (0xB7 ∷ rest) value (ap (step_of form state) sign-sorts.lead ∙ lead)
+    (λ place. take_byte form Half (OneMark May) scalars marks 0xB7 rest value (ap (step_of form Half) sign-sorts.division) (λ p. gives (p + 1)) (place + 1))
 marked Kinds state scalars marks Must rest value lead exclamation has gives =
-    take_byte Kinds state (OneMark Must) scalars marks 33 rest value (ap (step_of Kinds state) sort-exclamation ∙ exclamation) (λ place. gives (place + 1))
+    take_byte Kinds state (OneMark Must) scalars marks 33 rest value (ap (step_of Kinds state) sign-sorts.exclamation ∙ exclamation) (λ place. gives (place + 1))
 marked Plain state scalars marks Must rest value lead exclamation has gives = elim has [ ]
 
 -- a digit that may follow

@@ -73,6 +73,23 @@ label-short : (rule : Rule) → length (label_of rule) ≤ 3
 label-short Lb2 = lit≤ tt
 label-short _ = lit≤ tt
 
+-- a mark with what stands behind it, and its rule's number with those behind it
+marks_short : (scalars : List ℕ) (verdict : Verdict) (verdicts : List Verdict)
+    → length (written_after Kinds scalars (map (λ (v : Verdict). mark_of v.kind) verdicts)) + length (written_labels verdicts)
+    ≤ 12 * length (encode_utf8_all scalars)
+    → length (written_marks Kinds scalars (map (λ (v : Verdict). mark_of v.kind) (verdict ∷ verdicts))) + length (written_labels (verdict ∷ verdicts))
+    ≤ 12 * length (encode_utf8_all scalars) + 6
+marks_short scalars verdict verdicts rest =
+    let mark = shown Kinds (mark_of verdict.kind) in
+    let behind = written_after Kinds scalars (map (λ (v : Verdict). mark_of v.kind) verdicts) in
+    omega (
+      arith,
+      mark-short mark,
+      label-short verdict.rule,
+      length-append (mark_bytes mark) behind,
+      length-append (label_of verdict.rule) (written_labels verdicts),
+    )
+
 -- behind the first mark
 short_after : (scalars : List ℕ) (verdicts : List Verdict) → length verdicts ≡ length scalars
     → length (written_after Kinds scalars (map (λ (v : Verdict). mark_of v.kind) verdicts)) + length (written_labels verdicts)
@@ -81,18 +98,12 @@ short_after [] [] e = omega arith
 short_after [] (verdict ∷ verdicts) e = absurd (omega arith)
 short_after (scalar ∷ scalars) [] e = absurd (omega arith)
 short_after (scalar ∷ scalars) (verdict ∷ verdicts) e =
-    let mark = mark_bytes (shown Kinds (mark_of verdict.kind)) in
-    let behind = written_after Kinds scalars (map (λ (v : Verdict). mark_of v.kind) verdicts) in
-    let rest = short_after scalars verdicts (omega arith) in
+    let marks = written_marks Kinds scalars (map (λ (v : Verdict). mark_of v.kind) (verdict ∷ verdicts)) in
     omega (
       arith,
-      rest,
+      marks_short scalars verdict verdicts (short_after scalars verdicts (omega arith)),
       token-short scalar,
-      mark-short (shown Kinds (mark_of verdict.kind)),
-      label-short verdict.rule,
-      length-append (token scalar) (32 ∷ (mark ++ behind)),
-      length-append mark behind,
-      length-append (label_of verdict.rule) (written_labels verdicts),
+      length-append (token scalar) (32 ∷ marks),
       length-append (encode_utf8 scalar) (encode_utf8_all scalars),
     )
 
@@ -100,17 +111,11 @@ pub short : (scalars : List ℕ) (verdicts : List Verdict) → length verdicts �
     → length (passage_line scalars verdicts) ≤ 12 * length (encode_utf8_all scalars) + 8
 short scalars [] e = absurd (omega arith)
 short scalars (verdict ∷ verdicts) e =
-    let mark = mark_bytes (shown Kinds (mark_of verdict.kind)) in
-    let behind = written_after Kinds scalars (map (λ (v : Verdict). mark_of v.kind) verdicts) in
-    let rest = short_after scalars verdicts (omega arith) in
+    let marks = written_marks Kinds scalars (map (λ (v : Verdict). mark_of v.kind) (verdict ∷ verdicts)) in
     omega (
       arith,
-      rest,
-      mark-short (shown Kinds (mark_of verdict.kind)),
-      label-short verdict.rule,
-      length-append (mark ++ behind) (9 ∷ 35 ∷ written_labels (verdict ∷ verdicts)),
-      length-append mark behind,
-      length-append (label_of verdict.rule) (written_labels verdicts),
+      marks_short scalars verdict verdicts (short_after scalars verdicts (omega arith)),
+      length-append marks (9 ∷ 35 ∷ written_labels (verdict ∷ verdicts)),
     )
 
 -- a tab and a comment behind a written line

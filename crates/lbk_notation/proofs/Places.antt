@@ -13,7 +13,7 @@ use Rattle.lbk_notation.specs.Place.{IsBytes, IsViable, IsOutside, IsPlace}
 use Rattle.lbk_notation.specs.Run.{IsGood, IsOpen, step_of, sort_of, takes_digit, is_scalar, can_end, run, run_line}
 use Rattle.lbk_notation.proofs.Completes.{Gives, take_byte, token_off, digit_on, marked, complete}
 use Rattle.lbk_notation.proofs.Runs.{IsGoodTaken, run_taken, run_step, good_step}
-use Rattle.lbk_notation.proofs.Sorts.{sorted, sort-times}
+use Rattle.lbk_notation.proofs.Sorts.{sorted, sign-sorts}
 use Rattle.lbk_notation.proofs.Sound.{sound}
 
 -- bytes with which a line may end, from a state
@@ -104,7 +104,7 @@ goes form Half scalars marks good = record {
   more = 0x97 ∷ [];
   bytes_more = (lit< tt, tt);
   value = made scalars (marks ++ No ∷ []);
-  gives = take_byte form Half (OneMark No) scalars marks 0x97 [] (made scalars (marks ++ No ∷ [])) (ap (step_of form Half) sort-times) (λ place. refl);
+  gives = take_byte form Half (OneMark No) scalars marks 0x97 [] (made scalars (marks ++ No ∷ [])) (ap (step_of form Half) sign-sorts.times) (λ place. refl);
 }
 goes form (Digits count number) scalars marks good = goes_digits form count number scalars marks good
 goes form Coded scalars marks good = goes_coded form scalars marks

@@ -91,29 +91,18 @@ sort-digit (suc (suc (suc (suc (suc (suc (suc (suc (suc (suc (suc (suc (suc (suc
 sort-digit (suc (suc (suc (suc (suc (suc (suc (suc (suc (suc (suc (suc (suc (suc (suc zero))))))))))))))) small = refl
 sort-digit (suc (suc (suc (suc (suc (suc (suc (suc (suc (suc (suc (suc (suc (suc (suc (suc more)))))))))))))))) small = absurd (omega arith)
 
-pub sort-lead : sort_of 0xC3 ≡ Lead
-unfolding sort_of
-sort-lead = refl
+-- a sort of one byte, of each of those that a rule of the reader names
+pub record SignSorts : Type 0 where
+  pub lead : sort_of 0xC3 ≡ Lead
+  pub times : sort_of 0x97 ≡ Times
+  pub division : sort_of 0xB7 ≡ Division
+  pub exclamation : sort_of 33 ≡ Exclamation
+  pub returns : sort_of 13 ≡ Return
+  pub hash : sort_of 35 ≡ Hash
 
-pub sort-times : sort_of 0x97 ≡ Times
+pub sign-sorts : SignSorts
 unfolding sort_of
-sort-times = refl
-
-pub sort-division : sort_of 0xB7 ≡ Division
-unfolding sort_of
-sort-division = refl
-
-pub sort-exclamation : sort_of 33 ≡ Exclamation
-unfolding sort_of
-sort-exclamation = refl
-
-pub sort-return : sort_of 13 ≡ Return
-unfolding sort_of
-sort-return = refl
-
-pub sort-hash : sort_of 35 ≡ Hash
-unfolding sort_of
-sort-hash = refl
+sign-sorts = record { lead = refl; times = refl; division = refl; exclamation = refl; returns = refl; hash = refl }
 
 -- a byte that is no LF is of another sort
 pub sort-no-line-feed : (byte : ℕ) → sort_of byte ≡ LineFeed → byte ≡ 10
@@ -122,7 +111,3 @@ sort-no-line-feed byte e = go (sort_of byte) (sorted byte) e
     go : (s : Sort) → Sorted byte s → s ≡ LineFeed → byte ≡ 10
     go LineFeed is e = is
     go _ is e = cc
-
-pub sort-line-feed : sort_of 10 ≡ LineFeed
-unfolding sort_of
-sort-line-feed = refl

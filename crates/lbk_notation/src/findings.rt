@@ -7,7 +7,7 @@ ghost use Rattle.lbk_notation.specs.declared.findings.ReplayFault.TheVariants.{M
 use super::marks::Mark;
 use lbk_feed::TEXT_MAX;
 use lbk_rules::Verdict;
-use std::alloc::{AllocError, AllocFailed};
+use std::alloc::AllocError;
 
 /// How a line of a break test compares with the rules (UAX #14, section 6).
 #[derive(Clone, Copy, Debug, PartialEq, Eq)]
@@ -66,14 +66,6 @@ impl From<AllocError> for ReplayFault {
     ghost from_gives = { λ _ fault. fault ≡ Memory };
 
     fn from(_refused: AllocError) -> ReplayFault {
-        ReplayFault::Memory
-    }
-}
-
-impl<T: Drop> From<AllocFailed<T>> for ReplayFault {
-    ghost from_gives = { λ _ fault. fault ≡ Memory };
-
-    fn from(_refused: AllocFailed<T>) -> ReplayFault {
         ReplayFault::Memory
     }
 }
