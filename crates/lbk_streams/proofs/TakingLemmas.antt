@@ -1,10 +1,11 @@
 -- Steps one after another, and what calls do that take units of a piece.
-use Rattle.std.proofs.Common.{◌≡◌, ℕ, ◌+◌, ◌%◌, ◌^◌, ◌≤◌, Bool, true, false, cond, List, length, sym, ap, ◌∙◌, arith}
+use Rattle.std.proofs.Common.{◌≡◌, ℕ, ◌+◌, ◌%◌, ◌^◌, ◌<◌, ◌≤◌, Bool, true, false, cond, List, length, sym, ap, ◌∙◌, arith}
 use Rattle.std.proofs.lemmas.Bool.{false≢true}
 use Rattle.bstr.specs.Utf8.{Decoded}
 use Rattle.lbk_rules.specs.declared.flat_table.FlatTable.{FlatTable}
 use Rattle.lbk_values.specs.declared.profile.Profile.{Profile}
 use Rattle.lbk_bytes.specs.declared.raw_break.RawBreak.{RawBreak}
+use Rattle.lbk_streams.specs.declared.stream.Cut.{Cut}
 use Rattle.lbk_streams.specs.declared.stream.Feeding.{Feeding}
 use Rattle.lbk_streams.specs.declared.stream.StreamPosition.{StreamPosition}
 use Rattle.lbk_streams.specs.declared.taking.Step.{Step}
@@ -44,6 +45,45 @@ Steps-then size old mid new count place met step long none s t =
           t.placed from (λ is. let fit = fits is in (fit.0, omega (arith, fit.1, at)))
           (s.placed from (λ is. absurd (false≢true (sym none ∙ is))) p);
     }
+
+-- a call after a step that leaves these units cut, where so many units more are taken as scalars
+Takes-step : {A : Type 0} (widest end size moved : ℕ) (old : List RawBreak) (here : Feeding A) (new : List RawBreak) (step : Step) (cut : Cut A) (taken : ℕ)
+    → Steps size old here.count here.place new step → taken_by step ≤ moved
+    → (here.place.at + moved < 2 ^ 64 → step.place.at ≡ here.place.at + moved)
+    → (here.place.at + moved < 2 ^ 64 → step.passed ≡ true → (0 < size) × (here.place.at + size < 2 ^ 64))
+    → cut.size ≤ widest → taken ≤ end → cut.size + here.taken + moved ≡ here.cut.size + taken
+    → Takes widest end old here new (record { place = step.place; cut = cut; taken = taken; count = step.count })
+Takes-step widest end size moved old here new step cut taken s least at fits narrow within left = record {
+  cut = narrow;
+  room = s.within.1;
+  breaks = s.breaks;
+  counted = omega (arith, s.few);
+  ordered = λ base from short o.
+      let seen = o.seen in
+      let below : here.place.at + moved < 2 ^ 64 = omega arith in
+      let next = at below in
+      record { seen = omega arith; placed = s.placed from (fits below) o.placed };
+}
+
+-- where it takes the scalar, and where it does not
+pub Takes-one : {A : Type 0} (widest end size : ℕ) (old : List RawBreak) (here : Feeding A) (new : List RawBreak) (step : Step) (cut : Cut A) (taken : ℕ)
+    → Steps size old here.count here.place new step → step.passed ≡ true → 0 < size
+    → cut.size ≤ widest → taken ≤ end → cut.size + here.taken + size ≡ here.cut.size + taken
+    → Takes widest end old here new (record { place = step.place; cut = cut; taken = taken; count = step.count })
+Takes-one widest end size old here new step cut taken s passed some =
+    let one = takes-one step passed in
+    let at = s.at ∙ ap (λ b. cond b ((here.place.at + size) % 2 ^ 64) here.place.at) passed in
+    Takes-step widest end size size old here new step cut taken s (omega arith) (λ below. omega arith) (λ below _. (some, below))
+
+pub Takes-none : {A : Type 0} (widest end size : ℕ) (old : List RawBreak) (here : Feeding A) (new : List RawBreak) (step : Step) (cut : Cut A) (taken : ℕ)
+    → Steps size old here.count here.place new step → step.passed ≡ false
+    → cut.size ≤ widest → taken ≤ end → cut.size + here.taken ≡ here.cut.size + taken
+    → Takes widest end old here new (record { place = step.place; cut = cut; taken = taken; count = step.count })
+Takes-none widest end size old here new step cut taken s stays narrow within left =
+    let none = takes-none step stays in
+    let at = s.at ∙ ap (λ b. cond b ((here.place.at + size) % 2 ^ 64) here.place.at) stays in
+    Takes-step widest end size 0 old here new step cut taken s (omega arith) (λ below. omega arith) (λ below is. absurd (false≢true (sym stays ∙ is)))
+    narrow within (omega arith)
 
 -- up to a later unit
 pub Takes-wider : {A : Type 0} (widest low high : ℕ) (old : List RawBreak) (start : Feeding A) (new : List RawBreak) (result : Feeding A)

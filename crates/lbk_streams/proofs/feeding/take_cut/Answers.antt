@@ -1,5 +1,4 @@
-use Rattle.std.proofs.Common.{◌≡◌, ◌⊎◌, ℕ, ◌+◌, ◌%◌, ◌^◌, ◌<◌, ◌++◌, [], List, false, cond, drop, sym, ap, subst, ◌∙◌, ⊎_elim, length-take-le, arith}
-use Rattle.std.proofs.lemmas.Bool.{false≢true}
+use Rattle.std.proofs.Common.{◌≡◌, ◌⊎◌, ℕ, ◌++◌, [], List, false, drop, sym, subst, ⊎_elim, length-take-le, arith}
 use Rattle.std.proofs.lemmas.List.{append-nil}
 use Rattle.lbk_rules.specs.declared.Cell.{Cell}
 use Rattle.lbk_rules.specs.FlatTable.{IsFlatOf}
@@ -7,7 +6,7 @@ use Rattle.lbk_bytes.specs.Shown.{given_in}
 use Rattle.lbk_units.specs.Front.{IsFront}
 use Rattle.lbk_streams.specs.Stands.{Ahead, Feeds, front_of, listed}
 use Rattle.lbk_streams.proofs.FeedLemmas.{Feeds-cut, Feeds-stay, IsTaken, is-taken}
-use Rattle.lbk_streams.proofs.TakingLemmas.{takes-none, takes-one}
+use Rattle.lbk_streams.proofs.TakingLemmas.{Takes-none, Takes-one}
 use Rattle.lbk_streams.proofs.feeding.take_cut.Given.{Over}
 use Rattle.lbk_streams.proofs.feeding.take_cut.Goals as goal
 use Rattle.lbk_streams.proofs.feeding.take_cut.Goals.{After-take_scalar-step}
@@ -66,39 +65,15 @@ returns-clause-feeds g c = λ cell piece more flat same base all feeds.
 
 pub returns-then-step-clause-takes : goal.returns-then-step-clause-takes
 returns-then-step-clause-takes g c =
-    let here = c.args.here in
-    let size = c.first_of_cut-first.result.size in
-    let front = c.first_of_cut-first.ensures.front in
-    let steps = c.take_scalar-step.ensures.steps in
+    let first = c.first_of_cut-first in
+    let step = c.take_scalar-step in
     let left = c.behind-cut.ensures.size in
-    let one = takes-one c.take_scalar-step.result c.if-step.true in
-    let at = steps.at ∙ ap (λ b. cond b ((here.place.at + size) % 2 ^ 64) here.place.at) c.if-step.true in
-    let long = length-take-le here.cut.size (listed here.cut.units) (omega (arith, c.requires.1, g.met.U.StreamUnit.narrow.1)) in
-    record {
-      cut = omega (arith, c.requires.1, left);
-      room = omega (arith, steps.within.1);
-      breaks = steps.breaks;
-      counted = omega (arith, front.some, left, steps.few, one);
-      ordered = λ base from fits o.
-          let seen = o.seen in
-          let below : here.place.at + size < 2 ^ 64 = omega (arith, front.within) in
-          record { seen = omega (arith, left, at, below); placed = steps.placed from (λ _. (front.some, below)) o.placed };
-    }
+    Takes-one g.U.StreamUnit.widest c.args.here.taken first.result.size c.args.out.now c.args.here step.new.out step.result c.behind-cut.result c.args.here.taken step.ensures.steps c.if-step.true
+    first.ensures.front.some (omega (arith, c.requires.1, left)) (omega arith) (omega (arith, left))
 
 pub returns-clause-takes : goal.returns-clause-takes
 returns-clause-takes g c =
     let here = c.args.here in
-    let size = c.first_of_cut-first.result.size in
-    let front = c.first_of_cut-first.ensures.front in
-    let steps = c.take_scalar-step.ensures.steps in
-    let none = takes-none c.take_scalar-step.result c.if-step.false in
-    let at = steps.at ∙ ap (λ b. cond b ((here.place.at + size) % 2 ^ 64) here.place.at) c.if-step.false in
-    record {
-      cut = c.requires.1;
-      room = omega (arith, steps.within.1);
-      breaks = steps.breaks;
-      counted = omega (arith, steps.few, none);
-      ordered = λ base from fits o.
-          let seen = o.seen in
-          record { seen = omega (arith, at); placed = steps.placed from (λ is. absurd (false≢true (sym c.if-step.false ∙ is))) o.placed };
-    }
+    let step = c.take_scalar-step in
+    Takes-none g.U.StreamUnit.widest here.taken c.first_of_cut-first.result.size c.args.out.now here step.new.out step.result here.cut here.taken step.ensures.steps c.if-step.false
+    c.requires.1 (omega arith) (omega arith)

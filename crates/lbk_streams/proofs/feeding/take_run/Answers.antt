@@ -1,5 +1,4 @@
-use Rattle.std.proofs.Common.{◌≡◌, ℕ, ◌+◌, ◌-◌, ◌%◌, ◌^◌, ◌<◌, ◌≤◌, ◌++◌, List, true, cond, drop, length, take, sym, ap, subst, ◌∙◌, inl, length-drop, length-take-le, arith}
-use Rattle.std.proofs.lemmas.Bool.{false≢true}
+use Rattle.std.proofs.Common.{◌≡◌, ℕ, ◌+◌, ◌-◌, ◌^◌, ◌<◌, ◌≤◌, ◌++◌, List, true, drop, length, take, sym, ap, subst, ◌∙◌, inl, length-drop, length-take-le, arith}
 use Rattle.lbk_rules.specs.declared.Cell.{Cell}
 use Rattle.lbk_rules.specs.FlatTable.{IsFlatOf}
 use Rattle.lbk_bytes.specs.Shown.{given_in}
@@ -9,7 +8,7 @@ use Rattle.lbk_streams.specs.Stands.{Ahead, Feeds, Stands}
 use Rattle.lbk_streams.specs.declared.stream.Cut.{Cut}
 use Rattle.lbk_streams.specs.Taking.{IsOpen, TakesOf}
 use Rattle.lbk_streams.proofs.FeedLemmas.{Feeds-kept, Feeds-run, IsTaken, is-taken, none-cut, not-false, not-true}
-use Rattle.lbk_streams.proofs.TakingLemmas.{TakesOf-then, takes-none, takes-one}
+use Rattle.lbk_streams.proofs.TakingLemmas.{Takes-none, Takes-one, TakesOf-then}
 use Rattle.lbk_streams.proofs.feeding.take_run.Given.{Over}
 use Rattle.lbk_streams.proofs.feeding.take_run.Goals as goal
 use Rattle.lbk_streams.proofs.feeding.take_run.Goals.{After-take_scalar-step}
@@ -51,22 +50,11 @@ past g c passed =
     let here = c.args.here in
     let found = c.first-first.result in
     let step = c.take_scalar-step in
-    let steps = step.ensures.steps in
-    let front = c.first-first.ensures.front in
     let fits = inside g c in
-    let one = takes-one step.result passed in
-    let at = steps.at ∙ ap (λ b. cond b ((here.place.at + found.size) % 2 ^ 64) here.place.at) passed in
     record {
-      takes = record {
-        cut = omega (arith, c.requires.0);
-        room = omega (arith, steps.within.1);
-        breaks = steps.breaks;
-        counted = omega (arith, front.some, steps.few, one);
-        ordered = λ base from short o.
-            let seen = o.seen in
-            let below : here.place.at + found.size < 2 ^ 64 = omega (arith, c.requires.0) in
-            record { seen = omega (arith, at, below, c.requires.0); placed = steps.placed from (λ _. (front.some, below)) o.placed };
-      };
+      takes =
+          Takes-one g.U.StreamUnit.widest (length c.args.piece.now) found.size c.args.out.now here step.new.out step.result here.cut (here.taken + found.size) step.ensures.steps passed
+          c.first-first.ensures.front.some (omega (arith, c.requires.0)) fits (omega arith);
       within = (omega arith, fits);
       feeds = λ cell more flat base all feeds.
           Feeds-run g.U.Unit.pieces_of c.args.profile cell base c.args.piece.now more here step.result.place step.result.count found all
@@ -105,32 +93,22 @@ returns-then-not-step g c =
     let here = c.args.here in
     let found = c.first-first.result in
     let step = c.take_scalar-step in
-    let steps = step.ensures.steps in
-    let front = c.first-first.ensures.front in
     let fits = inside g at_step in
     let size = c.kept-cut.ensures.within ∙ whole g at_step in
     let stays = not-true step.result.passed c.if-not-step.true in
-    let none = takes-none step.result stays in
-    let at = steps.at ∙ ap (λ b. cond b ((here.place.at + found.size) % 2 ^ 64) here.place.at) stays in
     record {
       takes = record {
-        takes = record {
-          cut = omega (arith, size, c.first-first.ensures.few);
-          room = omega (arith, steps.within.1);
-          breaks = steps.breaks;
-          counted = omega (arith, steps.few, none, size, c.requires.0);
-          ordered = λ base from short o.
-              let seen = o.seen in
-              record { seen = omega (arith, at, size, c.requires.0); placed = steps.placed from (λ is. absurd (false≢true (sym stays ∙ is))) o.placed };
-        };
+        takes =
+            Takes-none g.U.StreamUnit.widest (length piece) found.size c.args.out.now here step.new.out step.result c.kept-cut.result (here.taken + found.size) step.ensures.steps stays
+            (omega (arith, size, c.first-first.ensures.few)) fits (omega (arith, size, c.requires.0));
         within = (omega arith, fits);
         feeds = λ cell more flat base all feeds.
             Feeds-kept g.U.Unit.pieces_of c.args.profile cell base piece more here step.result.place c.kept-cut.result step.result.count found.size all
             (given_in c.args.out.now here.count) (given_in step.new.out step.result.count)
             c.requires.0 fits (c.kept-cut.ensures.units ∙ ap (take found.size) (rest-of piece here.taken)) size
-            ((taken g (goal.at.returns-then-not-step g c).After-take_scalar-step cell more flat base all feeds).stays stays) feeds;
+            ((taken g at_step cell more flat base all feeds).stays stays) feeds;
       };
-      onward = omega (arith, front.some);
+      onward = omega (arith, c.first-first.ensures.front.some);
       unfinished = λ free. absurd (omega (arith, free, step.ensures.full stays));
     }
 
