@@ -1,5 +1,5 @@
 -- Steps one after another, and what calls do that take units of a piece.
-use Rattle.std.proofs.Common.{◌≡◌, ℕ, ◌+◌, ◌%◌, ◌^◌, ◌<◌, ◌≤◌, Bool, true, false, cond, List, length, sym, ap, ◌∙◌, arith}
+use Rattle.std.proofs.Common.{◌≡◌, ℕ, ◌+◌, ◌%◌, ◌^◌, ◌<◌, ◌≤◌, Bool, true, false, cond, min, List, length, sym, ap, ◌∙◌, arith}
 use Rattle.std.proofs.lemmas.Bool.{false≢true}
 use Rattle.bstr.specs.Utf8.{Decoded}
 use Rattle.lbk_rules.specs.declared.flat_table.FlatTable.{FlatTable}
@@ -9,6 +9,8 @@ use Rattle.lbk_streams.specs.declared.stream.Cut.{Cut}
 use Rattle.lbk_streams.specs.declared.stream.Feeding.{Feeding}
 use Rattle.lbk_streams.specs.declared.stream.StreamPosition.{StreamPosition}
 use Rattle.lbk_streams.specs.declared.taking.Step.{Step}
+use Rattle.lbk_bytes.specs.Order.{AreBreaks}
+use Rattle.lbk_streams.specs.Stands.{IsPlaced}
 use Rattle.lbk_streams.specs.Taking.{Steps, Takes, TakesOf, taken_by}
 
 pub takes-one : (step : Step) → step.passed ≡ true → taken_by step ≡ 1
@@ -16,6 +18,33 @@ takes-one step passed = let of : Bool → ℕ = λ b. cond b 1 0 in ap of passed
 
 pub takes-none : (step : Step) → step.passed ≡ false → taken_by step ≡ 0
 takes-none step stays = let of : Bool → ℕ = λ b. cond b 1 0 in ap of stays
+
+-- a step that writes no break
+pub Steps-still : (size : ℕ) (block : List RawBreak) (count : ℕ) (place next : StreamPosition) (passed : Bool) → count ≤ length block
+    → min next.held_code 1 ≤ min place.held_code 1 + cond passed 1 0 → next.at ≡ cond passed ((place.at + size) % 2 ^ 64) place.at
+    → ((from : ℕ) → (passed ≡ true → (0 < size) × (place.at + size < 2 ^ 64)) → IsPlaced block count from place → IsPlaced block count from next)
+    → Steps size block count place block (record { place = next; count = count; passed = passed })
+Steps-still size block count place next passed within few at placed = record {
+  within = (omega arith, within);
+  breaks = λ all. all;
+  few = omega arith;
+  at = at;
+  placed = placed;
+}
+
+-- and one that writes a break at most, at a position that waits no more or before the scalar that it takes
+pub Steps-put : (size : ℕ) (old : List RawBreak) (count : ℕ) (place : StreamPosition) (new : List RawBreak) (more : ℕ) (next : StreamPosition) (passed : Bool)
+    → (more ≤ length old) × (count ≤ more) × (more ≤ count + 1) → (AreBreaks old count → AreBreaks new more)
+    → 1 + min next.held_code 1 ≤ min place.held_code 1 + cond passed 1 0 → next.at ≡ cond passed ((place.at + size) % 2 ^ 64) place.at
+    → ((from : ℕ) → (passed ≡ true → (0 < size) × (place.at + size < 2 ^ 64)) → IsPlaced old count from place → IsPlaced new more from next)
+    → Steps size old count place new (record { place = next; count = more; passed = passed })
+Steps-put size old count place new more next passed within breaks few at placed = record {
+  within = (within.1, within.0);
+  breaks = breaks;
+  few = omega (arith, within.2);
+  at = at;
+  placed = placed;
+}
 
 -- a step that takes nothing is one at a scalar of any size
 pub Steps-none : (size : ℕ) (old new : List RawBreak) (count : ℕ) (place : StreamPosition) (step : Step) → step.passed ≡ false

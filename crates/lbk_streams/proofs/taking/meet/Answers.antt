@@ -10,6 +10,7 @@ use Rattle.lbk_bytes.specs.Reached.{IsInOrder}
 use Rattle.lbk_streams.specs.declared.stream.StreamPosition.{StreamPosition}
 use Rattle.lbk_streams.proofs.PlaceLemmas.{IsInOrder-at, IsPlaced-free, next-held}
 use Rattle.lbk_streams.proofs.StandsLemmas.{Stands-settle}
+use Rattle.lbk_streams.proofs.TakingLemmas.{Steps-put, Steps-still}
 use Rattle.lbk_streams.proofs.taking.meet.Goals as goal
 
 pub returns-then-closes-clause-stands : goal.returns-then-closes-clause-stands
@@ -37,14 +38,8 @@ pub returns-then-closes-clause-steps : goal.returns-then-closes-clause-steps
 returns-then-closes-clause-steps c =
     let place = c.args.place in
     let free : StreamPosition = record { at = place.at; held_at = place.held_at; row = place.row; held_code = 0 } in
-    record {
-      within = (omega arith, omega arith);
-      breaks = λ all. all;
-      few = omega arith;
-      at = refl;
-      placed = λ from fits p.
-          IsPlaced-free c.args.out.now c.args.count from place.at free refl (omega arith) (IsInOrder-at c.args.out.now c.args.count from place p);
-    }
+    Steps-still 0 c.args.out.now c.args.count place free false (omega arith) (omega arith) refl
+    (λ from fits p. IsPlaced-free c.args.out.now c.args.count from place.at free refl (omega arith) (IsInOrder-at c.args.out.now c.args.count from place p))
 
 pub returns-clause-steps : goal.returns-clause-steps
 returns-clause-steps c =
@@ -52,13 +47,8 @@ returns-clause-steps c =
     let put = c.put-more in
     let held : 0 < place.held_code = omega arith in
     let free : StreamPosition = record { at = place.at; held_at = place.held_at; row = place.row; held_code = 0 } in
-    record {
-      within = (omega (arith, put.ensures.within), omega (arith, put.ensures.within));
-      breaks = put.ensures.breaks;
-      few = omega (arith, put.ensures.within);
-      at = refl;
-      placed = λ from fits p.
-          let order = subst (λ n. IsInOrder c.args.out.now c.args.count from n) (next-held place held) p.order in
-          IsPlaced-free put.new.out put.result from place.at free refl (omega arith)
-          (omega (arith, order.0, p.waits held), put.ensures.in_order from place.at (p.waits held) order);
-    }
+    Steps-put 0 c.args.out.now c.args.count place put.new.out put.result free false put.ensures.within put.ensures.breaks (omega arith) refl
+    (λ from fits p.
+    let order = subst (λ n. IsInOrder c.args.out.now c.args.count from n) (next-held place held) p.order in
+    IsPlaced-free put.new.out put.result from place.at free refl (omega arith)
+    (omega (arith, order.0, p.waits held), put.ensures.in_order from place.at (p.waits held) order))
