@@ -163,6 +163,9 @@ pieces-front (x ∷ xs) r k bs within is =
 -- Where a piece begins
 
 module _ (text : List ℕ) (end : ℕ) (r : Decoded) (within : end ≤ length text) (last : IsLastPiece (take end text) r) where
+  last-at : length (take end text) - r.size ≡ end - r.size
+  last-at = ap (λ n. n - r.size) (length-take-le end text within)
+
   -- the last piece of the front of a text is cut from what begins there
   last-cut : r ≡ decoded (take r.size (drop (end - r.size) text))
   last-cut =
@@ -170,21 +173,17 @@ module _ (text : List ℕ) (end : ℕ) (r : Decoded) (within : end ≤ length te
       let long = length-take-le end text within in
       let fits = last.fits in
       let start = end - r.size in
-      let place : length t - r.size ≡ start = omega arith in
       let split : start + r.size ≡ end = omega arith in
       let cut : drop (length t - r.size) t ≡ take r.size (drop start text) =
-      ap (λ n. drop n t) place ∙ ap (λ n. drop start (take n text)) (sym split) ∙ drop-take start r.size text in
+      ap (λ n. drop n t) last-at ∙ ap (λ n. drop start (take n text)) (sym split) ∙ drop-take start r.size text in
       IsLastPiece-decoded t r last ∙ ap decoded cut
 
   pub last-begins : IsPieceStart text (end - r.size)
   last-begins =
       let t = take end text in
-      let long = length-take-le end text within in
-      let fits = last.fits in
       let start = end - r.size in
-      let place : length t - r.size ≡ start = omega arith in
       let front : take (length t - r.size) t ≡ take start text =
-      ap (λ n. take n t) place ∙ take-take start end text (omega arith) in
+      ap (λ n. take n t) last-at ∙ take-take start end text (omega arith) in
       let splits : pieces t ≡ pieces (take start text) ++ r ∷ [] = last.splits ∙ ap (λ l. pieces l ++ r ∷ []) front in
       pieces-front (pieces (take start text)) r end text within splits
       ∙ ap (λ n. pieces (take start text) ++ pieces (drop n text)) (sizes-front text start (omega arith))

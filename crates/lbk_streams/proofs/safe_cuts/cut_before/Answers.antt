@@ -25,11 +25,10 @@ loop-place-init c =
 
 pub returns-then-must_end : goal.returns-then-must_end
 returns-then-must_end c =
-    let text = c.args.text.now in
     let l = c.loop-place in
-    cuts-before pieces c.args.table.now text c.args.at l.place (λ profile cell. joins-safe profile cell text l.place) l.invariant.begins
+    cuts-before pieces c.args.table.now c.args.text.now c.args.at l.place (λ profile cell. joins-safe profile cell c.args.text.now l.place) l.invariant.begins
     (λ cell are_kinds.
-    safe cell text l.place c.class_before-last.result.0 l.next (omega (arith, l.invariant.within)) l.invariant.begins
+    safe cell c.args.text.now l.place c.class_before-last.result.0 l.next (omega (arith, l.invariant.within)) l.invariant.begins
     (c.class_before-last.ensures.last cell are_kinds) (l.invariant.next cell are_kinds) (sym c.must_end.ensures ∙ c.if-must_end.true))
     (omega (arith, l.invariant.within)) (λ past. absurd (omega arith))
     (λ cell place are_kinds later up within. l.invariant.none cell place are_kinds later up)

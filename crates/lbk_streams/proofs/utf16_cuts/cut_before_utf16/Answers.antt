@@ -22,9 +22,8 @@ loop-place-preserved c =
 
 pub returns-then-may_begin : goal.returns-then-may_begin
 returns-then-may_begin c =
-    let text = c.args.text.now in
     let l = c.loop-place in
-    cuts-before pieces_of_utf16 c.args.table.now text c.args.at l.place (λ profile cell. joins-pair profile cell text l.place (λ k. (c.type_inv.text k).fits))
+    cuts-before pieces_of_utf16 c.args.table.now c.args.text.now c.args.at l.place (λ profile cell. joins-pair profile cell c.args.text.now l.place (λ k. (c.type_inv.text k).fits))
     (c.may_begin.ensures.begins c.if-may_begin.true) (λ cell are_kinds. (c.may_begin.ensures.safe cell are_kinds).0 c.if-may_begin.true)
     (omega (arith, l.invariant.before)) (λ past. absurd (omega arith)) (λ cell place are_kinds later up within. l.invariant.none cell place are_kinds later up)
 
