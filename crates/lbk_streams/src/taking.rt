@@ -48,19 +48,20 @@ pub(crate) fn take_scalar(
         → Stands profile cell result.place (if result.passed then ps else p ∷ ps) all
         (given_in out.new result.count) }
 {
-    let met = meet(table, place, next.scalar, out, count);
-    if met.count == out.len() {
-        return met;
+    let (met, before) = meet(table, place, next.scalar, out, count);
+    if before == out.len() {
+        return Step {
+            place: met,
+            count: before,
+            passed: false,
+        };
     }
-    pass(
-        table,
-        profile,
-        met.place,
-        next.scalar,
-        next.size,
-        out,
-        met.count,
-    )
+    let (past, count) = pass(table, profile, met, next.scalar, next.size, out, before);
+    Step {
+        place: past,
+        count,
+        passed: true,
+    }
 }
 
 /// Decides the position that waits, if `c` heads a unit.
@@ -70,32 +71,24 @@ fn meet(
     c: char,
     out: &mut [RawBreak],
     count: usize,
-) -> Step
+) -> (StreamPosition, usize)
     requires { count < length out.old }
-    ensures steps { Steps 0 out.old count place out.new result }
-    ensures passed { result.passed ≡ false }
-    ensures joins { (cell : ℕ → Cell) → AreFlatKinds table.now.kinds cell → 0 < result.place.held_code
+    ensures joins { (cell : ℕ → Cell) → AreFlatKinds table.now.kinds cell → 0 < result.0.held_code
         → mark (normal (cell c)).class ≡ true }
+    ensures steps { Steps 0 out.old count place out.new
+        (record { place = result.0; count = result.1; passed = false }) }
     ensures stands { (profile : Profile) (cell : ℕ → Cell) (p : Decoded) (ps : List Decoded) (all : Ahead)
         → IsFlatOf table.now cell
         → c ≡ or_replacement p.char
         → Stands profile cell place (p ∷ ps) all (given_in out.old count)
-        → Stands profile cell result.place (p ∷ ps) all (given_in out.new result.count) }
+        → Stands profile cell result.0 (p ∷ ps) all (given_in out.new result.1) }
 {
     if place.held_code == 0 {
-        return Step {
-            place,
-            count,
-            passed: false,
-        };
+        return (place, count);
     }
     let cell = table.cell(c);
     let Some(closes) = cell.unit_closes(false) else {
-        return Step {
-            place,
-            count,
-            passed: false,
-        };
+        return (place, count);
     };
     let free = StreamPosition {
         at: place.at,
@@ -104,19 +97,11 @@ fn meet(
         held_code: 0,
     };
     if closes {
-        return Step {
-            place: free,
-            count,
-            passed: false,
-        };
+        return (free, count);
     }
     let shown = shown_by(place.held_code);
     let more = put(out, count, place.held_at as usize, shown);
-    Step {
-        place: free,
-        count: more,
-        passed: false,
-    }
+    (free, more)
 }
 
 /// Takes the scalar. Where a position waits yet, the scalar is a mark that joins what is before it.
@@ -128,57 +113,48 @@ fn pass(
     size: usize,
     out: &mut [RawBreak],
     count: usize,
-) -> Step
+) -> (StreamPosition, usize)
     requires { count < length out.old }
-    ensures steps { Steps size out.old count place out.new result }
-    ensures passed { result.passed ≡ true }
+    ensures steps { Steps size out.old count place out.new
+        (record { place = result.0; count = result.1; passed = true }) }
     ensures stands { (cell : ℕ → Cell) (p : Decoded) (ps : List Decoded) (all : Ahead)
         → IsFlatOf table.now cell
         → c ≡ or_replacement p.char → size ≡ p.size → 0 < size → place.at + size < 2 ^ 64
         → (0 < place.held_code → mark (normal (cell c)).class ≡ true)
         → Stands profile cell place (p ∷ ps) all (given_in out.old count)
-        → Stands profile cell result.place ps all (given_in out.new result.count) }
+        → Stands profile cell result.0 ps all (given_in out.new result.1) }
 {
     let kind = table.kinds[c as usize];
     let row = place_by(place.row);
     let first = step_in(Profile::First, row, kind);
     let at = place.at.wrapping_add(size as u64);
     if place.held_code != 0 {
-        return Step {
-            place: StreamPosition {
-                at,
-                held_at: place.held_at,
-                row: first.next,
-                held_code: place.held_code,
-            },
-            count,
-            passed: true,
-        };
-    }
-    let step = step_in(profile, row, kind);
-    if waits(profile, step.shown, first.shown) {
-        return Step {
-            place: StreamPosition {
-                at,
-                held_at: place.at,
-                row: first.next,
-                held_code: first.shown,
-            },
-            count,
-            passed: true,
-        };
-    }
-    let more = put(out, count, place.at as usize, step.shown);
-    Step {
-        place: StreamPosition {
+        let next = StreamPosition {
             at,
             held_at: place.held_at,
             row: first.next,
             held_code: place.held_code,
-        },
-        count: more,
-        passed: true,
+        };
+        return (next, count);
     }
+    let step = step_in(profile, row, kind);
+    if waits(profile, step.shown, first.shown) {
+        let next = StreamPosition {
+            at,
+            held_at: place.at,
+            row: first.next,
+            held_code: first.shown,
+        };
+        return (next, count);
+    }
+    let more = put(out, count, place.at as usize, step.shown);
+    let next = StreamPosition {
+        at,
+        held_at: place.held_at,
+        row: first.next,
+        held_code: place.held_code,
+    };
+    (next, more)
 }
 
 /// Whether a position waits for what follows: by rule 15b it is no break where the quotation is closed, and where it
