@@ -128,32 +128,19 @@ fn pass(
     let row = place_by(place.row);
     let first = step_in(Profile::First, row, kind);
     let at = place.at.wrapping_add(size as u64);
+    let mut next = place;
+    next.at = at;
+    next.row = first.next;
     if place.held_code != 0 {
-        let next = StreamPosition {
-            at,
-            held_at: place.held_at,
-            row: first.next,
-            held_code: place.held_code,
-        };
         return (next, count);
     }
     let step = step_in(profile, row, kind);
     if waits(profile, step.shown, first.shown) {
-        let next = StreamPosition {
-            at,
-            held_at: place.at,
-            row: first.next,
-            held_code: first.shown,
-        };
+        next.held_at = place.at;
+        next.held_code = first.shown;
         return (next, count);
     }
     let more = put(out, count, place.at as usize, step.shown);
-    let next = StreamPosition {
-        at,
-        held_at: place.held_at,
-        row: first.next,
-        held_code: place.held_code,
-    };
     (next, more)
 }
 
