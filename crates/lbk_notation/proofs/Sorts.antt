@@ -1,5 +1,5 @@
 -- What a byte can be, and which byte that is.
-use Rattle.std.proofs.Common.{◌≡◌, ◌≢◌, ℕ, zero, suc, ◌-◌, ◌<◌, true, leb, nat_eq, ◌&&◌, cond, IsTrue, refl, arith}
+use Rattle.std.proofs.Common.{◌≡◌, ◌≢◌, ℕ, zero, suc, ◌-◌, ◌<◌, true, leb, nat_eq, ◌&&◌, IsTrue, refl, arith}
 use Rattle.std.proofs.lemmas.Bool.{cond_both, eqb-true, eqb-false}
 use Rattle.std.proofs.lemmas.Bool.Decides.{nat_tests}
 use Rattle.lbk_notation.specs.declared.reader.Sort.{Sort}
@@ -26,45 +26,18 @@ numeral byte e = grind (arith, nat_tests)
 capital : (byte : ℕ) → (leb 65 byte && leb byte 70) ≡ true → (byte - 55 < 16) × (byte ≡ digit_byte (byte - 55))
 capital byte e = grind (arith, nat_tests)
 
-abbrev past9 : ℕ → Sort
-past9 byte = cond (nat_eq byte 10) LineFeed Other
-
-abbrev past8 : ℕ → Sort
-past8 byte = cond (nat_eq byte 35) (Hash) (past9 byte)
-
-abbrev past7 : ℕ → Sort
-past7 byte = cond (nat_eq byte 13) (Return) (past8 byte)
-
-abbrev past6 : ℕ → Sort
-past6 byte = cond (nat_eq byte 33) (Exclamation) (past7 byte)
-
-abbrev past5 : ℕ → Sort
-past5 byte = cond (nat_eq byte 0xB7) (Division) (past6 byte)
-
-abbrev past4 : ℕ → Sort
-past4 byte = cond (nat_eq byte 0x97) (Times) (past5 byte)
-
-abbrev past3 : ℕ → Sort
-past3 byte = cond (nat_eq byte 0xC3) (Lead) (past4 byte)
-
-abbrev past2 : ℕ → Sort
-past2 byte = cond (leb 65 byte && leb byte 70) (Digit (byte - 55)) (past3 byte)
-
-abbrev past1 : ℕ → Sort
-past1 byte = cond (leb 48 byte && leb byte 57) (Digit (byte - 48)) (past2 byte)
-
 pub sorted : (byte : ℕ) → Sorted byte (sort_of byte)
 unfolding sort_of
 sorted byte =
-    cond_both (is_space byte) (Space) (past1 byte) (Sorted byte) (λ e. e) (λ _.
-    cond_both (leb 48 byte && leb byte 57) (Digit (byte - 48)) (past2 byte) (Sorted byte) (numeral byte) (λ _.
-    cond_both (leb 65 byte && leb byte 70) (Digit (byte - 55)) (past3 byte) (Sorted byte) (capital byte) (λ _.
-    cond_both (nat_eq byte 0xC3) (Lead) (past4 byte) (Sorted byte) (eqb-true byte 0xC3) (λ _.
-    cond_both (nat_eq byte 0x97) (Times) (past5 byte) (Sorted byte) (eqb-true byte 0x97) (λ _.
-    cond_both (nat_eq byte 0xB7) (Division) (past6 byte) (Sorted byte) (eqb-true byte 0xB7) (λ _.
-    cond_both (nat_eq byte 33) (Exclamation) (past7 byte) (Sorted byte) (eqb-true byte 33) (λ _.
-    cond_both (nat_eq byte 13) (Return) (past8 byte) (Sorted byte) (eqb-true byte 13) (λ _.
-    cond_both (nat_eq byte 35) (Hash) (past9 byte) (Sorted byte) (eqb-true byte 35) (λ _.
+    cond_both (is_space byte) Space _ (Sorted byte) (λ e. e) (λ _.
+    cond_both (leb 48 byte && leb byte 57) (Digit (byte - 48)) _ (Sorted byte) (numeral byte) (λ _.
+    cond_both (leb 65 byte && leb byte 70) (Digit (byte - 55)) _ (Sorted byte) (capital byte) (λ _.
+    cond_both (nat_eq byte 0xC3) Lead _ (Sorted byte) (eqb-true byte 0xC3) (λ _.
+    cond_both (nat_eq byte 0x97) Times _ (Sorted byte) (eqb-true byte 0x97) (λ _.
+    cond_both (nat_eq byte 0xB7) Division _ (Sorted byte) (eqb-true byte 0xB7) (λ _.
+    cond_both (nat_eq byte 33) Exclamation _ (Sorted byte) (eqb-true byte 33) (λ _.
+    cond_both (nat_eq byte 13) Return _ (Sorted byte) (eqb-true byte 13) (λ _.
+    cond_both (nat_eq byte 35) Hash _ (Sorted byte) (eqb-true byte 35) (λ _.
     cond_both (nat_eq byte 10) LineFeed Other (Sorted byte) (eqb-true byte 10) (eqb-false byte 10))))))))))
 
 pub sort-space : (byte : ℕ) → IsTrue (is_space byte) → sort_of byte ≡ Space
