@@ -1,12 +1,9 @@
--- Well-formed text, some of the breaks to come, and the states from which some come.
-use Rattle.std.proofs.Common.{rules, ◌≡◌, ℕ, zero, suc, ◌<◌, ◌≤◌, min, true, ◌⊎◌, inl, inr, ⊎_elim, Some, None, List, [], ◌∷◌, ◌++◌, length, map, drop, take, refl, sym, ap, subst, ◌∙◌, ◌+◌, arith}
+-- Well-formed text, and the states from which some breaks come.
+use Rattle.std.proofs.Common.{rules, ◌≡◌, ℕ, zero, suc, ◌<◌, ◌≤◌, true, inl, inr, Some, None, List, [], ◌∷◌, ◌++◌, length, map, refl, sym, ap, subst, ◌∙◌, ◌+◌, arith}
 use Rattle.std.specs.Char.{encode_utf8}
 use Rattle.std.specs.Str.{IsUtf8, chars, encode_utf8_all}
-use Rattle.std.proofs.lemmas.List.{length-append, take_at}
 use Rattle.std.proofs.lemmas.Str.{chars-encodes}
-use Rattle.std.proofs.Math.Seq.{drop-append_seam}
 use lib.Utf8.{scalars}
-use Rattle.lbk_rules.specs.declared.Break.{Break}
 use Rattle.lbk_rules.specs.declared.Cell.{Cell}
 use Rattle.lbk_values.specs.declared.profile.Profile.{Profile}
 use Rattle.lbk_rules.specs.Breaks.{breaks, breaks_from}
@@ -41,24 +38,6 @@ pub breaks-utf8 : (profile : Profile) (cell : ℕ → Cell) (text : List ℕ) �
     → breaks_of_bytes profile cell text ≡ breaks profile cell (chars text)
 breaks-utf8 profile cell text utf8 =
     subst (λ t. breaks_of_bytes profile cell t ≡ breaks profile cell (chars t)) utf8.1.1 (encoded-breaks profile cell utf8.0 utf8.1.0)
-
--- Some more given
-
-pub record Gives (to_come front : List Break) (count room : ℕ) (rest : List Break) : Type 0 where
-  pub counted : count ≡ min room (length to_come)
-  pub same : front ≡ take count to_come
-  pub left : drop count to_come ≡ rest
-
-pub gives : (to_come front more : List Break) (count room : ℕ) → to_come ≡ front ++ more → length front ≡ count → count ≤ room
-    → (count ≡ room) ⊎ (more ≡ []) → Gives to_come front count room more
-gives to_come front more count room joined many within full = record {
-  counted =
-      let whole = ap length joined in
-      let sum = length-append front more in
-      ⊎_elim (λ (same : count ≡ room). omega arith) (λ (none : more ≡ []). (let no = ap length none in omega arith)) full;
-  same = sym (ap (take count) joined ∙ take_at front more count many);
-  left = ap (drop count) joined ∙ ap (λ n. drop n (front ++ more)) (sym many) ∙ drop-append_seam front more;
-}
 
 -- Between the calls
 

@@ -30,11 +30,12 @@ use Rattle.lbk_units.specs.Positions.{positions_of_part_of, positions_of_pieces}
 use Rattle.lbk_units.specs.Units.{breaks_of_part_of, breaks_of_pieces, breaks_of_utf32}
 use Rattle.lbk_units.proofs.PositionLemmas.{all-part, all-start, pieces-part}
 use Rattle.lbk_units.proofs.EncodingLemmas as encoding
+use Rattle.lbk_words.proofs.FillLemmas.{gives}
 use Rattle.lbk_calls.specs.declared.interface.State.{State}
 use Rattle.lbk_calls.specs.State.{goes_on, part_start, plain, plain_number, profile_number, profile_numbered, start_in}
 use Rattle.lbk_calls.specs.Coming.{ComeOf, IsGoing, IsSpent, UnitsComeBy, UnitsGo, UnitsOnto, from_state, start_by}
 use Rattle.lbk_calls.specs.Calls.{AreGivenWhole, BreaksComeAtStart, ComeAtStart, Gives, GoesOver}
-use Rattle.lbk_calls.proofs.ComingLemmas.{breaks-utf8, gives, same-profile}
+use Rattle.lbk_calls.proofs.ComingLemmas.{breaks-utf8, same-profile}
 use Rattle.lbk_calls.proofs.GoingLemmas.{over-none}
 use Rattle.lbk_bytes.proofs.OrderLemmas.{AreInOrder-none}
 use Rattle.lbk_bytes.proofs.PartLemmas.{part-onward}
@@ -119,7 +120,7 @@ module _ {A : Type 0} (from : Onward) (pieces_of : List A → List Decoded) wher
       record {
         counted = g.counted;
         front = g.same;
-        onto = onto-here profile cell text to_come (given_in block here.count) _ here state r g.left within at_same row_same unended;
+        onto = onto-here profile cell text to_come (given_in block here.count) _ here state r (sym g.left) within at_same row_same unended;
       }
 
   -- what comes at the end was put behind those that were given
@@ -139,7 +140,7 @@ module _ {A : Type 0} (from : Onward) (pieces_of : List A → List Decoded) wher
       record {
         counted = g.counted;
         front = g.same;
-        onto = onto-end profile cell text _ state (at_same ∙ ends) ended g.left;
+        onto = onto-end profile cell text _ state (at_same ∙ ends) ended (sym g.left);
       }
 
   -- from a spent state nothing comes

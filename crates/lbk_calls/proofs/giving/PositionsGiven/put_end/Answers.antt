@@ -3,7 +3,6 @@ use Rattle.lbk_rules.specs.Breaks.{break_by, is_no}
 use Rattle.lbk_rules.specs.declared.Kind.TheVariants.{Must, No}
 use Rattle.lbk_rules.specs.declared.Rule.TheVariants.{Lb2, Lb3}
 use Rattle.lbk_rules.specs.Rows.{IsShown, verdict_shown}
-use Rattle.lbk_bytes.specs.Order.{IsPosition}
 use Rattle.lbk_bytes.specs.Reached.{position_end_in}
 use Rattle.lbk_bytes.specs.Shown.{given_in}
 use Rattle.lbk_bytes.proofs.OrderLemmas.{AreInOrder-wider}
