@@ -4,3 +4,4 @@ pub mod SafeLemmas
 pub mod SegmentLemmas
 pub mod DigestLemmas
 pub mod EmptyLemmas
+pub mod FeedLemmas

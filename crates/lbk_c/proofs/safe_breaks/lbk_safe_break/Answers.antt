@@ -46,9 +46,6 @@ pub loop-at-preserved-then-begins_alike : goal.loop-at-preserved-then-begins_ali
 loop-at-preserved-then-begins_alike c =
     let i = c.loop-at.invariant in
     let n = c.in-Some-next_break.ensures in
-    let text = c.args.text.now in
-    let table = c.args.table.now in
-    let new = c.next_break-in-loop-at.new.state in
     let past = i.later n.place.2 in
     record {
       low = omega (arith, i.low, i.order);
@@ -61,8 +58,8 @@ loop-at-preserved-then-begins_alike c =
           let h = i.holds cell rules flat named in
           let m = n.comes cell h.1.rest h.1.comes in
           let alike = c.begins_alike.ensures c.if-begins_alike.true cell rules m.0 flat named m.2 in (
-            safe-at rules cell table text c.loop-at.state new c.in-Some-next_break.next c.loop-at.at h.1 m alike,
-            goes-on rules cell table text c.loop-at.state new c.in-Some-next_break.next h.1 m,
+            safe-at rules cell _ _ _ c.next_break-in-loop-at.new.state c.in-Some-next_break.next c.loop-at.at h.1 m alike,
+            goes-on rules cell _ _ _ c.next_break-in-loop-at.new.state c.in-Some-next_break.next h.1 m,
           ));
     }
 
@@ -70,9 +67,6 @@ pub loop-at-preserved : goal.loop-at-preserved
 loop-at-preserved c =
     let i = c.loop-at.invariant in
     let n = c.in-Some-next_break.ensures in
-    let text = c.args.text.now in
-    let table = c.args.table.now in
-    let new = c.next_break-in-loop-at.new.state in
     let past = i.later n.place.2 in
     record {
       low = i.low;
@@ -83,7 +77,7 @@ loop-at-preserved c =
       kept = n.profile_same ∙ i.kept;
       holds = λ cell rules flat named. (
           let h = i.holds cell rules flat named in
-          (h.0, goes-on rules cell table text c.loop-at.state new c.in-Some-next_break.next h.1 (n.comes cell h.1.rest h.1.comes)));
+          (h.0, goes-on rules cell _ _ _ c.next_break-in-loop-at.new.state c.in-Some-next_break.next h.1 (n.comes cell h.1.rest h.1.comes)));
     }
 
 pub returns-clause-safe : goal.returns-clause-safe

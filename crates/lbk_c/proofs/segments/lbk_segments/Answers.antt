@@ -1,4 +1,4 @@
-use Rattle.std.proofs.Common.{◌+◌, ◌≤◌, length, drop, min, ap, subst, sym, ◌∙◌, arith}
+use Rattle.std.proofs.Common.{◌+◌, length, drop, min, ap, subst, sym, ◌∙◌, arith}
 use Rattle.std.proofs.lemmas.List.{length-take-le}
 use Rattle.lbk_calls.proofs.UnitsComingLemmas.{bytes-begin}
 use Rattle.lbk_c.specs.Segments.{AreWithin, next_start, segments_between}

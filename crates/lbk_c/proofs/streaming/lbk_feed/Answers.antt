@@ -3,6 +3,7 @@ use Rattle.bstr.specs.Utf8.{pieces}
 use Rattle.lbk_bytes.proofs.PartLemmas.{part-onward}
 use Rattle.lbk_units.proofs.PositionLemmas.{pieces-part}
 use Rattle.lbk_streams.specs.Stands.{Streams}
+use Rattle.lbk_c.proofs.FeedLemmas.{feeds-next}
 use Rattle.lbk_c.proofs.streaming.lbk_feed.Goals as goal
 
 pub returns : goal.returns
@@ -15,12 +16,7 @@ returns c =
           subst (λ l. Streams cell c.args.table.now c.args.stream.now text l)
           (pieces-part goes_on profile cell at (pieces text) ∙ sym (part-onward goes_on profile cell at text))
           (said.part cell profile goes_on at text flat short starts);
-      next = λ cell more to_come comes. record {
-        front = said.front cell more to_come comes;
-        rest = said.rest cell more to_come comes;
-        settled = said.settled cell more to_come comes;
-        seen = said.seen cell more to_come comes;
-      };
+      next = feeds-next _ _ _ _ _ _ _ _ _ _ _ said.front said.rest said.settled said.seen;
       cut = said.cut;
       end = said.end;
     }
