@@ -2,7 +2,7 @@
 
 A row runs with ample memory, and then with the n-th allocation refused, n from 1 until a run meets no refusal; and
 again with all later ones refused, too. The row has to return out of memory, or the result with ample memory, and its
-output is a prefix of that run's output. The rows `quiet/..` allocate nothing, so nothing can be refused. Arguments are
+output is a prefix of that run's output. The rows `quiet..` allocate nothing, so nothing can be refused. Arguments are
 prefixes of names: only these rows run.
 """
 

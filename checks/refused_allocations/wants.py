@@ -84,4 +84,4 @@ def program_fits(ample, run):
 
 def call_of(name):
     """The call that a row is of, or `lbk`."""
-    return re.split("[/ ]", name)[0]
+    return re.match("quiet|[^/ ]*", name)[0]

@@ -1,13 +1,14 @@
 //! Arguments: `parse`, `prepare`, and `run` over files in memory.
 
-use crate::inputs::{Text, sink_of};
+use crate::counting::counted;
+use crate::digest;
+use crate::inputs::{Text, sink_of, source_of};
 use crate::told::{answer_told, cells_told, fault_told, told};
-use crate::{calls, digest};
 use anyhow::Result;
-use lbk_cmd::MemoryTexts;
+use lbk_cmd::{MemoryTexts, run_over_texts};
 use lbk_feed::Source;
 use lbk_feed::devices::MemorySource;
-use lbk_files::{MemoryStore, Ready};
+use lbk_files::{MemoryStore, NotReady, Ready, Store, read_front, read_order};
 use std::alloc::{AllocError, Global};
 use test_support::property_files::{NAMED, words_on_files};
 
@@ -33,13 +34,13 @@ impl Words {
 
 pub fn parse(alloc: Global, words: Words) -> Result<String> {
     let words = words.list(alloc)?;
-    told(alloc, &calls::parse(alloc, &words))
+    told(alloc, &counted(alloc, || lbk_args::parse(alloc, &words)))
 }
 
 pub fn front(alloc: Global, bytes: Text, most: u16) -> Result<String> {
     let bytes = bytes.bytes(alloc)?;
     let mut source = MemorySource::cut(&bytes, &[5000]);
-    match calls::read_front(alloc, &mut source, most) {
+    match counted(alloc, || read_front(alloc, &mut source, usize::from(most))) {
         Ok(front) => front_told(alloc, &front, source.reads()),
         Err(fault) => fault_told(alloc, &fault),
     }
@@ -57,15 +58,30 @@ fn store() -> MemoryStore<'static> {
 
 pub fn load(alloc: Global, name: &str, most: u16) -> Result<String> {
     let mut store = store();
-    told(alloc, &calls::load(alloc, &mut store, name, most))
+    told(
+        alloc,
+        &counted(alloc, || store.load(alloc, name, usize::from(most))),
+    )
 }
 
 pub fn prepared(alloc: Global, words: Words) -> Result<String> {
     let words = words.list(alloc)?;
     let mut store = store();
-    match calls::prepare(alloc, &words, &mut store) {
+    match counted(alloc, || ready(alloc, &words, &mut store)) {
         Ok(ready) => ready_told(alloc, &ready),
         Err(stop) => fault_told(alloc, &stop),
+    }
+}
+
+/// Reads the arguments, and the files that they name.
+fn ready<'a>(
+    alloc: Global,
+    words: &'a [&'a str],
+    store: &mut MemoryStore<'_>,
+) -> Result<Ready<'a>, NotReady> {
+    match read_order(alloc, words) {
+        Ok(order) => lbk_files::prepare(alloc, order, store).map_err(NotReady::Refused),
+        Err(stop) => Err(stop),
     }
 }
 
@@ -82,6 +98,16 @@ pub fn run(alloc: Global, words: Words, input: Text) -> Result<String> {
     let mut sink = sink_of(alloc)?;
     let mut texts = MemoryTexts::new(alloc, store());
     let mut store = store();
-    let ending = calls::run(alloc, &words, &mut store, &mut texts, &bytes, &mut sink);
+    let mut source = source_of(&bytes);
+    let ending = counted(alloc, || {
+        run_over_texts(
+            alloc,
+            &words,
+            &mut store,
+            &mut texts,
+            &mut source,
+            &mut sink,
+        )
+    });
     answer_told(alloc, &ending, sink.bytes())
 }

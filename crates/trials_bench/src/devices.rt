@@ -2,7 +2,7 @@
 
 use crate::counting::{begin, end};
 use crate::digest::Digest;
-use crate::inputs::Text;
+use crate::inputs::Input;
 use anyhow::Result;
 use lbk_feed::devices::MemorySource;
 use lbk_feed::{Device, Failed, Feed, FeedFault, Sink, Source, write_all};
@@ -13,9 +13,8 @@ use std::fmt::Write;
 const PIECES: usize = 100_000;
 
 /// `Feed::new`, `ready`, `piece`, `settle`, `advance`, `given`.
-pub fn feed(alloc: Global, text: Text) -> Result<String> {
-    let bytes = text.bytes(alloc)?;
-    let mut source = MemorySource::cut(&bytes, &[1, 2, 3, 4096]);
+pub fn feed(alloc: Global, input: &Input) -> Result<String> {
+    let mut source = MemorySource::cut(&input.bytes, &[1, 2, 3, 4096]);
     let mut digest = Digest::new();
     begin(alloc);
     let mut feed = Feed::new();

@@ -1,12 +1,14 @@
 //! Texts, test files, and inputs that are made before allocations are counted.
 
+use crate::samples::Sample;
 use anyhow::{Result, anyhow};
 use lbk_feed::devices::{MemorySink, MemorySource};
 use lbk_files::{SAMPLE_FILES, read_cells};
-use lbk_notation::{TestLine, mark_text};
+use lbk_notation::{Form, TestLine, mark_text};
 use lbk_rules::{Cell, CellPages, CellSource, Kind, Profile, Rule, Verdict, decide_all_in};
 use lbk_ucd::{Files, Tables};
 use std::alloc::{AllocError, Global};
+use test_support::engines::Setting;
 
 /// The bytes of a text or of a file.
 #[derive(Clone, Copy)]
@@ -34,19 +36,32 @@ impl Text {
     }
 }
 
-/// A text's bytes, and the cells by the sample files.
+/// A text's bytes, the cells by the sample files, the limit of a paragraph and the form of lines.
 #[derive(Drop)]
 pub struct Input {
     pub bytes: Vec<u8>,
     pub cells: CellPages,
+    pub limit: u32,
+    pub form: Form,
 }
 
 impl Input {
-    pub fn new(alloc: Global, text: Text) -> Result<Input> {
+    pub fn new(alloc: Global, (text, limit, form): Sample) -> Result<Input> {
         Ok(Input {
             bytes: text.bytes(alloc)?,
             cells: cells(alloc)?,
+            limit,
+            form,
         })
+    }
+
+    pub fn setting(&self, alloc: Global, profile: Profile) -> Setting<'_> {
+        Setting {
+            alloc,
+            cells: &self.cells,
+            limit: self.limit,
+            profile,
+        }
     }
 
     /// The text of the bytes.

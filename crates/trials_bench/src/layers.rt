@@ -1,7 +1,6 @@
 //! The layers, each as one run over the whole text.
 
 use crate::dropped::Dropped;
-use crate::engines::Engine;
 use crate::material::Material;
 use crate::passages::segmenter_of;
 use crate::stepless::Stepless;
@@ -15,6 +14,7 @@ use lbk_rules::{
 };
 use lbk_ucd::Tables;
 use std::alloc::{AllocError, Global};
+use test_support::engines::{Engine, Setting};
 use unicode_segmentation::UnicodeSegmentation;
 
 /// A part of the work.
@@ -50,27 +50,30 @@ pub enum Layer {
     Pages,
 }
 
-/// The layers, in the order of their runs.
-pub const LAYERS: [Layer; 19] = [
-    Layer::Decoding,
-    Layer::LookUp,
-    Layer::Machine,
-    Layer::LateMachine(Profile::First),
-    Layer::LateMachine(Profile::Second),
-    Layer::Stepper(Profile::First),
-    Layer::Stepper(Profile::Second),
-    Layer::Breaks(Profile::First),
-    Layer::Breaks(Profile::Second),
-    Layer::ByRules,
-    Layer::Words,
-    Layer::Segments,
-    Layer::Next,
-    Layer::Engine(Engine::Show),
-    Layer::Engine(Engine::Mark),
-    Layer::Engine(Engine::Segment),
-    Layer::Replay,
-    Layer::Tables,
-    Layer::Pages,
+/// The layers and their names, in the order of their runs.
+pub const LAYERS: [(Layer, &str); 19] = [
+    (Layer::Decoding, "decoding"),
+    (Layer::LookUp, "look-up"),
+    (Layer::Machine, "Machine"),
+    (Layer::LateMachine(Profile::First), "LateMachine, profile 1"),
+    (
+        Layer::LateMachine(Profile::Second),
+        "LateMachine, profile 2",
+    ),
+    (Layer::Stepper(Profile::First), "Stepper, profile 1"),
+    (Layer::Stepper(Profile::Second), "Stepper, profile 2"),
+    (Layer::Breaks(Profile::First), "Breaks, profile 1"),
+    (Layer::Breaks(Profile::Second), "Breaks, profile 2"),
+    (Layer::ByRules, "Breaks by the rules"),
+    (Layer::Words, "words"),
+    (Layer::Segments, "segments of passages"),
+    (Layer::Next, "next"),
+    (Layer::Engine(Engine::Show), "show"),
+    (Layer::Engine(Engine::Mark), "mark"),
+    (Layer::Engine(Engine::Segment), "segment"),
+    (Layer::Replay, "replay"),
+    (Layer::Tables, "Tables::read"),
+    (Layer::Pages, "CellPages::build"),
 ];
 
 /// How many breaks a block holds.
@@ -86,30 +89,6 @@ const NO_BREAK: Break = Break {
 };
 
 impl Layer {
-    pub fn name(self) -> &'static str {
-        match self {
-            Layer::Decoding => "decoding",
-            Layer::LookUp => "look-up",
-            Layer::Machine => "Machine",
-            Layer::LateMachine(Profile::First) => "LateMachine, profile 1",
-            Layer::LateMachine(Profile::Second) => "LateMachine, profile 2",
-            Layer::Stepper(Profile::First) => "Stepper, profile 1",
-            Layer::Stepper(Profile::Second) => "Stepper, profile 2",
-            Layer::Breaks(Profile::First) => "Breaks, profile 1",
-            Layer::Breaks(Profile::Second) => "Breaks, profile 2",
-            Layer::ByRules => "Breaks by the rules",
-            Layer::Words => "words",
-            Layer::Segments => "segments of passages",
-            Layer::Next => "next",
-            Layer::Engine(Engine::Show) => "show",
-            Layer::Engine(Engine::Mark) => "mark",
-            Layer::Engine(Engine::Segment) => "segment",
-            Layer::Replay => "replay",
-            Layer::Tables => "Tables::read",
-            Layer::Pages => "CellPages::build",
-        }
-    }
-
     /// How many bytes a run processes; none for a part of the start-up.
     pub fn bytes(self, material: &Material<'_>) -> Option<usize> {
         match self {
@@ -279,8 +258,11 @@ fn passages(alloc: Global, cells: &CellPages, text: &str) -> Result<u64> {
 
 fn written(alloc: Global, engine: Engine, cells: &CellPages, text: &str) -> Result<u64> {
     let mut source = MemorySource::new(text.as_bytes());
-    let (limit, profile) = (LIMIT_MAX, Profile::First);
-    match engine.write(alloc, &mut source, &mut Dropped, cells, limit, profile) {
+    let setting = Setting {
+        limit: LIMIT_MAX,
+        ..Setting::new(alloc, cells, Profile::First)
+    };
+    match engine.write(setting, &mut source, &mut Dropped) {
         Ok(()) => Ok(0),
         Err(_) => bail!("the text is refused"),
     }

@@ -1,32 +1,41 @@
 //! `read_line`, `read_passage_line`, `read_back`, `write_line`, `mark_text`, `replay_line` and `TestLine::new`.
 
-use crate::calls;
-use crate::counting::{begin, end};
-use crate::inputs::{Input, Text, text_of};
+use crate::counting::{begin, counted, end};
+use crate::inputs::{Input, text_of};
 use crate::told::{fault_told, line_told, read_told};
 use anyhow::{Result, anyhow};
-use lbk_notation::{Form, Mark, Outcome, TestLine, replay_line};
+use lbk_notation::{
+    Form, Mark, TestLine, mark_text, read_back, read_line, read_passage_line, write_line,
+};
 use lbk_rules::{CellPages, Profile};
 use std::alloc::{AllocError, Global};
+use test_support::calls::replay_line;
 
-pub fn read(alloc: Global, bytes: Text, form: Form) -> Result<String> {
-    let bytes = bytes.bytes(alloc)?;
-    read_told(alloc, calls::read_line(alloc, &bytes, form))
+pub fn read(alloc: Global, input: &Input) -> Result<String> {
+    read_told(
+        alloc,
+        counted(alloc, || read_line(alloc, &input.bytes, input.form)),
+    )
 }
 
-pub fn read_passage(alloc: Global, bytes: Text) -> Result<String> {
-    let bytes = bytes.bytes(alloc)?;
-    read_told(alloc, calls::read_passage_line(alloc, &bytes))
+pub fn read_passage(alloc: Global, input: &Input) -> Result<String> {
+    read_told(
+        alloc,
+        counted(alloc, || read_passage_line(alloc, &input.bytes)),
+    )
 }
 
-pub fn again(alloc: Global, input: &Input, form: Form, profile: Profile) -> Result<String> {
+pub fn again(alloc: Global, input: &Input, profile: Profile) -> Result<String> {
     let line = input.line(alloc, profile)?;
-    read_told(alloc, calls::read_back(alloc, &line, form))
+    read_told(
+        alloc,
+        counted(alloc, || read_back(alloc, &line, input.form)),
+    )
 }
 
-pub fn write(alloc: Global, input: &Input, form: Form, profile: Profile) -> Result<String> {
+pub fn write(alloc: Global, input: &Input, profile: Profile) -> Result<String> {
     let line = input.line(alloc, profile)?;
-    match calls::write_line(alloc, &line, form) {
+    match counted(alloc, || write_line(alloc, &line, input.form)) {
         Ok(written) => written_told(alloc, &written),
         Err(fault) => fault_told(alloc, &fault),
     }
@@ -39,7 +48,7 @@ fn written_told(alloc: Global, written: &[u8]) -> Result<String> {
 
 pub fn mark(alloc: Global, input: &Input, profile: Profile) -> Result<String> {
     let text = input.text()?;
-    match calls::mark_text(alloc, &input.cells, text, profile) {
+    match counted(alloc, || mark_text(alloc, &input.cells, text, profile)) {
         Ok(line) => line_told(alloc, &line),
         Err(fault) => fault_told(alloc, &fault),
     }
@@ -67,15 +76,11 @@ fn outcomes_told(
     profile: Profile,
 ) -> Result<String> {
     begin(alloc);
-    let agrees = outcome(source, line, Form::Kinds, profile);
-    let kinds = outcome(source, unbroken, Form::Kinds, profile);
-    let plain = outcome(source, unbroken, Form::Plain, profile);
+    let agrees = replay_line(source, line, Form::Kinds, profile);
+    let kinds = replay_line(source, unbroken, Form::Kinds, profile);
+    let plain = replay_line(source, unbroken, Form::Plain, profile);
     end(alloc);
     Ok(format!(in alloc; "{agrees:?}\n{kinds:?}\n{plain:?}\n")?)
-}
-
-fn outcome(source: &CellPages, line: &TestLine, form: Form, profile: Profile) -> Outcome {
-    replay_line(source, line, form, profile)
 }
 
 /// What `TestLine::new` accepts and refuses, and what it lends: none of it allocates.
@@ -111,8 +116,5 @@ fn new_line(
 ) -> Result<Option<TestLine>, AllocError> {
     let scalars = Vec::from_slice(alloc, scalars)?;
     let marks = Vec::from_slice(alloc, marks)?;
-    begin(alloc);
-    let line = TestLine::new(scalars, marks);
-    end(alloc);
-    Ok(line)
+    Ok(counted(alloc, || TestLine::new(scalars, marks)))
 }

@@ -8,7 +8,6 @@
 #![tactic(auto)]
 
 mod breaks;
-mod calls;
 mod commands;
 mod counting;
 mod devices;
@@ -25,6 +24,7 @@ mod property_files;
 mod pushes;
 mod quiet;
 mod rows;
+mod samples;
 mod stepless;
 mod tables;
 mod timing;
@@ -32,16 +32,17 @@ mod told;
 mod trial;
 mod verdicts;
 
-use anyhow::Result;
+use anyhow::{Result, bail};
 use lbk_rules::Profile;
-use rows::{GROUPS, Row, trial_of};
+use rows::{calls, others, trial_of};
 use std::env;
 use std::process::ExitCode;
+use trial::Trial;
 
 const USAGE: u8 = 2;
 
 /// How much of a result is shown in a run of all rows.
-const SHOWN: usize = 400;
+const SHOWN: usize = 5000;
 
 fn main(rt: HostRuntime) -> Result<ExitCode> {
     let words: Vec<String> = env::args(&rt)?.skip(1).collect(rt.alloc())?;
@@ -79,24 +80,36 @@ fn run_one(rt: &HostRuntime, name: &str, profile: Profile) -> Result<ExitCode> {
 
 /// Runs all rows, in both profiles if it matters, and writes short results, and a digest of the others.
 fn run_all(rt: &HostRuntime) -> Result<ExitCode> {
-    for group in &GROUPS {
-        run_rows(rt, group.rows())?;
+    for (name, trial) in others() {
+        run_row(rt, name, *trial)?;
+    }
+    for (call, _, texts) in calls() {
+        run_call(rt, call, texts)?;
     }
     Ok(ExitCode::SUCCESS)
 }
 
-fn run_rows(rt: &HostRuntime, rows: &[Row]) -> Result<()> {
-    for row in rows {
-        run_shortly(rt, row, Profile::First)?;
-        if row.1.has_profile() {
-            run_shortly(rt, row, Profile::Second)?;
-        }
+/// Runs a call on these texts.
+fn run_call(rt: &HostRuntime, call: &str, texts: &str) -> Result<()> {
+    for text in texts.split(' ') {
+        let name = format!(in rt.alloc(); "{call}/{text}")?;
+        let Some(trial) = trial_of(name.as_str()) else {
+            bail!("there is no text {text}");
+        };
+        run_row(rt, name.as_str(), trial)?;
     }
     Ok(())
 }
 
-fn run_shortly(rt: &HostRuntime, row: &Row, profile: Profile) -> Result<()> {
-    let (name, trial) = row;
+fn run_row(rt: &HostRuntime, name: &str, trial: Trial) -> Result<()> {
+    run_shortly(rt, name, trial, Profile::First)?;
+    if trial.has_profile() {
+        run_shortly(rt, name, trial, Profile::Second)?;
+    }
+    Ok(())
+}
+
+fn run_shortly(rt: &HostRuntime, name: &str, trial: Trial, profile: Profile) -> Result<()> {
     let told = trial.run(rt.alloc(), profile)?;
     match profile {
         Profile::First => println!(rt; "row {name}")?,

@@ -1,6 +1,5 @@
 //! The inputs of the layers.
 
-use crate::engines::Engine;
 use crate::passages::segmenter_of;
 use anyhow::{Result, bail};
 use lbk_feed::devices::{MemorySink, MemorySource};
@@ -8,6 +7,7 @@ use lbk_passage::LIMIT_MAX;
 use lbk_rules::{CellPages, CellSource, Profile};
 use lbk_ucd::{Files, Tables};
 use std::alloc::Global;
+use test_support::engines::{Engine, Setting};
 
 /// The most bytes of a text that the layers run over.
 const TEXT_MOST: usize = 1_000_000;
@@ -78,8 +78,11 @@ pub fn passages_of(alloc: Global, cells: &CellPages, text: &str) -> Result<Vec<(
 pub fn shown_of(alloc: Global, cells: &CellPages, text: &str) -> Result<MemorySink> {
     let mut source = MemorySource::new(text.as_bytes());
     let mut sink = MemorySink::new(alloc, SHOWN_MOST)?;
-    let (limit, profile) = (LIMIT_MAX, Profile::First);
-    let answer = Engine::Show.write(alloc, &mut source, &mut sink, cells, limit, profile);
+    let setting = Setting {
+        limit: LIMIT_MAX,
+        ..Setting::new(alloc, cells, Profile::First)
+    };
+    let answer = Engine::Show.write(setting, &mut source, &mut sink);
     if answer.is_err() {
         bail!("the text cannot be shown");
     }

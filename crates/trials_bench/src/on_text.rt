@@ -1,36 +1,40 @@
 //! Calls on a text.
 
-use crate::engines::Engine;
-use crate::inputs::{Input, Text};
-use crate::{breaks, engines, lines, passages, pushes, verdicts};
+use crate::inputs::Input;
+use crate::samples::Sample;
+use crate::{breaks, devices, engines, lines, passages, pushes, verdicts};
 use anyhow::Result;
-use lbk_notation::Form;
 use lbk_rules::Profile;
 use std::alloc::Global;
+use test_support::engines::Engine;
 
-/// A call on a text, with the cells of the sample files. Its result may depend on the profile.
+/// A call on a text, with the cells of the sample files.
 #[derive(Clone, Copy)]
 pub enum OnText {
-    /// `Segmenter::next` with a limit, until the end of the text or a fault.
-    Next(u32),
+    /// `Segmenter::next`, until the end of the text or a fault.
+    Next,
+    /// `read_line`.
+    ReadLine,
+    /// `read_passage_line`.
+    ReadPassageLine,
     /// `read_back` of the text's line.
-    ReadBack(Form),
+    ReadBack,
     /// `write_line` of the text's line.
-    WriteLine(Form),
+    WriteLine,
     /// `mark_text`.
     MarkText,
     /// `push_line` of the text's line.
-    PushLine(Form),
+    PushLine,
     /// `push_passage_line`.
     PushPassageLine,
-    /// `show` with a limit.
-    Show(u32),
-    /// `segment` with a limit.
-    Segment(u32),
-    /// `break_text` with a limit.
-    BreakText(u32),
+    /// `show`, `mark` or `segment`.
+    Write(Engine),
+    /// `break_text`.
+    BreakText,
     /// `replay`.
-    Replay(Form),
+    Replay,
+    /// The feed, which allocates nothing.
+    Feed,
     /// `decide`, `decide_in`, `decide_all`, `decide_all_in`, which allocate nothing.
     Decide,
     /// Each call of `Machine` and `LateMachine`, and `label`, which allocate nothing.
@@ -42,26 +46,34 @@ pub enum OnText {
 }
 
 impl OnText {
+    /// Whether its result depends on the profile.
+    pub fn has_profile(self) -> bool {
+        !matches!(
+            self,
+            OnText::ReadLine | OnText::ReadPassageLine | OnText::Feed
+        )
+    }
+
     /// Makes what the call needs, makes the call, and returns its result as text.
-    pub fn run(self, alloc: Global, text: Text, profile: Profile) -> Result<String> {
-        let input = Input::new(alloc, text)?;
+    pub fn run(self, alloc: Global, sample: Sample, profile: Profile) -> Result<String> {
+        let input = Input::new(alloc, sample)?;
         self.run_on(alloc, &input, profile)
     }
 
     fn run_on(self, alloc: Global, input: &Input, profile: Profile) -> Result<String> {
         match self {
-            OnText::Next(limit) => passages::next(alloc, input, limit, profile),
-            OnText::ReadBack(form) => lines::again(alloc, input, form, profile),
-            OnText::WriteLine(form) => lines::write(alloc, input, form, profile),
+            OnText::Next => passages::next(alloc, input, profile),
+            OnText::ReadLine => lines::read(alloc, input),
+            OnText::ReadPassageLine => lines::read_passage(alloc, input),
+            OnText::ReadBack => lines::again(alloc, input, profile),
+            OnText::WriteLine => lines::write(alloc, input, profile),
             OnText::MarkText => lines::mark(alloc, input, profile),
-            OnText::PushLine(form) => pushes::line(alloc, input, form, profile),
+            OnText::PushLine => pushes::line(alloc, input, profile),
             OnText::PushPassageLine => pushes::passage_line(alloc, input, profile),
-            OnText::Show(limit) => engines::write(alloc, Engine::Show, input, limit, profile),
-            OnText::Segment(limit) => {
-                engines::write(alloc, Engine::Segment, input, limit, profile)
-            }
-            OnText::BreakText(limit) => engines::break_text(alloc, input, limit, profile),
-            OnText::Replay(form) => engines::replay(alloc, input, form, profile),
+            OnText::Write(engine) => engines::write(alloc, engine, input, profile),
+            OnText::BreakText => engines::break_text(alloc, input, profile),
+            OnText::Replay => engines::replay(alloc, input, profile),
+            OnText::Feed => devices::feed(alloc, input),
             OnText::Decide => verdicts::decided(alloc, input, profile),
             OnText::Machines => verdicts::machines(alloc, input, profile),
             OnText::Breaks => breaks::breaks(alloc, input, profile),

@@ -1,6 +1,6 @@
 //! `Segmenter::new` and `next`.
 
-use crate::calls;
+use crate::counting::{begin, counted, end};
 use crate::digest::Digest;
 use crate::inputs::{Input, cells, source_of};
 use crate::told::fault_told;
@@ -11,6 +11,7 @@ use lbk_passage::{Passage, PassageFault, Piece, Segment, Segmenter};
 use lbk_rules::{CellPages, Profile};
 use std::alloc::{AllocError, Global};
 use std::fmt::Write;
+use test_support::calls::{self, next_passage};
 
 /// More calls of `next` than any row needs.
 const CALLS: usize = 10_000;
@@ -21,15 +22,15 @@ pub fn new(alloc: Global, limit: u32, profile: Profile) -> Result<String> {
 }
 
 fn new_told(alloc: Global, cells: &CellPages, limit: u32, profile: Profile) -> Result<String> {
-    match calls::segmenter(alloc, cells, limit, profile) {
+    match counted(alloc, || Segmenter::new(alloc, cells, limit, profile)) {
         Ok(_segmenter) => Ok(String::from_str(alloc, "Ok\n")?),
         Err(fault) => fault_told(alloc, &fault),
     }
 }
 
 /// All passages of a text, and the result after them, with the number of reads so far.
-pub fn next(alloc: Global, input: &Input, limit: u32, profile: Profile) -> Result<String> {
-    let mut segmenter = segmenter_of(alloc, &input.cells, limit, profile)?;
+pub fn next(alloc: Global, input: &Input, profile: Profile) -> Result<String> {
+    let mut segmenter = segmenter_of(alloc, &input.cells, input.limit, profile)?;
     all_told(alloc, &mut segmenter, &input.bytes)
 }
 
@@ -40,7 +41,7 @@ pub fn segmenter_of(
     limit: u32,
     profile: Profile,
 ) -> Result<Segmenter<'_, CellPages>> {
-    match calls::bare_segmenter(alloc, cells, limit, profile) {
+    match calls::segmenter_of(alloc, cells, limit, profile) {
         Ok(segmenter) => Ok(segmenter),
         Err(_) => Err(anyhow!("the limit of this row is refused")),
     }
@@ -68,7 +69,9 @@ fn tell_call(
     segmenter: &mut Segmenter<'_, CellPages>,
     source: &mut MemorySource<'_>,
 ) -> Result<bool, AllocError> {
-    let answer = calls::next(alloc, segmenter, source);
+    begin(alloc);
+    let answer = next_passage(segmenter, source);
+    end(alloc);
     tell_answer(told, &answer)?;
     let goes_on = matches!(answer, Ok(Some(_)) | Err(PassageFault::Memory));
     tell_reads(told, source)?;

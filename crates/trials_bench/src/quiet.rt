@@ -3,7 +3,7 @@
 
 use crate::counting::{begin, end};
 use crate::digest::Digest;
-use crate::inputs::{Text, cells, tables_of};
+use crate::inputs::{cells, tables_of};
 use crate::told::{digest_told, told};
 use crate::{devices, lines};
 use anyhow::Result;
@@ -17,8 +17,6 @@ use std::alloc::Global;
 /// The calls.
 #[derive(Clone, Copy)]
 pub enum Quiet {
-    /// `Feed::new`, `ready`, `piece`, `settle`, `advance`, `given`.
-    Feed(Text),
     /// `Device::new`, its `read` and `write`, `reads`, `failures`, `ended`; `write_all`.
     Device,
     /// `line_break`, `east_asian`, `category`, `is_pictographic` and `run` of `Tables`.
@@ -34,7 +32,6 @@ pub enum Quiet {
 impl Quiet {
     pub fn run(self, alloc: Global) -> Result<String> {
         match self {
-            Quiet::Feed(text) => devices::feed(alloc, text),
             Quiet::Device => devices::device(alloc),
             Quiet::LookUps => look_ups(alloc),
             Quiet::Cells => both_cells(alloc),

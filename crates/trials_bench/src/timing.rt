@@ -69,21 +69,15 @@ fn print_layers(rt: &HostRuntime, name: &str, material: &Material<'_>) -> Result
         material.passages.len()
     )?;
     let mut machine = 0;
-    for (layer, best) in LAYERS.iter().zip(best.iter()) {
+    for ((layer, _), best) in LAYERS.iter().zip(best.iter()) {
         if matches!(layer, Layer::Machine) {
             machine = rate(material.text.len(), best.time);
         }
     }
-    for (layer, best) in LAYERS.iter().zip(best.iter()) {
+    for ((layer, name), best) in LAYERS.iter().zip(best.iter()) {
         match layer.bytes(material) {
-            Some(bytes) => print_rate(
-                rt,
-                layer.name(),
-                rate(bytes, best.time),
-                machine,
-                best.count,
-            )?,
-            None => print_time(rt, layer.name(), best.time)?,
+            Some(bytes) => print_rate(rt, name, rate(bytes, best.time), machine, best.count)?,
+            None => print_time(rt, name, best.time)?,
         }
     }
     Ok(())
@@ -114,7 +108,7 @@ fn best_of(rt: &HostRuntime, material: &Material<'_>) -> Result<[Best; LAYERS.le
         count: 0,
     }; LAYERS.len()];
     for _ in 0..ROUNDS {
-        for (k, layer) in LAYERS.iter().enumerate() {
+        for (k, (layer, _)) in LAYERS.iter().enumerate() {
             let start = Instant::now(rt)?;
             let count = layer.run(rt.alloc(), material)?;
             let time = start.elapsed(rt)?;

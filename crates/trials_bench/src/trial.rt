@@ -5,7 +5,8 @@ use crate::inputs::Text;
 use crate::on_text::OnText;
 use crate::property_files::PropertyFiles;
 use crate::quiet::Quiet;
-use crate::{engines, lines, passages, pushes, tables};
+use crate::samples::Sample;
+use crate::{engines, passages, pushes, tables};
 use anyhow::Result;
 use lbk_notation::{Form, Mark};
 use lbk_rules::Profile;
@@ -24,10 +25,6 @@ pub enum Trial {
     Cells(PropertyFiles),
     /// `Segmenter::new` with a limit.
     NewSegmenter(u32),
-    /// `read_line`.
-    ReadLine(Text, Form),
-    /// `read_passage_line`.
-    ReadPassageLine(Text),
     /// `push_scalar`.
     PushScalar(char, Form),
     /// `push_mark`.
@@ -43,7 +40,7 @@ pub enum Trial {
     /// `run` on an input.
     Run(Words, Text),
     /// A call on a text.
-    OnText(Text, OnText),
+    OnText(OnText, Sample),
     /// A call that allocates nothing.
     Quiet(Quiet),
 }
@@ -51,7 +48,11 @@ pub enum Trial {
 impl Trial {
     /// Whether its result depends on the profile.
     pub fn has_profile(self) -> bool {
-        matches!(self, Trial::NewSegmenter(_) | Trial::OnText(_, _))
+        match self {
+            Trial::NewSegmenter(_) => true,
+            Trial::OnText(call, _) => call.has_profile(),
+            _ => false,
+        }
     }
 
     /// Makes what the call needs, makes the call, and returns its result as text.
@@ -62,8 +63,6 @@ impl Trial {
             Trial::Pages(files) => tables::build(alloc, files),
             Trial::Cells(files) => tables::read_both(alloc, files),
             Trial::NewSegmenter(limit) => passages::new(alloc, limit, profile),
-            Trial::ReadLine(bytes, form) => lines::read(alloc, bytes, form),
-            Trial::ReadPassageLine(bytes) => lines::read_passage(alloc, bytes),
             Trial::PushScalar(c, form) => pushes::scalar(alloc, c, form),
             Trial::PushMark(mark, form) => pushes::mark(alloc, mark, form),
             Trial::Parse(words) => commands::parse(alloc, words),
@@ -71,7 +70,7 @@ impl Trial {
             Trial::Load(name, most) => commands::load(alloc, name, most),
             Trial::Prepare(words) => commands::prepared(alloc, words),
             Trial::Run(words, input) => commands::run(alloc, words, input),
-            Trial::OnText(text, call) => call.run(alloc, text, profile),
+            Trial::OnText(call, sample) => call.run(alloc, sample, profile),
             Trial::Quiet(quiet) => quiet.run(alloc),
         }
     }
