@@ -205,35 +205,48 @@ after_prefix Second wide false quote letter side Alphabetic wide_2 pict_2 quote_
 after_prefix Second wide true quote letter side _ wide_2 pict_2 quote_2 letter_2 more = refl
 after_prefix Second wide false quote letter side _ wide_2 pict_2 quote_2 letter_2 more = refl
 
-from_11-parts : (profile : Profile) (class : Class) (wide pict_cn : Bool) (quote : Quote) (letter : Bool)
+prefix-parts : (profile : Profile) (wide pict_cn : Bool) (quote : Quote) (letter : Bool) (side right : Side)
+    → from_11 profile (asked_of_unit (cell_of PrefixNumeric wide pict_cn quote letter) ∷ side) right
+    ≡ from_11 profile (cell_of PrefixNumeric wide pict_cn quote letter ∷ side) right
+unfolding compared
+prefix-parts First wide true quote letter side [] = refl
+prefix-parts First wide false quote letter side [] = refl
+prefix-parts Second wide true quote letter side [] = refl
+prefix-parts Second wide false quote letter side [] = refl
+prefix-parts profile wide pict_cn quote letter side (r ∷ more) =
+    after_prefix profile wide pict_cn quote letter side r.class r.wide r.pict_cn r.quote r.letter more
+
+base-parts : (profile : Profile) (wide pict_cn : Bool) (quote : Quote) (letter : Bool) (side right : Side)
+    → from_11 profile (asked_of_unit (cell_of EBase wide pict_cn quote letter) ∷ side) right
+    ≡ from_11 profile (cell_of EBase wide pict_cn quote letter ∷ side) right
+unfolding compared
+base-parts First wide pict_cn quote letter side right =
+    ap (before_28 First (cell_of EBase wide pict_cn quote letter ∷ side) right)
+    (sym (decided_twice pict_cn (at EM right) stays_together may_break))
+base-parts Second wide pict_cn quote letter side right =
+    ap (before_28 Second (cell_of EBase wide pict_cn quote letter ∷ side) right)
+    (sym (decided_twice pict_cn (at EM right) stays_together may_break))
+
+from_11-parts : (class : Class) (profile : Profile) (wide pict_cn : Bool) (quote : Quote) (letter : Bool)
     (side right : Side)
     → from_11 profile (asked_of_unit (cell_of class wide pict_cn quote letter) ∷ side) right
     ≡ from_11 profile (cell_of class wide pict_cn quote letter ∷ side) right
 unfolding compared
-from_11-parts First CloseParenthesis true pict_cn quote letter side right = refl
-from_11-parts First CloseParenthesis false pict_cn quote letter side right = refl
-from_11-parts First EBase wide pict_cn quote letter side right =
-    ap (before_28 First (cell_of EBase wide pict_cn quote letter ∷ side) right)
-    (sym (decided_twice pict_cn (at EM right) stays_together may_break))
-from_11-parts First PrefixNumeric wide true quote letter side [] = refl
-from_11-parts First PrefixNumeric wide false quote letter side [] = refl
-from_11-parts First PrefixNumeric wide pict_cn quote letter side (r ∷ more) =
-    after_prefix First wide pict_cn quote letter side r.class r.wide r.pict_cn r.quote r.letter more
-from_11-parts First _ wide pict_cn quote letter side right = refl
-from_11-parts Second CloseParenthesis true pict_cn quote letter side right = refl
-from_11-parts Second CloseParenthesis false pict_cn quote letter side right = refl
-from_11-parts Second EBase wide pict_cn quote letter side right =
-    ap (before_28 Second (cell_of EBase wide pict_cn quote letter ∷ side) right)
-    (sym (decided_twice pict_cn (at EM right) stays_together may_break))
-from_11-parts Second PrefixNumeric wide true quote letter side [] = refl
-from_11-parts Second PrefixNumeric wide false quote letter side [] = refl
-from_11-parts Second PrefixNumeric wide pict_cn quote letter side (r ∷ more) =
-    after_prefix Second wide pict_cn quote letter side r.class r.wide r.pict_cn r.quote r.letter more
-from_11-parts Second Quotation wide pict_cn Initial letter side right = refl
-from_11-parts Second Quotation wide pict_cn _ letter side right = refl
-from_11-parts Second _ wide pict_cn quote letter side right = refl
+from_11-parts CloseParenthesis First true pict_cn quote letter side right = refl
+from_11-parts CloseParenthesis First false pict_cn quote letter side right = refl
+from_11-parts CloseParenthesis Second true pict_cn quote letter side right = refl
+from_11-parts CloseParenthesis Second false pict_cn quote letter side right = refl
+from_11-parts EBase profile wide pict_cn quote letter side right =
+    base-parts profile wide pict_cn quote letter side right
+from_11-parts PrefixNumeric profile wide pict_cn quote letter side right =
+    prefix-parts profile wide pict_cn quote letter side right
+from_11-parts Quotation First wide pict_cn quote letter side right = refl
+from_11-parts Quotation Second wide pict_cn Initial letter side right = refl
+from_11-parts Quotation Second wide pict_cn _ letter side right = refl
+from_11-parts _ First wide pict_cn quote letter side right = refl
+from_11-parts _ Second wide pict_cn quote letter side right = refl
 
 pub from_11-asked : (profile : Profile) (cell : Cell) (side right : Side)
     → from_11 profile (asked_of_unit cell ∷ side) right ≡ from_11 profile (cell ∷ side) right
-from_11-asked profile cell side right = from_11-parts profile cell.class cell.wide cell.pict_cn cell.quote cell.letter
+from_11-asked profile cell side right = from_11-parts cell.class profile cell.wide cell.pict_cn cell.quote cell.letter
     side right

@@ -177,6 +177,15 @@ answer-snoc profile left cell more =
     ∙ ap (λ v. cond holds (Some (length left, v)) (cond begins None (option_map (f whole) (unanswered profile left))))
     (verdict_in-append profile left (cell ∷ more))
 
+-- a position's verdict at its own step, by the whole text
+pub now_at-whole : (profile : Profile) (left : List Cell) (cell : Cell) (more : List Cell)
+    → now_at profile left (cell ∷ more)
+    ≡ cond (is_held profile left (cell ∷ more)) None
+    (Some (verdict_in profile (left ++ cell ∷ more) (length left)))
+now_at-whole profile left cell more =
+    ap (λ v. cond (is_held profile left (cell ∷ more)) None (Some v))
+    (sym (verdict_in-append profile left (cell ∷ more)))
+
 -- a machine's step over some cells
 pub Covers-taken : (profile : Profile) (left : List Cell) (cell : Cell) (more : List Cell) (list : List Verdict)
     (count : ℕ)
@@ -197,14 +206,12 @@ Covers-taken profile left cell more list count late now late_same now_same withi
     omega (arith, length-reverse left)) in
     let stepped = Covers-step value list count n holds begins still (held-heads profile left cell more) within below
     covers in
-    let now_is : now ≡ cond holds None (Some (value n)) =
-    now_same ∙ ap (λ v. cond holds None (Some v)) (sym (verdict_in-append profile left (cell ∷ more))) in
     let P : Option (ℕ × Verdict) → Option Verdict → Option ℕ → Type 0 = λ l o s.
     Covers value (written (option_map (λ v. (n, v)) o) (written l list)) (count + count_of l + count_of o) (n + 1) s in
     let by_late = subst (λ (l : Option (ℕ × Verdict)). P l (cond holds None (Some (value n)))
     (cond holds (Some n) (cond begins None still))) (sym late_same) stepped in
-    let by_now = subst (λ (o : Option Verdict). P late o (cond holds (Some n) (cond begins None still))) (sym now_is)
-    by_late in
+    let by_now = subst (λ (o : Option Verdict). P late o (cond holds (Some n) (cond begins None still)))
+    (sym (now_same ∙ now_at-whole profile left cell more)) by_late in
     subst (λ (s : Option ℕ). P late now s) (sym (unanswered-snoc profile left cell more)) by_now
 
 pub Covers-start : (value : ℕ → Verdict) (list : List Verdict) (profile : Profile)

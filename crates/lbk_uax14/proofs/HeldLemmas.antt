@@ -121,21 +121,15 @@ from_15-settled left right more =
           [ true ↦ λ h. absurd (false≢true (sym h)) | false ↦ λ _. from_16-right left right more [] ]
     ]
 
-from_14-settled : (left : Side) (right : Cell) (more : Side) → is_15b (from_14 Second left (right ∷ [])).rule ≡ false
-    → from_14 Second left (right ∷ more) ≡ from_14 Second left (right ∷ [])
-unfolding from_14 opening_rules
-from_14-settled left right more =
-    choose-settled opening_rules left (right ∷ []) (from_15 Second left (right ∷ more))
-    (from_15 Second left (right ∷ []))
-    (from_15-settled left right more)
-
 from_11-settled : (left : Side) (right : Cell) (more : Side) → is_15b (from_11 Second left (right ∷ [])).rule ≡ false
     → from_11 Second left (right ∷ more) ≡ from_11 Second left (right ∷ [])
-unfolding from_11 joining_rules
+unfolding from_11 from_14 joining_rules opening_rules
 from_11-settled left right more =
     choose-settled joining_rules left (right ∷ []) (from_14 Second left (right ∷ more))
     (from_14 Second left (right ∷ []))
-    (from_14-settled left right more)
+    (choose-settled opening_rules left (right ∷ []) (from_15 Second left (right ∷ more))
+    (from_15 Second left (right ∷ []))
+    (from_15-settled left right more))
 
 -- where rule 15b does not decide before the last cell, no cell after it counts
 pub from_cells-settled : (profile : Profile) (left : Side) (right : Cell) (more : List Cell)

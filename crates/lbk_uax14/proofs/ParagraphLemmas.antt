@@ -78,18 +78,13 @@ from_15-alike Second last a b right alike =
     ap (λ v. choose (quotation_rules Second) (last ∷ a) right v) (from_16-alike last a b right alike)
     ∙ rw alike.quotation
 
-from_14-alike : (profile : Profile) (last : Cell) (a b : Side) (right : Side) → Alike last a b
-    → from_14 profile (last ∷ a) right ≡ from_14 profile (last ∷ b) right
-unfolding from_14 opening_rules
-from_14-alike profile last a b right alike =
-    ap (λ v. choose opening_rules (last ∷ a) right v) (from_15-alike profile last a b right alike)
-    ∙ rw alike.after_opening
-
 from_11-alike : (profile : Profile) (last : Cell) (a b : Side) (right : Side) → Alike last a b
     → from_11 profile (last ∷ a) right ≡ from_11 profile (last ∷ b) right
-unfolding from_11 joining_rules
+unfolding from_11 from_14 joining_rules opening_rules
 from_11-alike profile last a b right alike =
-    ap (λ v. choose joining_rules (last ∷ a) right v) (from_14-alike profile last a b right alike)
+    ap (λ v. choose joining_rules (last ∷ a) right (choose opening_rules (last ∷ a) right v))
+    (from_15-alike profile last a b right alike)
+    ∙ rw alike.after_opening
 
 -- Behind the end of a line
 

@@ -14,8 +14,7 @@ use Rattle.lbk_uax14.specs.Held.{is_held, answer_at, late_at, now_at, unanswered
 use Rattle.lbk_uax14.specs.LateFits.{LateFits, held_position}
 use Rattle.lbk_uax14.specs.Once.{named, came_late, came_now}
 use Rattle.lbk_uax14.specs.Verdict.{verdict_in, verdict_between_in}
-use Rattle.lbk_uax14.proofs.CoverLemmas.{held-heads, some-same, unanswered-below, unanswered-snoc}
-use Rattle.lbk_uax14.proofs.MachineLemmas.{verdict_in-append}
+use Rattle.lbk_uax14.proofs.CoverLemmas.{held-heads, now_at-whole, some-same, unanswered-below, unanswered-snoc}
 use Rattle.lbk_uax14.proofs.WaitingLemmas.{position_of, unanswered-waiting}
 
 -- a machine that fits holds the position that is unanswered, and none else
@@ -171,18 +170,14 @@ pub AllCome-step : (profile : Profile) (cells : List Cell) (cell : Cell) (more :
 AllCome-step profile cells cell more late now before after late_same now_same taken come =
     let n = length cells in
     let value : ℕ → Verdict = λ k. verdict_in profile (cells ++ cell ∷ more) k in
-    let holds = is_held profile cells (cell ∷ more) in
-    let begins = heads (reverse cells) cell in
-    let still = unanswered profile cells in
-    let now_is : now ≡ cond holds None (Some (value n)) =
-    now_same ∙ ap (λ v. cond holds None (Some v)) (sym (verdict_in-append profile cells (cell ∷ more))) in
     let by_late = subst (λ (l : Option (ℕ × Verdict)). IsTaken value n l now before after) late_same taken in
-    let by_now = subst (λ (o : Option Verdict). IsTaken value n (late_at profile cells cell more) o before after) now_is
-    by_late in
+    let by_now = subst (λ (o : Option Verdict). IsTaken value n (late_at profile cells cell more) o before after)
+    (now_same ∙ now_at-whole profile cells cell more) by_late in
     record {
       each = λ k below apart.
-          come-step value n holds begins still before after (held-heads profile cells cell more) by_now come.each k
-          (omega (arith, length_push cells cell)) (λ e. apart (unanswered-snoc profile cells cell more ∙ e));
+          come-step value n (is_held profile cells (cell ∷ more)) (heads (reverse cells) cell) (unanswered profile cells)
+          before after (held-heads profile cells cell more) by_now come.each k (omega (arith, length_push cells cell))
+          (λ e. apart (unanswered-snoc profile cells cell more ∙ e));
     }
 
 -- the end: the answer to the position that is open, and that to the last

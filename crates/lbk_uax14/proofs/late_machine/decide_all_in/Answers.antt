@@ -1,7 +1,9 @@
-use Rattle.std.proofs.Common.{◌≡◌, ◌∷◌, ◌++◌, ◌+◌, ◌-◌, ◌<◌, [], ℕ, List, take, drop, length, get_or, arith, sym, ap}
+use Rattle.std.proofs.Common.{◌≡◌, ◌∷◌, ◌++◌, ◌+◌, ◌-◌, ◌<◌, ◌≤◌, [], ℕ, List, take, drop, length, get_or, arith, sym, ap}
 use Rattle.std.proofs.Common.{subst, ◌∙◌}
 use Rattle.std.proofs.lemmas.List.{take_more, take_all, length-take-le}
 use Rattle.lbk_uax14.specs.declared.cells.Cell.{Cell}
+use Rattle.lbk_uax14.specs.declared.late_machine.LateMachine.{LateMachine}
+use Rattle.lbk_values.specs.declared.profile.Profile.{Profile}
 use Rattle.lbk_uax14.specs.Units.{letter}
 use Rattle.lbk_uax14.specs.Answers.{count_of}
 use Rattle.lbk_uax14.specs.Held.{late_at, unanswered}
@@ -74,14 +76,19 @@ loop-k-preserved c =
           c.loop-k.invariant.covers;
     }
 
+-- behind the last cell the machine fits the whole list
+whole-fits : (machine : LateMachine) (profile : Profile) (cells : List Cell) (k : ℕ) → length cells ≤ k
+    → LateFits machine profile (take k cells) → LateFits machine profile cells
+whole-fits machine profile cells k past fits =
+    subst (λ (l : List Cell). LateFits machine profile l) (take_all k cells past) fits
+
 pub write_late-answers-requires-2 : goal.write_late-answers-requires-2
 write_late-answers-requires-2 c = λ answer e.
     let profile = c.args.profile in
     let cells = c.args.cells.now in
     let k = c.loop-k.k in
     let place : k ≡ length cells = omega arith in
-    let whole : take k cells ≡ cells = take_all k cells (omega arith) in
-    let fits = subst (λ (l : List Cell). LateFits c.loop-k.machine profile l) whole c.loop-k.invariant.fits in
+    let fits = whole-fits c.loop-k.machine profile cells k (omega arith) c.loop-k.invariant.fits in
     let below = answer_at-below profile cells [] answer (sym (c.finish-end.ensures.late profile cells fits) ∙ e) in
     omega (arith, c.requires, c.loop-k.auto.verdicts)
 
@@ -90,9 +97,9 @@ returns c =
     let profile = c.args.profile in
     let cells = c.args.cells.now in
     let k = c.loop-k.k in
+    let fits = whole-fits c.loop-k.machine profile cells k (omega arith) c.loop-k.invariant.fits in
     let place : k ≡ length cells = omega arith in
     let whole : take k cells ≡ cells = take_all k cells (omega arith) in
-    let fits = subst (λ (l : List Cell). LateFits c.loop-k.machine profile l) whole c.loop-k.invariant.fits in
     let by_place = subst (λ (n : ℕ). Covers (λ j. verdict_in profile cells j) c.loop-k.verdicts c.loop-k.answers n
     (unanswered profile (take k cells)))
     place c.loop-k.invariant.covers in
