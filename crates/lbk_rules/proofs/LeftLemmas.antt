@@ -8,7 +8,7 @@ use Rattle.lbk_uax14.specs.declared.classes.Class.TheVariants.{Alphabetic}
 use Rattle.lbk_uax14.specs.declared.facts.Before.{Before}
 use Rattle.lbk_uax14.specs.declared.facts.Left.{Left}
 use Rattle.lbk_uax14.specs.Units.{letter}
-use Rattle.lbk_rules.proofs.PagesLemmas.{cell_Decides, class_Decides}
+use Rattle.lbk_rules.proofs.PagesLemmas.{cell_Decides, class_Decides, five_Decide}
 
 before_from_fields : (one other : Before) → one.last ≡ other.last → one.before_spaces ≡ other.before_spaces
     → one.hebrew_hyphen ≡ other.hebrew_hyphen → one.odd_indicators ≡ other.odd_indicators
@@ -22,15 +22,11 @@ before_from_fields one other last spaces hebrew indicators quotation = λ i. rec
 }
 
 before_Decides : (one other : Before) → Decides (before_eq.it one other) (one ≡ other)
-before_Decides one other =
-    Decides-like _
-    (λ p. before_from_fields one other p.0 p.1.0 p.1.1.0 p.1.1.1.0 p.1.1.1.1)
+before_Decides one other = five_Decide (before_from_fields one other)
     (λ e. (ap (λ b. b.last) e, (ap (λ b. b.before_spaces) e, (ap (λ b. b.hebrew_hyphen) e, (ap (λ b. b.odd_indicators) e, ap (λ b. b.opens_quotation) e)))))
-    (Decides-and _ _ (cell_Decides one.last other.last)
-    (Decides-and _ _ (class_Decides one.before_spaces other.before_spaces)
-    (Decides-and _ _ (booleans_Decides one.hebrew_hyphen other.hebrew_hyphen)
-    (Decides-and _ _ (booleans_Decides one.odd_indicators other.odd_indicators)
-    (booleans_Decides one.opens_quotation other.opens_quotation)))))
+    (cell_Decides one.last other.last) (class_Decides one.before_spaces other.before_spaces)
+    (booleans_Decides one.hebrew_hyphen other.hebrew_hyphen) (booleans_Decides one.odd_indicators other.odd_indicators)
+    (booleans_Decides one.opens_quotation other.opens_quotation)
 
 left_from_fields : (one other : Left) → one.empty ≡ other.empty → one.last ≡ other.last
     → one.past_zero_width ≡ other.past_zero_width → one.units ≡ other.units → one ≡ other

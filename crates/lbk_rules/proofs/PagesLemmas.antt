@@ -1,5 +1,5 @@
 -- What is used of pages: that `==` tells them apart, and that equal ones have one digest.
-use Rattle.std.proofs.Common.{◌≡◌, ℕ, ◌+◌, ◌-◌, ◌*◌, ◌/◌, ◌%◌, ◌<◌, ◌≤◌, Bool, List, [], ◌∷◌, ◌++◌, length, map, get_or, inl, inr, ap, sym, ◌∙◌, arith, below_more, Decides}
+use Rattle.std.proofs.Common.{◌≡◌, ℕ, ◌+◌, ◌-◌, ◌*◌, ◌/◌, ◌%◌, ◌<◌, ◌≤◌, Bool, ◌&&◌, List, [], ◌∷◌, ◌++◌, length, map, get_or, inl, inr, ap, sym, ◌∙◌, arith, below_more, Decides}
 use Rattle.std.proofs.Math.Utf8.{scalar_cases}
 use Rattle.std.specs.Char.{IsScalar}
 use Rattle.std.specs.Cmp.{booleans_Decides}
@@ -22,21 +22,25 @@ class_Decides one other = (same_true class_type tt one other, true_same class_ty
 quote_Decides : (one other : Quote) → Decides (sameb quote_type one other) (one ≡ other)
 quote_Decides one other = (same_true quote_type tt one other, true_same quote_type one other)
 
+-- a test of each of five fields decides whether two values are equal
+pub five_Decide : {A P Q R S T : Type 0} {one other : A} {p q r s t : Bool}
+    → (P → Q → R → S → T → one ≡ other) → (one ≡ other → P × (Q × (R × (S × T))))
+    → Decides p P → Decides q Q → Decides r R → Decides s S → Decides t T
+    → Decides (p && (q && (r && (s && t)))) (one ≡ other)
+five_Decide same parts of_p of_q of_r of_s of_t =
+    Decides-like _ (λ all. same all.0 all.1.0 all.1.1.0 all.1.1.1.0 all.1.1.1.1) parts
+    (Decides-and _ _ of_p (Decides-and _ _ of_q (Decides-and _ _ of_r (Decides-and _ _ of_s of_t))))
+
 -- cells with the same fields are equal
 cell_from_fields : (one other : Cell) → one.class ≡ other.class → one.wide ≡ other.wide → one.pict_cn ≡ other.pict_cn → one.quote ≡ other.quote → one.letter ≡ other.letter → one ≡ other
 cell_from_fields one other class wide pict_cn quote letter = λ i. record { class = class i; wide = wide i; pict_cn = pict_cn i; quote = quote i; letter = letter i }
 
 -- `==` of two cells is true exactly where they are equal
 pub cell_Decides : (one other : Cell) → Decides (eq-value.it one other) (one ≡ other)
-cell_Decides one other =
-    Decides-like _
-    (λ p. cell_from_fields one other p.0 p.1.0 p.1.1.0 p.1.1.1.0 p.1.1.1.1)
+cell_Decides one other = five_Decide (cell_from_fields one other)
     (λ e. (ap (λ c. c.class) e, (ap (λ c. c.wide) e, (ap (λ c. c.pict_cn) e, (ap (λ c. c.quote) e, ap (λ c. c.letter) e)))))
-    (Decides-and _ _ (class_Decides one.class other.class)
-    (Decides-and _ _ (booleans_Decides one.wide other.wide)
-    (Decides-and _ _ (booleans_Decides one.pict_cn other.pict_cn)
-    (Decides-and _ _ (quote_Decides one.quote other.quote)
-    (booleans_Decides one.letter other.letter)))))
+    (class_Decides one.class other.class) (booleans_Decides one.wide other.wide)
+    (booleans_Decides one.pict_cn other.pict_cn) (quote_Decides one.quote other.quote) (booleans_Decides one.letter other.letter)
 
 -- `==` of two pages is true exactly where they are equal
 pub page_Decides : (one other : List Cell) (r : Bool) → r ≡ pointwise eq-value.it one other → Decides r (one ≡ other)
