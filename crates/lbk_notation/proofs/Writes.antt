@@ -5,7 +5,7 @@ use Rattle.std.specs.List.{AllByRecursion}
 use Rattle.lbk_notation.specs.declared.marks.Form.{Form}
 use Rattle.lbk_notation.specs.declared.marks.Form.TheVariants.{Plain, Kinds}
 use Rattle.lbk_notation.specs.declared.marks.Mark.{Mark}
-use Rattle.lbk_notation.specs.declared.marks.Mark.TheVariants.{No, May, Must}
+use Rattle.lbk_notation.specs.declared.marks.Mark.TheVariants.{Must}
 use Rattle.lbk_notation.specs.Grammar.{Has, mark_bytes, IsAfter, last, more, IsLine, line}
 use Rattle.lbk_notation.specs.TestLine.{Line}
 use Rattle.lbk_notation.specs.Written.{shown, shown_line, digits_of, token, written_after, written_marks}
@@ -19,12 +19,10 @@ all_scalars [] each = tt
 all_scalars (scalar ∷ scalars) each = (each 0 (omega arith), all_scalars scalars (λ k lt. each (suc k) (omega arith)))
 
 has_shown : (form : Form) (mark : Mark) → Has form (shown form mark)
-has_shown Kinds No = tt
-has_shown Kinds May = tt
 has_shown Kinds Must = tt
-has_shown Plain No = tt
-has_shown Plain May = tt
+has_shown Kinds _ = tt
 has_shown Plain Must = tt
+has_shown Plain _ = tt
 
 regroup : (token mark rest end : List ℕ) → (32 ∷ (token ++ (32 ∷ (mark ++ rest)))) ++ end ≡ 32 ∷ (token ++ (32 ∷ (mark ++ (rest ++ end))))
 regroup token mark rest end =
