@@ -109,8 +109,11 @@ grown-more a b c got more first second = second ∙ ap (λ l. l ++ more) first �
 
 -- reads, and then others
 module _ (a b c : View) (before between after : Option (List ℕ)) (from mid to : Reads) (fresh : b.is_ended ≡ false) (first : Draws a b before between from mid) where
+  gave : mid.count ≤ from.count + length first.got
+  gave = first.each_gave fresh
+
   later : AreDue b.given b.held c.held mid to → AreDue a.given a.held c.held from to
-  later = AreDue-later a.given b.given a.held b.held c.held first.got from mid to first.given first.grown (first.each_gave fresh)
+  later = AreDue-later a.given b.given a.held b.held c.held first.got from mid to first.given first.grown gave
 
   still : IsStill b.held c.held mid to → IsStill a.held b.held from mid ⊎ AreDue a.given a.held b.held from mid
       → IsStill a.held c.held from to ⊎ AreDue a.given a.held c.held from to
@@ -118,36 +121,30 @@ module _ (a b c : View) (before between after : Option (List ℕ)) (from mid to 
   still none (inr due) = inr (AreDue-still a.given a.held b.held c.held from mid to none due)
 
   pub Draws-more : Draws b c between after mid to → Draws a c before after from to
-  Draws-more second =
-      let gave = first.each_gave fresh in
-      let both = length-append first.got second.got in
-      record {
-        got = first.got ++ second.got;
-        grown = grown-more a.held b.held c.held first.got second.got first.grown second.grown;
-        taken = Consumes-trans before between after first.got second.got first.taken second.taken;
-        given = second.given ∙ first.given;
-        spent = second.spent ∙ first.spent;
-        at_end = second.at_end;
-        none_ready = second.none_ready;
-        each_gave = λ is. omega (arith, second.each_gave is, gave, both);
-        but_one_gave = omega (arith, second.but_one_gave, gave, both);
-        due = ⊎_elim (λ none. still none first.due) (λ due. inr (later due)) second.due;
-      }
+  Draws-more second = record {
+    got = first.got ++ second.got;
+    grown = grown-more a.held b.held c.held first.got second.got first.grown second.grown;
+    taken = Consumes-trans before between after first.got second.got first.taken second.taken;
+    given = second.given ∙ first.given;
+    spent = second.spent ∙ first.spent;
+    at_end = second.at_end;
+    none_ready = second.none_ready;
+    each_gave = λ is. omega (arith, second.each_gave is, gave, length-append first.got second.got);
+    but_one_gave = omega (arith, second.but_one_gave, gave, length-append first.got second.got);
+    due = ⊎_elim (λ none. still none first.due) (λ due. inr (later due)) second.due;
+  }
 
   pub Draws-fails : DrawsAndFails b c between after mid to → DrawsAndFails a c before after from to
-  Draws-fails second =
-      let gave = first.each_gave fresh in
-      let both = length-append first.got second.got in
-      record {
-        got = first.got ++ second.got;
-        grown = grown-more a.held b.held c.held first.got second.got first.grown second.grown;
-        front = BeginsWith-after before between first.got second.got first.taken second.front;
-        told = KeepsAfter-after before between after first.got second.got first.taken second.told;
-        given = second.given ∙ first.given;
-        spent = second.spent ∙ first.spent;
-        open_end = second.open_end;
-        none_ready = second.none_ready;
-        but_one_gave = omega (arith, second.but_one_gave, gave, both);
-        goes_on = second.goes_on;
-        due = later second.due;
-      }
+  Draws-fails second = record {
+    got = first.got ++ second.got;
+    grown = grown-more a.held b.held c.held first.got second.got first.grown second.grown;
+    front = BeginsWith-after before between first.got second.got first.taken second.front;
+    told = KeepsAfter-after before between after first.got second.got first.taken second.told;
+    given = second.given ∙ first.given;
+    spent = second.spent ∙ first.spent;
+    open_end = second.open_end;
+    none_ready = second.none_ready;
+    but_one_gave = omega (arith, second.but_one_gave, gave, length-append first.got second.got);
+    goes_on = second.goes_on;
+    due = later second.due;
+  }

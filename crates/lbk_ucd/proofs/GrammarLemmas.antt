@@ -53,9 +53,6 @@ hex_no_space byte hex = rw (differs is_hex 32 refl byte hex, differs is_hex 9 re
 name_no_hash : (byte : ℕ) → is_name_byte byte ≡ true → is_hash byte ≡ false
 name_no_hash = differs is_name_byte 35 refl
 
-name_no_semicolon : (byte : ℕ) → is_name_byte byte ≡ true → is_semicolon byte ≡ false
-name_no_semicolon = differs is_name_byte 59 refl
-
 name_no_space : (byte : ℕ) → is_name_byte byte ≡ true → is_space byte ≡ false
 name_no_space byte name = rw (differs is_name_byte 32 refl byte name, differs is_name_byte 9 refl byte name) refl
 
