@@ -10,7 +10,7 @@ use Rattle.lbk_chunks.specs.declared.cut.Cut.{Cut}
 use Rattle.lbk_chunks.specs.declared.cut.Place.{Place}
 use Rattle.lbk_chunks.specs.declared.cursor.Filled.{Filled}
 use Rattle.lbk_chunks.specs.declared.cut_block.CutBlock.{CutBlock}
-use Rattle.lbk_chunks.specs.declared.cut_block.Mark.{Mark}
+use Rattle.lbk_chunks.specs.declared.cut.Mark.{Mark}
 use Rattle.lbk_chunks.specs.Chunks.{cuts_past}
 use Rattle.lbk_chunks.specs.Coming.{AreCutsPast, AreFirst, IsAhead, IsBlock, IsMark, early_in, last_in, no_cut}
 use Rattle.lbk_chunks.proofs.CutLemmas.{IsSplit, cut-one, first-later, none-past, split}

@@ -8,7 +8,7 @@ use Rattle.lbk_chunks.specs.declared.chunk.Limits.{Limits}
 use Rattle.lbk_chunks.specs.declared.chunking.Given.{Given}
 use Rattle.lbk_chunks.specs.declared.cut.Cut.{Cut}
 use Rattle.lbk_chunks.specs.declared.cut.Place.{Place}
-use Rattle.lbk_chunks.specs.declared.cut_block.Mark.{Mark}
+use Rattle.lbk_chunks.specs.declared.cut.Mark.{Mark}
 use Rattle.lbk_chunks.specs.declared.window.Window.{Window}
 use Rattle.lbk_chunks.specs.declared.chunk.Here.{Here}
 use Rattle.lbk_chunks.specs.Chunks.{AreChunks, AreTold, after, are_limits, chunk_to, cuts_past, end_of, fits}

@@ -5,7 +5,7 @@ use Rattle.lbk_rules.specs.declared.Cell.{Cell}
 use Rattle.lbk_rules.specs.declared.flat_table.FlatTable.{FlatTable}
 use Rattle.lbk_chunks.specs.declared.cut.Cut.{Cut}
 use Rattle.lbk_chunks.specs.declared.cursor.Filled.{Filled}
-use Rattle.lbk_chunks.specs.declared.cut_block.Mark.{Mark}
+use Rattle.lbk_chunks.specs.declared.cut.Mark.{Mark}
 use Rattle.lbk_chunks.specs.Chunks.{cuts_past}
 use Rattle.lbk_chunks.specs.Coming.{AreCutsPast, AreFirst, IsAhead, IsMark, IsStanding, no_cut}
 use Rattle.lbk_chunks.proofs.BlockLemmas.{mark-behind}

@@ -21,7 +21,7 @@ use Rattle.lbk_chunks.specs.declared.cut.Place.{Place}
 use Rattle.lbk_chunks.specs.declared.cursor.Filled.{Filled}
 use Rattle.lbk_chunks.specs.declared.cursor.NextBreaks.{NextBreaks}
 use Rattle.lbk_chunks.specs.declared.cut_block.CutBlock.{CutBlock}
-use Rattle.lbk_chunks.specs.declared.cut_block.Mark.{Mark}
+use Rattle.lbk_chunks.specs.declared.cut.Mark.{Mark}
 use Rattle.lbk_chunks.specs.declared.word_block.WordBlock.{WordBlock}
 use Rattle.lbk_chunks.specs.declared.window.Window.{Window}
 use Rattle.lbk_chunks.specs.declared.chunking.Fitting.{Fitting}

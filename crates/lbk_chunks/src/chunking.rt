@@ -14,8 +14,7 @@ ghost use Rattle.lbk_chunks.specs.Coming.{IsGiven, IsKept, IsStanding, KeepsCuts
 
 use crate::choosing::{are_limits, fits, is_early, may_start};
 use crate::chunk::{Chunk, ChunkState, Here, Limits};
-use crate::cut::Cut;
-use crate::cut_block::Mark;
+use crate::cut::{Cut, Mark};
 use crate::window::Window;
 use lbk_rules::FlatTable;
 

@@ -37,3 +37,10 @@ pub struct Place {
     /// How many words were passed.
     pub words: usize,
 }
+
+/// A place, and the byte of the cut before it.
+#[derive(Clone, Copy)]
+pub(crate) struct Mark {
+    pub(crate) place: Place,
+    pub(crate) at: usize,
+}

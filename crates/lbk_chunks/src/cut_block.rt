@@ -6,33 +6,26 @@ ghost use Rattle.lbk_chunks.specs.declared.cut.Cut.{Cut};
 ghost use Rattle.lbk_chunks.specs.Blocks.{last_or, no_cut};
 
 use crate::cursor::fill_cuts;
-use crate::cut::{Cut, NO_CUTS, Place};
+use crate::cut::{Cut, Mark, NO_CUTS};
 use crate::word_block::WordBlock;
 use lbk_rules::FlatTable;
 
 /// How many cuts a block holds.
 pub(crate) const BLOCK: usize = 64;
 
-/// A place, and the byte of the cut before it.
-#[derive(Clone, Copy)]
-pub(crate) struct Mark {
-    pub(crate) place: Place,
-    pub(crate) at: usize,
-}
-
 /// The cuts from a place on: as many as there was room for, or all.
 #[derive(Clone, Copy)]
 pub(crate) struct CutBlock {
     /// The place before the first.
     pub(crate) before: Mark,
-    /// The place after the last.
-    pub(crate) behind: Mark,
-    /// For how many there was room.
-    pub(crate) room: usize,
-    /// How many there are.
-    pub(crate) count: usize,
     /// The cuts.
     pub(crate) cuts: [Cut; 64],
+    /// How many there are.
+    pub(crate) count: usize,
+    /// For how many there was room.
+    pub(crate) room: usize,
+    /// The place after the last.
+    pub(crate) behind: Mark,
     ghost some: { 0 < room },
     ghost most: { room ≤ 64 },
     ghost size: { length cuts ≡ 64 },
@@ -48,10 +41,10 @@ impl CutBlock {
     pub(crate) fn none(mark: Mark) -> CutBlock {
         CutBlock {
             before: mark,
-            behind: mark,
-            room: BLOCK,
-            count: 0,
             cuts: NO_CUTS,
+            count: 0,
+            room: BLOCK,
+            behind: mark,
         }
     }
 

@@ -9,8 +9,8 @@ ghost use Rattle.lbk_chunks.specs.Coming.{StandWithin, breaks_left};
 ghost use Rattle.lbk_chunks.specs.Cuts.{AreCutsPast};
 
 use crate::cursor::fill_cuts;
-use crate::cut::{Cut, NO_CUTS, Place};
-use crate::cut_block::{BLOCK, CutBlock, Mark};
+use crate::cut::{Cut, Mark, NO_CUTS, Place};
+use crate::cut_block::{BLOCK, CutBlock};
 use crate::word_block::WordBlock;
 use lbk_rules::FlatTable;
 

@@ -1,11 +1,14 @@
-use Rattle.std.proofs.Common.{None, ap, refl, sym, ◌∙◌, arith}
+use Rattle.std.proofs.Common.{◌≡◌, ℕ, false, List, None, ap, refl, sym, ◌∙◌, arith}
 use Rattle.std.specs.Option.{unwrap_or}
+use Rattle.lbk_rules.specs.declared.Cell.{Cell}
 use Rattle.lbk_chunks.specs.declared.cut.Cut.{Cut}
-use Rattle.lbk_chunks.specs.Chunks.{is_early}
+use Rattle.lbk_chunks.specs.Chunks.{fits, is_early}
+use Rattle.lbk_chunks.specs.Coming.{IsCutOf, IsEnd, Knows}
 use Rattle.lbk_chunks.proofs.CutLemmas.{cut-past}
 use Rattle.lbk_chunks.proofs.EndLemmas.{end-alone, end-begins, end-full, end-goes, end-whole, placed-on}
 use Rattle.lbk_chunks.proofs.GivenLemmas.{keeps-behind, keeps-from, keeps-more, knows-still}
 use Rattle.lbk_chunks.proofs.chunking.chunk_end.Goals as goal
+use Rattle.lbk_chunks.proofs.chunking.chunk_end.Goals.{In-Some-first_past}
 
 pub returns-then-not-fits-clause-end : goal.returns-then-not-fits-clause-end
 returns-then-not-fits-clause-end c = λ cell cuts knows.
@@ -68,25 +71,28 @@ loop-next-preserved c =
           (i.placed kept).1 u.ensures.last u.ensures.early));
     }
 
-pub returns-in-Some-early-clause-end : goal.returns-in-Some-early-clause-end
-returns-in-Some-early-clause-end c = λ cell cuts knows.
+-- where the next cut does not fit, the chunk ends at the last early one, or at the last that fits if there is none
+full : (c : In-Some-first_past) → let last = c.loop-next.so_far.last in let next = c.in-Some-first_past.next in
+    (end : Cut) → fits c.args.limits.now c.args.here.now next ≡ false → unwrap_or c.loop-next.so_far.early last ≡ end
+    → (cell : ℕ → Cell) (cuts : List Cut) → Knows cell c.args.table.now c.args.text.now cuts c.args.window.now c.args.here.now
+    → IsEnd c.args.limits.now cuts c.args.here.now end × IsCutOf cuts end
+full c end too_much is cell cuts knows =
     let last = c.loop-next.so_far.last in
     let next = c.in-Some-first_past.next in
     let i = c.loop-next.invariant in
     let joined = c.in-Some-first_past.ensures.first cell cuts knows.rising (i.keeps.are cell cuts knows.rising knows.kept)
     (keeps-behind c.args.table.now c.args.text.now c.args.window.now c.loop-next.window last.at i.keeps (omega (arith, knows.home, knows.told, i.past))) in
-    end-full c.args.limits.now cuts c.args.here.now last next _ c.loop-next.so_far.early (i.ending cell cuts knows) joined
-    (sym (c.fits-in-Some-first_past.ensures next refl refl) ∙ c.if-not-fits-2.true) (ap (λ e. unwrap_or e last) c.in-Some-early.is)
+    end-full c.args.limits.now cuts c.args.here.now last next end c.loop-next.so_far.early (i.ending cell cuts knows) joined too_much is
+
+pub returns-in-Some-early-clause-end : goal.returns-in-Some-early-clause-end
+returns-in-Some-early-clause-end c =
+    full (goal.at.returns-in-Some-early-clause-end c).In-Some-first_past _ (sym (c.fits-in-Some-first_past.ensures c.in-Some-first_past.next refl refl) ∙ c.if-not-fits-2.true)
+    (ap (λ e. unwrap_or e c.loop-next.so_far.last) c.in-Some-early.is)
 
 pub returns-then-not-fits-2-clause-end : goal.returns-then-not-fits-2-clause-end
-returns-then-not-fits-2-clause-end c = λ cell cuts knows.
-    let last = c.loop-next.so_far.last in
-    let next = c.in-Some-first_past.next in
-    let i = c.loop-next.invariant in
-    let joined = c.in-Some-first_past.ensures.first cell cuts knows.rising (i.keeps.are cell cuts knows.rising knows.kept)
-    (keeps-behind c.args.table.now c.args.text.now c.args.window.now c.loop-next.window last.at i.keeps (omega (arith, knows.home, knows.told, i.past))) in
-    end-full c.args.limits.now cuts c.args.here.now last next _ c.loop-next.so_far.early (i.ending cell cuts knows) joined
-    (sym (c.fits-in-Some-first_past.ensures next refl refl) ∙ c.if-not-fits-2.true) (ap (λ e. unwrap_or e last) c.in_default-early.is)
+returns-then-not-fits-2-clause-end c =
+    full (goal.at.returns-then-not-fits-2-clause-end c).In-Some-first_past _ (sym (c.fits-in-Some-first_past.ensures c.in-Some-first_past.next refl refl) ∙ c.if-not-fits-2.true)
+    (ap (λ e. unwrap_or e c.loop-next.so_far.last) c.in_default-early.is)
 
 pub returns-clause-end : goal.returns-clause-end
 returns-clause-end c = λ cell cuts knows.

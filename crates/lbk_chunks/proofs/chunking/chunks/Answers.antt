@@ -1,7 +1,21 @@
-use Rattle.std.proofs.Common.{rules, arith, drop}
+use Rattle.std.proofs.Common.{rules, ◌≡◌, ℕ, List, arith, drop, length, min}
+use Rattle.lbk_rules.specs.declared.Cell.{Cell}
+use Rattle.lbk_chunks.specs.declared.chunk.Chunk.{Chunk}
+use Rattle.lbk_chunks.specs.Coming.{AreGiven, ChunksCome}
 use Rattle.lbk_chunks.proofs.GivenLemmas.{come-on, knows-first}
 use Rattle.lbk_chunks.proofs.TextLemmas.{chunks-start}
 use Rattle.lbk_chunks.proofs.chunking.chunks.Goals as goal
+use Rattle.lbk_chunks.proofs.chunking.chunks.Goals.{After-give_chunks-count}
+
+-- where chunks come from the state on, the call gave the first of them
+given : (c : After-give_chunks-count) → let g = c.give_chunks-count in
+    (cell : ℕ → Cell) (to_come : List Chunk) (come : ChunksCome cell c.args.table.now c.args.text.now c.args.limits.now c.args.state.now to_come)
+    → AreGiven cell c.args.table.now c.args.text.now c.args.limits.now come.cuts to_come g.result g.new.out g.new.window g.new.here
+    × (g.result ≡ min (length c.args.out.now) (length to_come))
+given c cell to_come come =
+    c.give_chunks-count.ensures.given cell come.cuts to_come
+    (knows-first cell c.args.table.now c.args.text.now c.args.limits.now c.args.state.now to_come c.new-window.result come c.new-window.ensures.home
+    (λ cuts rising is. c.new-window.ensures.are cell cuts rising is)) come.chunks
 
 pub returns-then-not-are_limits : goal.returns-then-not-are_limits
 returns-then-not-are_limits c = record {
@@ -18,9 +32,7 @@ returns-then-count-eq0 c = record {
   within = search rules;
   start = λ cell profile to_come. chunks-start cell c.args.table.now c.args.text.now c.args.limits.now profile c.args.state.now to_come;
   gives = λ cell to_come come.
-      let k = knows-first cell c.args.table.now c.args.text.now c.args.limits.now c.args.state.now to_come c.new-window.result come c.new-window.ensures.home
-      (λ cuts rising is. c.new-window.ensures.are cell cuts rising is) in
-      let g = c.give_chunks-count.ensures.given cell come.cuts to_come k come.chunks in
+      let g = given (goal.at.returns-then-count-eq0 c).After-give_chunks-count cell to_come come in
       record { count = omega (arith, g.1, c.if-count-eq0.true); front = search rules; rest = search rules };
   told = search rules;
   none = search rules;
@@ -32,15 +44,13 @@ returns c = record {
   within = search rules;
   start = λ cell profile to_come. chunks-start cell c.args.table.now c.args.text.now c.args.limits.now profile c.args.state.now to_come;
   gives = λ cell to_come come.
-      let k = knows-first cell c.args.table.now c.args.text.now c.args.limits.now c.args.state.now to_come c.new-window.result come c.new-window.ensures.home
-      (λ cuts rising is. c.new-window.ensures.are cell cuts rising is) in
-      let given = c.give_chunks-count.ensures.given cell come.cuts to_come k come.chunks in
-      let g = given.0 in
+      let all = given (goal.at.returns c).After-give_chunks-count cell to_come come in
+      let g = all.0 in
       let here = c.give_chunks-count.new.here in
       let stands = g.stands (omega (arith, c.if-count-eq0.false)) in
       let p = c.place_of.ensures cell come.cuts here.words g.knows.rising g.knows.kept g.knows.home stands in
       record {
-        count = given.1;
+        count = all.1;
         front = g.front;
         rest =
             come-on cell c.args.table.now c.args.text.now c.args.limits.now come.cuts here c.place_of.result (drop c.give_chunks-count.result to_come)

@@ -1,10 +1,14 @@
-use Rattle.std.proofs.Common.{Some, None, ap, refl, sym, ◌∙◌, arith}
+use Rattle.std.proofs.Common.{◌≡◌, ℕ, ◌<◌, List, ◌∷◌, Some, None, ap, refl, sym, ◌∙◌, arith}
 use Rattle.std.specs.Prelude.{find}
+use Rattle.lbk_rules.specs.declared.Cell.{Cell}
+use Rattle.lbk_chunks.specs.declared.cut.Cut.{Cut}
 use Rattle.lbk_chunks.specs.Chunks.{cuts_past, may_start}
+use Rattle.lbk_chunks.specs.Coming.{Knows}
 use Rattle.lbk_chunks.proofs.CutLemmas.{cut-past, past-rising}
 use Rattle.lbk_chunks.proofs.GivenLemmas.{keeps-behind, keeps-more}
 use Rattle.lbk_chunks.proofs.StartLemmas.{after-apart, after-found, after-last, find-all_past, find-here, find-later, find-on, stands}
 use Rattle.lbk_chunks.proofs.chunking.next_start.Goals as goal
+use Rattle.lbk_chunks.proofs.chunking.next_start.Goals.{In-Some-first_past}
 
 pub returns-then-limits-eq0-clause-next : goal.returns-then-limits-eq0-clause-next
 returns-then-limits-eq0-clause-next c = λ cell cuts knows told cut.
@@ -29,6 +33,17 @@ loop-found-init c = record {
       knows.rising c.start_from-at.ensures.start;
 }
 
+-- the cut after the end of the chunk, and the one that the search has met
+met : (c : In-Some-first_past) → let next = c.in-Some.next in let found = c.in-Some-first_past.found in
+    (cell : ℕ → Cell) (cuts : List Cut) → Knows cell c.args.table.now c.args.text.now cuts c.args.window.now c.args.here.now → c.args.here.now.told < c.args.end.now.at
+    → (cuts_past c.args.end.now.at cuts ≡ next ∷ cuts_past next.at cuts) × (cuts_past c.loop-found.at cuts ≡ found ∷ cuts_past found.at cuts)
+met c cell cuts knows told =
+    let i = c.loop-found.invariant in (
+      c.in-Some.ensures.first cell cuts knows.rising knows.kept (omega (arith, knows.home, knows.told, told)),
+      c.in-Some-first_past.ensures.first cell cuts knows.rising (i.keeps.are cell cuts knows.rising knows.kept)
+          (keeps-behind c.args.table.now c.args.text.now c.args.window.now c.loop-found.window c.loop-found.at i.keeps (omega (arith, knows.home, i.onward))),
+    )
+
 pub loop-found-preserved : goal.loop-found-preserved
 loop-found-preserved c =
     let end = c.args.end.now in
@@ -42,8 +57,7 @@ loop-found-preserved c =
       keeps = keeps-more c.args.table.now c.args.text.now c.args.window.now c.loop-found.window c.first_past-in-loop-found.new.self i.keeps f.keeps;
       onward = omega (arith, i.onward, f.past);
       find = λ cell cuts knows told. (
-          let joined = f.first cell cuts knows.rising (i.keeps.are cell cuts knows.rising knows.kept)
-          (keeps-behind c.args.table.now c.args.text.now c.args.window.now c.loop-found.window c.loop-found.at i.keeps (omega (arith, knows.home, i.onward))) in
+          let joined = (met (goal.at.loop-found-preserved c).In-Some-first_past cell cuts knows told).1 in
           let may = c.may_start.ensures end next found again refl refl in
           find-on c.args.limits.now h end next found (cuts_past found.at cuts) (cuts_past c.args.here.now.start cuts) (sym may ∙ c.if-may_start.false)
           (i.find cell cuts knows told ∙ ap (find (may_start c.args.limits.now h end next)) joined));
@@ -55,14 +69,11 @@ returns-then-end-found-clause-next c = λ cell cuts knows told cut.
     let h = c.args.here.now in
     let next = c.in-Some.next in
     let found = c.in-Some-first_past.found in
-    let i = c.loop-found.invariant in
-    let n = c.in-Some.ensures.first cell cuts knows.rising knows.kept (omega (arith, knows.home, knows.told, told)) in
-    let joined = c.in-Some-first_past.ensures.first cell cuts knows.rising (i.keeps.are cell cuts knows.rising knows.kept)
-    (keeps-behind c.args.table.now c.args.text.now c.args.window.now c.loop-found.window c.loop-found.at i.keeps (omega (arith, knows.home, i.onward))) in
-    let none = i.find cell cuts knows told ∙ find-all_past c.args.limits.now h end next c.loop-found.at (cuts_past c.loop-found.at cuts) found (cuts_past found.at cuts)
-    (past-rising 0 c.loop-found.at cuts knows.rising) joined c.if-end-found.true in
+    let m = met (goal.at.returns-then-end-found-clause-next c).In-Some-first_past cell cuts knows told in
+    let none = c.loop-found.invariant.find cell cuts knows told ∙ find-all_past c.args.limits.now h end next c.loop-found.at (cuts_past c.loop-found.at cuts) found (cuts_past found.at cuts)
+    (past-rising 0 c.loop-found.at cuts knows.rising) m.1 c.if-end-found.true in
     let s = stands cuts c.start_at-fresh.result end end.at c.start_at-fresh.ensures cut in
-    (c.start_at-fresh.ensures ∙ sym (after-found c.args.limits.now cuts (cuts_past next.at cuts) h end next None n none), s)
+    (c.start_at-fresh.ensures ∙ sym (after-found c.args.limits.now cuts (cuts_past next.at cuts) h end next None m.0 none), s)
 
 pub returns-then-may_start-clause-next : goal.returns-then-may_start-clause-next
 returns-then-may_start-clause-next c = λ cell cuts knows told cut.
@@ -70,16 +81,13 @@ returns-then-may_start-clause-next c = λ cell cuts knows told cut.
     let h = c.args.here.now in
     let next = c.in-Some.next in
     let found = c.in-Some-first_past.found in
-    let i = c.loop-found.invariant in
-    let n = c.in-Some.ensures.first cell cuts knows.rising knows.kept (omega (arith, knows.home, knows.told, told)) in
-    let joined = c.in-Some-first_past.ensures.first cell cuts knows.rising (i.keeps.are cell cuts knows.rising knows.kept)
-    (keeps-behind c.args.table.now c.args.text.now c.args.window.now c.loop-found.window c.loop-found.at i.keeps (omega (arith, knows.home, i.onward))) in
+    let m = met (goal.at.returns-then-may_start-clause-next c).In-Some-first_past cell cuts knows told in
     let again = c.start_at-again.ensures in
     let may = c.may_start.ensures end next found again refl refl in
-    let here = i.find cell cuts knows told ∙ ap (find (may_start c.args.limits.now h end next)) joined
+    let here = c.loop-found.invariant.find cell cuts knows told ∙ ap (find (may_start c.args.limits.now h end next)) m.1
     ∙ find-here (may_start c.args.limits.now h end next) found (cuts_past found.at cuts) (sym may ∙ c.if-may_start.true) in
-    let s = stands cuts c.start_at-again.result found end.at again (cut-past cuts c.loop-found.at found _ knows.rising joined) in
-    (again ∙ sym (after-found c.args.limits.now cuts (cuts_past next.at cuts) h end next (Some found) n here), s)
+    let s = stands cuts c.start_at-again.result found end.at again (cut-past cuts c.loop-found.at found _ knows.rising m.1) in
+    (again ∙ sym (after-found c.args.limits.now cuts (cuts_past next.at cuts) h end next (Some found) m.0 here), s)
 
 pub returns-clause-next : goal.returns-clause-next
 returns-clause-next c = λ cell cuts knows told cut.

@@ -1,6 +1,6 @@
 use Rattle.std.proofs.Common.{◌≤◌, ◌<◌, arith, ap}
 use Rattle.std.proofs.lemmas.Bool.Decides.{nat_tests}
-use Rattle.lbk_chunks.specs.declared.cut_block.Mark.{Mark}
+use Rattle.lbk_chunks.specs.declared.cut.Mark.{Mark}
 use Rattle.lbk_chunks.proofs.BlockLemmas.{block-none}
 use Rattle.lbk_chunks.proofs.GivenLemmas.{keeps-more}
 use Rattle.lbk_chunks.proofs.window.Window.read_past.Goals as goal
