@@ -7,7 +7,8 @@ ghost use Rattle.lbk_c.specs.ClaimTexts.{IsClaimText};
 ghost use Rattle.lbk_c.specs.Faults.{which_numbered};
 
 use crate::faults::which_numbered;
-use lbk_calls::{Text, padded};
+use crate::texts::text_of;
+use lbk_calls::Text;
 use lbk_ucd::{claim_of, claim_text, remedy_text};
 
 /// Describes a file, by its number, that Unicode 15.0.0 did not publish: it is of another version, it was changed or
@@ -20,9 +21,7 @@ pub extern "C" fn lbk_claim_text(file: u32, contents: &[u8]) -> Text
         return Text { text: [0; 96] };
     };
     let text = claim_text(which, claim_of(which, contents));
-    Text {
-        text: padded(text.as_str().as_bytes()),
-    }
+    text_of(text.as_str())
 }
 
 /// Where to get the published files: ASCII, padded by zeros.
@@ -30,7 +29,5 @@ pub extern "C" fn lbk_claim_text(file: u32, contents: &[u8]) -> Text
 pub extern "C" fn lbk_remedy_text() -> Text
     ensures { result.text ≡ padded 96 remedy_text }
 {
-    Text {
-        text: padded(remedy_text().as_bytes()),
-    }
+    text_of(remedy_text())
 }

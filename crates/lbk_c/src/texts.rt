@@ -14,9 +14,7 @@ use lbk_ucd::{UcdCause, cause_text, cut_text, file_name};
 pub extern "C" fn lbk_cause_text(cause: u32) -> Text
     ensures { result.text ≡ padded 96 (cause_numbered cause) }
 {
-    Text {
-        text: padded(cause_numbered(cause).as_bytes()),
-    }
+    text_of(cause_numbered(cause))
 }
 
 /// What the rule with a number says, in one line: ASCII, padded by zeros. Only zeros for any other number.
@@ -32,9 +30,7 @@ pub extern "C" fn lbk_rule_text(rule: u8) -> Text
 pub extern "C" fn lbk_file_name(file: u32) -> Text
     ensures { result.text ≡ padded 96 (file_numbered file) }
 {
-    Text {
-        text: padded(file_numbered(file).as_bytes()),
-    }
+    text_of(file_numbered(file))
 }
 
 /// The version of the library, as `0.1.0`.
@@ -42,8 +38,16 @@ pub extern "C" fn lbk_file_name(file: u32) -> Text
 pub extern "C" fn lbk_version() -> Text
     ensures { result.text ≡ padded 96 version }
 {
+    text_of("0.1.0")
+}
+
+/// A text for C, padded by zeros.
+pub(crate) fn text_of(said: &str) -> Text
+    requires { length said.now ≤ 96 }
+    ensures { result.text ≡ padded 96 said.now }
+{
     Text {
-        text: padded(b"0.1.0"),
+        text: padded(said.as_bytes()),
     }
 }
 
