@@ -18,7 +18,7 @@ use Rattle.lbk_rules.proofs.FlatLemmas.{place-any}
 use Rattle.lbk_rules.specs.Neighbours.{AreSettled, AreTold, is_special}
 use Rattle.lbk_rules.specs.Rows.{IsPlace, steps_in}
 use Rattle.lbk_bytes.specs.declared.fill_state.FillState.{FillState}
-use Rattle.lbk_bytes.specs.declared.blocks.Marks.{Marks}
+use Rattle.lbk_bytes.specs.declared.block_marks.Marks.{Marks}
 use Rattle.lbk_bytes.specs.Blocks.{AreMarks, IsBlock, IsByteTold, Rests, byte_at, row_before, stands_at, stops_at}
 use Rattle.lbk_bytes.proofs.BlockLemmas.{order}
 use Rattle.lbk_bytes.proofs.BlockScalarLemmas.{begins-or}

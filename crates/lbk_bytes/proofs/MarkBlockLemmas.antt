@@ -16,7 +16,7 @@ use Rattle.lbk_rules.specs.Neighbours.{AreTold, step_behind}
 use Rattle.lbk_rules.specs.Rows.{IsPlace, steps_in, verdict_shown}
 use Rattle.lbk_bytes.specs.declared.fill_state.FillState.{FillState}
 use Rattle.lbk_masks.specs.Bits.{AreKeptBelow, AreKeptFrom}
-use Rattle.lbk_bytes.specs.declared.blocks.Marks.{Marks}
+use Rattle.lbk_bytes.specs.declared.block_marks.Marks.{Marks}
 use Rattle.lbk_bytes.specs.Blocks.{AreMarks, IsBlock, IsByteTold, byte_at, place_at, row_before, stands_at}
 use Rattle.lbk_bytes.specs.Bytes.{with_break}
 use Rattle.lbk_bytes.specs.Marking.{AreBelow, AreClear, AreFrom, Marked, MarksOn}

@@ -11,7 +11,7 @@ use Rattle.lbk_rules.specs.FlatTable.{AreFlatKinds}
 use Rattle.lbk_rules.specs.Neighbours.{AreSettled, is_special, row_behind}
 use Rattle.lbk_rules.specs.Rows.{steps_in}
 use Rattle.lbk_bytes.specs.declared.blocks.BlockState.{BlockState}
-use Rattle.lbk_bytes.specs.declared.blocks.Marks.{Marks}
+use Rattle.lbk_bytes.specs.declared.block_marks.Marks.{Marks}
 use Rattle.lbk_bytes.specs.declared.fill_state.FillState.{FillState}
 
 -- the byte at a place

@@ -1,38 +1,21 @@
 //! Breaks in blocks of up to 64 bytes from the sets of their bytes, so that no step waits for the one before it.
 
-ghost use Rattle.std.specs.Prelude.{◌≡◌, ℕ, ◌+◌, ◌-◌, ◌<◌, ◌≤◌, ◌++◌, List, length, nat_le, IfSome};
-ghost use Rattle.lbk_bytes.specs.Terms.{AreFlatKinds, AreKeptBelow, AreSteps, AreTold, Cell, IsLowest, IsPlace};
-ghost use Rattle.lbk_bytes.specs.Terms.{Profile, is_set, steps_in};
+ghost use Rattle.std.specs.Prelude.{◌≡◌, ℕ, ◌+◌, ◌-◌, ◌<◌, ◌≤◌, ◌++◌, List, length};
+ghost use Rattle.lbk_bytes.specs.Terms.{AreFlatKinds, AreSteps, AreTold, Cell, IsLowest, IsPlace, Profile, steps_in};
 ghost use Rattle.lbk_bytes.specs.Blocks.{AreEnded, AreInside, AreLeft, AreMarks, IsAhead, IsBlock, place_in};
 ghost use Rattle.lbk_bytes.specs.Blocks.{row_before};
 ghost use Rattle.lbk_bytes.specs.Reached.{Ahead, IsInOrder, Reached};
 ghost use Rattle.lbk_bytes.specs.Shown.{given_in};
 ghost use Rattle.lbk_bytes.specs.Steps.{FillsOn, GoesIn, IsInText, MayFill};
 
+use crate::block_marks::{BLOCK, Marks, behind_byte, is_told_behind, kept_up_to, marks_ahead};
 use crate::fill_state::FillState;
 use crate::filling::put;
 use crate::raw_break::RawBreak;
 use crate::stepping::runs;
 use crate::target::Breaks;
-use crate::tries::are_too_many;
-use lbk_masks::{first_set, kept_below, kept_from, without_first};
+use lbk_masks::{first_set, kept_from, without_first};
 use lbk_rules::{KindSource, Neighbours, Rows, place_by, step_at};
-
-/// How many bytes at most are examined together.
-pub(crate) const BLOCK: usize = 64;
-
-/// How many bytes at least are examined together. Fewer are taken as fast by steps.
-pub(crate) const LEAST: usize = 20;
-
-/// What is known of the bytes of a block, a bit each.
-#[derive(Clone, Copy)]
-pub(crate) struct Marks {
-    /// Bytes with a candidate break before them.
-    pub(crate) standing: u64,
-    /// Which are left to steps: those that are special, or of no scalar of one or two bytes in the block. Behind the
-    /// text's end all bits are set.
-    pub(crate) stops: u64,
-}
 
 /// How far a block of bytes was taken.
 #[derive(Clone, Copy)]
@@ -108,43 +91,6 @@ fn block<K: KindSource>(
     here
 }
 
-/// The marks of the next 64 bytes, or of all that are left, unless these are few, no byte stands before them, or many
-/// of them are left to steps.
-#[inline(always)]
-pub(crate) fn marks_ahead(pairs: &Neighbours, at: usize, text: &[u8]) -> Option<Marks>
-    requires { at ≤ length text.now }
-    ensures { IfSome result (λ marks. AreMarks pairs.now text.now at marks) }
-{
-    if at == 0 {
-        return None;
-    }
-    if text.len() - at < LEAST {
-        return None;
-    }
-    let ahead = &text[at..];
-    let before = pairs.sets.left_of(text[at - 1]);
-    let masks = pairs.sets.masks(before, ahead);
-    let left = masks.special | masks.strays;
-    if are_too_many(left, ahead.len()) {
-        return None;
-    }
-    Some(Marks {
-        standing: masks.standing,
-        stops: left | past_end(ahead.len()),
-    })
-}
-
-/// The bits after the end of a text of this length.
-#[inline(always)]
-fn past_end(length: usize) -> u64
-    ensures { (i : ℕ) → i < 64 → is_set result i ≡ nat_le length i }
-{
-    if BLOCK <= length {
-        return 0;
-    }
-    kept_from(u64::MAX, length)
-}
-
 /// Takes bytes of a block up to the first that is left to steps, if the row here is that of the byte before.
 #[inline(always)]
 fn take_masked<K: KindSource>(
@@ -167,33 +113,17 @@ fn take_masked<K: KindSource>(
         → Reached profile cell (text.now ++ more) all here (given_in out.old here.count)
         → Reached profile cell (text.now ++ more) all result (given_in out.new result.count) }
 {
-    let byte = text[here.at - 1];
-    if byte >= 192 {
-        return here;
-    }
-    if here.row != pairs.rows[byte as usize] as usize {
+    if !is_told_behind(pairs, here, text) {
         return here;
     }
     let begin = here.at - at;
-    let taken = kept_from(marks.stops, begin).trailing_zeros() as usize;
+    let taken = marks.taken_from(begin);
     let marked = BlockState {
         count: here.count,
         past: here.at,
         left: kept_up_to(kept_from(marks.standing, begin), taken),
     };
     finish(pairs, kinds, steps, at, taken, marked, text, out)
-}
-
-/// The bits of a number below this one, which is at most 64.
-#[inline(always)]
-pub(crate) fn kept_up_to(bits: u64, count: usize) -> u64
-    requires { count ≤ 64 }
-    ensures { AreKeptBelow count bits result }
-{
-    if count == BLOCK {
-        return bits;
-    }
-    kept_below(bits, count)
 }
 
 /// Writes the breaks that are left in the first bytes of a block, and takes these.
@@ -244,21 +174,6 @@ fn stopped(pairs: &Neighbours, at: usize, taken: usize, here: BlockState, text: 
         return behind_byte(pairs, here.count, at + taken, text);
     }
     behind_byte(pairs, here.count, at + first_set(here.left), text)
-}
-
-/// A place with the row of the byte before it.
-#[inline(always)]
-pub(crate) fn behind_byte(pairs: &Neighbours, count: usize, at: usize, text: &[u8]) -> FillState
-    requires { (0 < at) × (at ≤ length text.now) }
-    ensures within { IsPlace result.row }
-    ensures place { (result.count ≡ count) × (result.at ≡ at) }
-    ensures row { result.row ≡ row_before pairs.now text.now at }
-{
-    FillState {
-        count,
-        row: place_by(pairs.rows[text[at - 1] as usize]),
-        at,
-    }
 }
 
 /// Writes the next break that is left, as its step says: where the sets are made up and a line does not break there,

@@ -8,7 +8,8 @@ ghost use Rattle.lbk_bytes.specs.Reached.{Ahead, IsInOrder, Reached};
 ghost use Rattle.lbk_bytes.specs.Shown.{given_in};
 ghost use Rattle.lbk_bytes.specs.Steps.{Fills, FillsIn, GoesIn, IsInText};
 
-use crate::blocks::{BLOCK, LEAST, blocks};
+use crate::block_marks::{BLOCK, LEAST};
+use crate::blocks::blocks;
 use crate::fill_state::FillState;
 use crate::held::take_ones;
 use crate::raw_break::RawBreak;

@@ -39,7 +39,7 @@ pub(crate) fn take_ones<T: Target, K: KindSource>(
 {
     let mut here = take_one(target, table, profile, start, text, out);
     let mut patience = PATIENCE;
-    while here.at < stop && 0 < patience && target.has_room(out, here.count) {
+    while here.at < stop && 0 < patience && !target.is_full(out, here.count) {
         let byte = text[here.at];
         patience = patience_after(byte == 0xC2 || byte == 0xE2, PATIENCE, patience);
         here = take_one(target, table, profile, here, text, out);

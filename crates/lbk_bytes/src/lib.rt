@@ -3,6 +3,7 @@
 #![tactic(auto)]
 
 mod ahead;
+mod block_marks;
 mod blocks;
 mod deciding;
 mod decoding;

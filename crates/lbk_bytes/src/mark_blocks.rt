@@ -7,7 +7,7 @@ ghost use Rattle.lbk_bytes.specs.Marking.{Marked, MarksOn, MayMark};
 ghost use Rattle.lbk_bytes.specs.Marks.{is_marked};
 ghost use Rattle.lbk_bytes.specs.Reached.{Ahead};
 
-use crate::blocks::{BLOCK, Marks, behind_byte, kept_up_to, marks_ahead};
+use crate::block_marks::{BLOCK, Marks, behind_byte, is_told_behind, kept_up_to, marks_ahead};
 use crate::fill_state::FillState;
 use crate::marks::mark_bits;
 use crate::stepping::runs;
@@ -126,15 +126,11 @@ fn mark_masked(
         → Marked profile cell (text.now ++ more) all from (length text.now) here words.old
         → Marked profile cell (text.now ++ more) all from (length text.now) result words.new }
 {
-    let byte = text[here.at - 1];
-    if byte >= 192 {
-        return here;
-    }
-    if here.row != pairs.rows[byte as usize] as usize {
+    if !is_told_behind(pairs, here, text) {
         return here;
     }
     let begin = here.at - at;
-    let taken = kept_from(marks.stops, begin).trailing_zeros() as usize;
+    let taken = marks.taken_from(begin);
     mark_bits(
         words,
         at - from,

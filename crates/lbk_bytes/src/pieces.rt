@@ -35,7 +35,7 @@ pub(crate) fn pieces<T: Target, K: KindSource>(
     let mut at = start.at;
     let mut patience = PATIENCE;
     let end = stop.min(text.len().saturating_sub(ENOUGH - 1));
-    'taking: while target.has_room(out, count) && at < end && 0 < patience {
+    'taking: while !target.is_full(out, count) && at < end && 0 < patience {
         let piece = piece_of(&text[at..]);
         let step = step_at(steps, row, kinds.kind_at(piece.code));
         if step.shown == HELD {

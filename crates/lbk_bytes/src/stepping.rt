@@ -141,7 +141,7 @@ fn run<T: Target, K: KindSource>(
     let mut row = start.row;
     let mut at = start.at;
     let end = stop.min(text.len().saturating_sub(width.more()));
-    'taking: while target.has_room(out, count) && at < end {
+    'taking: while !target.is_full(out, count) && at < end {
         let Some(scalar) = scalar_of(width, &text[at..]) else {
             break;
         };

@@ -31,14 +31,12 @@ pub(crate) trait Target: Copy {
     // The call stands here in the text, and what it gave of all is what was written. Its scalars begin before `last`.
     ghost reached: { Self → Profile → (ℕ → Cell) → List ℕ → Ahead → ℕ → FillState → List Self.Entry → Type 0 };
 
-    /// Whether there is a place for a position more.
-    fn has_room(self, out: &[Self::Entry], count: usize) -> bool
-        ensures { (at stop : ℕ) → at < stop → fits self out.now count at stop → IsTrue result
-            → takes self out.now count at };
-
-    /// Whether there is none, whatever the position.
+    /// Whether there is no place for a position more, whatever it is. Otherwise there is one for each position before
+    /// which all that is written has its place.
     fn is_full(self, out: &[Self::Entry], count: usize) -> bool
-        ensures { IsTrue result → (at : ℕ) → ¬ (takes self out.now count at) };
+        ensures full { IsTrue result → (at : ℕ) → ¬ (takes self out.now count at) }
+        ensures room { (at stop : ℕ) → at < stop → fits self out.now count at stop → ¬ (IsTrue result)
+            → takes self out.now count at };
 
     /// Writes the verdict of a number, before a byte, and returns how many breaks are counted then.
     fn put(self, out: &mut [Self::Entry], count: usize, at: usize, shown: u16) -> usize
@@ -74,11 +72,6 @@ impl Target for Breaks {
         Reached profile cell text all here (given_in out here.count) };
 
     #[inline(always)]
-    fn has_room(self, out: &[RawBreak], count: usize) -> bool {
-        count < out.len()
-    }
-
-    #[inline(always)]
     fn is_full(self, out: &[RawBreak], count: usize) -> bool {
         count == out.len()
     }
@@ -107,11 +100,6 @@ impl Target for Bits {
 
     ghost reached = { λ bits profile cell text all last here words.
         Marked profile cell text all bits.from last here words };
-
-    #[inline(always)]
-    fn has_room(self, _words: &[u64], _count: usize) -> bool {
-        true
-    }
 
     #[inline(always)]
     fn is_full(self, _words: &[u64], _count: usize) -> bool {
@@ -143,11 +131,6 @@ impl Target for Word {
 
     ghost reached = { λ word profile cell text all last here out.
         Marked profile cell text all word.from last here (here.count ∷ []) };
-
-    #[inline(always)]
-    fn has_room(self, _words: &[u64], _bits: usize) -> bool {
-        true
-    }
 
     #[inline(always)]
     fn is_full(self, _words: &[u64], _bits: usize) -> bool {

@@ -2,7 +2,7 @@
 
 ghost use Rattle.std.specs.Prelude.{◌<◌, ◌≤◌, length};
 
-use crate::blocks::BLOCK;
+use crate::block_marks::BLOCK;
 use lbk_masks::{far_scalars, strays};
 
 /// Where more bytes than this of 64 are of scalars of three bytes or more, such scalars are usual.

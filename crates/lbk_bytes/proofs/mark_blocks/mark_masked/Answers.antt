@@ -1,12 +1,10 @@
-use Rattle.std.proofs.Common.{◌≡◌, [], ◌<◌, ◌≤◌, ◌^◌, ◌+◌, ◌-◌, ◌*◌, ◌&&◌, ◌||◌, ◌++◌, false, leb, length, refl, sym, ap, subst, ◌∙◌, ⊎_elim, arith, w64}
-use Rattle.std.specs.Int.{trailing_zeros}
+use Rattle.std.proofs.Common.{◌≡◌, [], ◌<◌, ◌≤◌, ◌+◌, ◌-◌, ◌*◌, ◌&&◌, ◌||◌, ◌++◌, false, leb, length, refl, sym, ap, subst, ◌∙◌, ⊎_elim, arith}
 use Rattle.std.proofs.lemmas.Bool.{and_right, cases_lt}
 use Rattle.lbk_masks.specs.Sets.{is_set}
 use Rattle.lbk_bytes.specs.Blocks.{Rests, byte_at, end_at, row_before}
 use Rattle.lbk_bytes.specs.Marking.{uncounted}
 use Rattle.lbk_bytes.specs.Marks.{boundary_from, is_marked}
 use Rattle.lbk_bytes.specs.Reached.{Reached}
-use Rattle.lbk_bytes.proofs.BitLemmas.{lowest-from, lowest-inside, zeros-below, zeros-end, zeros-few}
 use Rattle.lbk_bytes.proofs.BlockBeginLemmas.{is-block}
 use Rattle.lbk_bytes.proofs.BlockScalarLemmas.{end-low, rest-row}
 use Rattle.lbk_bytes.proofs.BoundaryLemmas.{block-boundary}
@@ -18,17 +16,15 @@ use Rattle.lbk_bytes.proofs.mark_blocks.mark_masked.Goals as goal
 pub behind_byte-requires : goal.behind_byte-requires
 behind_byte-requires c = (
   omega arith,
-  lowest-inside c.args.text.now c.args.at c.args.marks.stops (c.args.here.at - c.args.at) c.kept_from.result (omega arith) (omega arith) (omega arith) c.requires.ends c.kept_from.ensures,
+  c.taken_from-taken.ensures.inside c.args.text.now c.args.at (omega arith) c.requires.ends,
 )
 
 pub returns-clause-within : goal.returns-clause-within
 returns-clause-within c =
-    let stops = c.kept_from.result in
-    let begin = c.args.here.at - c.args.at in
-    let some = lowest-from c.args.marks.stops begin stops (omega arith) (omega arith) c.kept_from.ensures in
-    let inside = lowest-inside c.args.text.now c.args.at c.args.marks.stops begin stops (omega arith) (omega arith) (omega arith) c.requires.ends c.kept_from.ensures in
+    let taken = c.taken_from-taken.ensures in
+    let inside = taken.inside c.args.text.now c.args.at (omega arith) c.requires.ends in
     let place = c.behind_byte.ensures.place.1 in
-    (omega arith, omega (arith, some, place), omega (arith, inside, place))
+    (omega arith, omega (arith, taken.within.0, place), omega (arith, inside, place))
 
 pub returns-clause-after : goal.returns-clause-after
 returns-clause-after c = λ i past.
@@ -55,25 +51,21 @@ returns-clause-marked c = λ profile cell steps kinds more all swift are_kinds t
     let marks = c.args.marks in
     let begin = here.at - at in
     let is_at : here.at ≡ at + begin = omega arith in
-    let stops = c.kept_from.result in
-    let fits : stops < 2 ^ 64 = omega arith in
-    let taken = trailing_zeros w64 stops in
-    let some = lowest-from marks.stops begin stops fits (omega arith) c.kept_from.ensures in
-    let few = zeros-few stops in
+    let taken = c.taken_from-taken.result in
+    let tells = c.taken_from-taken.ensures in
+    let some = tells.within.0 in
     let kept = c.kept_up_to.result in
-    let room : at + taken ≤ length text = lowest-inside text at marks.stops begin stops fits (omega arith) (omega arith) c.requires.ends c.kept_from.ensures in
-    let rests : Rests pairs here text = record { below = omega arith; row = omega arith } in
+    let room : at + taken ≤ length text = tells.inside text at (omega arith) c.requires.ends in
+    let rests : Rests pairs here text = c.is_told_behind.ensures c.if-not-is_told_behind.false in
     Marked-more profile cell (text ++ more) all c.args.from (length text) here there c.args.words.now c.mark_bits.new.words (omega arith)
     (λ rest start.
     let block = is-block profile cell steps kinds pairs text at begin taken marks here swift are_kinds told (λ i. (c.type_inv.text i).fits)
-    are_marks rests is_at some few room start.knows.0
-    (λ i after h. sym (c.kept_from.ensures.same i after (omega arith)) ∙ zeros-below stops fits i h)
-    (λ h. sym (c.kept_from.ensures.same taken some h) ∙ zeros-end stops fits h) in
+    are_marks rests is_at some tells.within.1 room start.knows.0 tells.told tells.stops in
     let low : byte_at text (at + begin - 1) < 192 = subst (λ n. byte_at text (n - 1) < 192) is_at rests.below in
     let is_row : here.row ≡ row_before pairs text (at + begin) = subst (λ n. here.row ≡ row_before pairs text n) is_at (rest-row pairs here text start.knows.0 rests) in
     let begun = subst (λ n. Reached profile cell (text ++ more) rest (record { count = 0; row = here.row; at = n }) []) is_at start in
-    let all_taken = block-taken profile cell text more rest steps kinds pairs here.row at begin taken marks.standing c.kept_from-2.result kept some block
-    (λ i h. are_marks.standing i (omega arith) (omega arith)) c.kept_from-2.ensures c.kept_up_to.ensures is_row low begun in
+    let all_taken = block-taken profile cell text more rest steps kinds pairs here.row at begin taken marks.standing c.kept_from.result kept some block
+    (λ i h. are_marks.standing i (omega arith) (omega arith)) c.kept_from.ensures c.kept_up_to.ensures is_row low begun in
     let place = c.behind_byte.ensures.place.1 in
     let left = taken - begin in
     let whole : at + taken ≡ at + begin + left = omega arith in

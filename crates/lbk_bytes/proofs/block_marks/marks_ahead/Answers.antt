@@ -1,8 +1,8 @@
 use Rattle.std.proofs.Common.{refl, arith}
 use Rattle.std.specs.Int.Bits.{bit_or}
-use Rattle.lbk_bytes.specs.declared.blocks.Marks.{Marks}
+use Rattle.lbk_bytes.specs.declared.block_marks.Marks.{Marks}
 use Rattle.lbk_bytes.proofs.BlockBeginLemmas.{are-marks}
-use Rattle.lbk_bytes.proofs.blocks.marks_ahead.Goals as goal
+use Rattle.lbk_bytes.proofs.block_marks.marks_ahead.Goals as goal
 
 pub returns : goal.returns
 returns c =
