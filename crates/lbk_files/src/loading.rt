@@ -1,6 +1,5 @@
 //! Loads the four files that arguments name, in order, and reads them.
 
-ghost use Rattle.std.specs.Prelude.{true};
 ghost use Rattle.lbk_files.specs.Named.{files_of, told_of};
 ghost use Rattle.lbk_files.specs.Places.{LoadsOne, files_at, told_at};
 ghost use Rattle.lbk_files.specs.Taking.{ReadsFiles};
@@ -59,7 +58,7 @@ fn load_places<S: Store>(
     )
 }
 
-/// The bytes of the file with a name.
+/// The bytes of the file with a name; those of a file in a folder must be the published ones.
 fn load_file<S: Store>(
     alloc: Global,
     place: &Place<'_>,
@@ -70,24 +69,13 @@ fn load_file<S: Store>(
 {
     match place {
         Place::Given(name) => load_named(alloc, name, store, which),
-        Place::InFolder(name) => load_claimed(alloc, name.as_str(), store, which),
-    }
-}
-
-/// The bytes of the file with this name, which must be the published one.
-fn load_claimed<S: Store>(
-    alloc: Global,
-    name: &str,
-    store: &mut S,
-    which: Which,
-) -> Result<Vec<u8>, CellsFault>
-    ensures { LoadsOne S.Store store.old store.new which
-        (record { contents = S.file store.old name.now; is_claimed = true }) result }
-{
-    let bytes = load_named(alloc, name, store, which)?;
-    match check_claim(which, &bytes) {
-        Ok(()) => Ok(bytes),
-        Err(cause) => Err(CellsFault::Claim(which, cause)),
+        Place::InFolder(name) => {
+            let bytes = load_named(alloc, name.as_str(), store, which)?;
+            match check_claim(which, &bytes) {
+                Ok(()) => Ok(bytes),
+                Err(cause) => Err(CellsFault::Claim(which, cause)),
+            }
+        }
     }
 }
 

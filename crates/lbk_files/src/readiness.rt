@@ -2,8 +2,8 @@
 
 ghost use Rattle.std.specs.Prelude.{◌≡◌, Some, Err, MatchResult, map};
 ghost use Rattle.lbk_args.specs.Accepted.{AreAccepted};
-ghost use Rattle.lbk_args.specs.Task.{Task, files_of_names, task_by, task_of};
 ghost use Rattle.lbk_args.specs.PlainWords.{IsPlainFor};
+ghost use Rattle.lbk_args.specs.Task.{Task, files_of_names, task_by, task_of};
 ghost use Rattle.lbk_files.specs.FileFault.{IsFileFault};
 ghost use Rattle.lbk_files.specs.Named.{files_of};
 ghost use Rattle.lbk_files.specs.Ready.{IsReadyFor, IsStoppedByWords, IsWantOfMemory};
