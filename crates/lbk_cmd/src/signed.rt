@@ -40,27 +40,25 @@ pub fn push_signed<C: CellSource>(
         (signed_from mark.now text.now 0 (breaks profile (C.cell_of cells.now) (chars text.now))
         ++ missing_line_end (C.cell_of cells.now) (chars text.now)) result }
 {
-    push_text(out, mark, cells, profile, text, block)?;
+    push_text(out, mark, text, Breaks::new(cells, text, profile), block)?;
     if !ends_in_line_end(cells, text) {
         out.push(b'\n')?;
     }
     Ok(())
 }
 
-/// Appends a text with its signs to `out`.
+/// Appends a text with the signs of these breaks to `out`.
 fn push_text<C: CellSource>(
     out: &mut Vec<u8>,
     mark: &str,
-    cells: &C,
-    profile: Profile,
     text: &str,
+    mut breaks: Breaks<'_, C>,
     block: &mut [Break; BLOCK],
 ) -> Result<(), AllocError>
-    ensures { Adds out.old.items out.new.items
-        (signed_from mark.now text.now 0 (breaks profile (C.cell_of cells.now) (chars text.now))) result }
+    requires { IsCut 0 (length text.now) breaks }
+    ensures { Adds out.old.items out.new.items (signed_from mark.now text.now 0 breaks.entry) result }
 {
     let bytes = text.as_bytes();
-    let mut breaks = Breaks::new(cells, text, profile);
     let mut done = 0;
     loop {
         let count = breaks.fill(block);

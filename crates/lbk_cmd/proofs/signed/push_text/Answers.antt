@@ -1,19 +1,13 @@
-use Rattle.std.proofs.Common.{◌≤◌, ◌++◌, [], drop, length, take, append-nil, sym, ap, subst, ◌∙◌, arith}
+use Rattle.std.proofs.Common.{◌≤◌, ◌++◌, [], drop, length, take, append-nil, refl, sym, ap, subst, ◌∙◌, arith}
 use Rattle.std.proofs.lemmas.List.{take_all, take-append-drop}
 use Rattle.std.proofs.lemmas.Result.{on_ok_weaker}
 use Rattle.lbk_cmd.specs.Signing.{IsCut, signed_from}
 use Rattle.lbk_cmd.proofs.Places.{front_then}
-use Rattle.lbk_cmd.proofs.Signing.{cut-front, text_cut}
+use Rattle.lbk_cmd.proofs.Signing.{cut-front}
 use Rattle.lbk_cmd.proofs.signed.push_text.Goals as goal
 
 pub loop-done-init : goal.loop-done-init
-loop-done-init g c =
-    let cell = g.C.CellSource.cell_of c.args.cells.now in
-    let same = c.new-breaks.ensures in record {
-      put = ap (λ bs. c.args.out.now.items ++ signed_from c.args.mark.now c.args.text.now 0 bs) same;
-      cut = subst (IsCut 0 (length c.args.text.now)) (sym same) (text_cut c.args.profile cell c.args.text.now c.utf8.text);
-      kept = take_all (length c.args.out.now.items) c.args.out.now.items (omega arith);
-    }
+loop-done-init g c = record { put = refl; cut = c.requires; kept = take_all (length c.args.out.now.items) c.args.out.now.items (omega arith) }
 
 pub push_block-requires : goal.push_block-requires
 push_block-requires g c =
