@@ -11,6 +11,7 @@ use Rattle.lbk_passage.specs.Pieces.{pieces_of}
 use Rattle.lbk_passage.specs.Segments.{segments_of}
 use Rattle.lbk_passage.specs.declared.passage.Piece.{Piece}
 use Rattle.lbk_passage.specs.declared.passage.Segment.{Segment}
+use Rattle.lbk_cmd.specs.declared.segmented.Whole.{Whole}
 
 -- a letter, a space, the offset of a part's start, a space, and that of its end
 abbrev pub part : List ℕ → ℕ → ℕ → List ℕ
@@ -31,6 +32,10 @@ segment_line start s =
 abbrev pub word_line : ℕ → Piece → List ℕ
 word_line start piece =
     if piece.word then part (codes "W") (start + piece.start) (start + piece.end) ++ 10 ∷ [] else []
+
+-- P and the passage that begins at `start`
+abbrev pub whole_line : ℕ → Whole → List ℕ
+whole_line start whole = part (codes "P") start (start + whole.len) ++ 10 ∷ []
 
 -- P and a passage of `len` bytes, its segments, and its words
 abbrev pub passage_lines : ℕ → ℕ → List Segment → List Piece → List ℕ

@@ -3,10 +3,9 @@
 ghost use Rattle.std.specs.Prelude.{◌≡◌, ℕ, ◌+◌, ◌*◌, ◌<◌, ◌≤◌, ◌^◌, List, ◌++◌, ◌∷◌, [], length, take};
 ghost use Rattle.std.specs.List.{flat_map};
 ghost use Rattle.lbk_rules.specs.Labels.{label_of};
-ghost use Rattle.lbk_notation.specs.Written.{AppendsAll};
 ghost use Rattle.lbk_cmd.specs.Adding.{Adds};
 ghost use Rattle.lbk_cmd.specs.Placing.{Placed, PlacedIn};
-ghost use Rattle.lbk_cmd.specs.Segment.{kind_name, part, passage_lines, segment_line, word_line};
+ghost use Rattle.lbk_cmd.specs.Segment.{kind_name, part, passage_lines, segment_line, whole_line, word_line};
 
 use super::offsets::Offsets;
 use super::placing::{place_byte, place_front};
@@ -36,26 +35,12 @@ pub fn push_segmented(
         passage.now.segments.now passage.now.pieces.now) result }
 {
     let start = passage.start;
-    push_passage(out, offsets, start, start + passage.text.len() as u64)?;
+    let whole = Whole {
+        len: passage.text.len() as u32,
+    };
+    push_lines(out, offsets, start, &[whole])?;
     push_lines(out, offsets, start, passage.segments)?;
     push_lines(out, offsets, start, passage.pieces)
-}
-
-/// Appends the line `P` of a passage to `out`.
-fn push_passage(
-    out: &mut Vec<u8>,
-    offsets: &mut Offsets,
-    start: u64,
-    end: u64,
-) -> Result<(), AllocError>
-    requires { (start < 2 ^ 63) × (end < 2 ^ 63) }
-    ensures { AppendsAll out.old.items out.new.items (part (80 ∷ []) start end ++ 10 ∷ []) result }
-{
-    let at = out.len();
-    out.extend_from_slice(&ROOM[..LINE])?;
-    let behind = place_line(out.as_mut_slice(), at, offsets, b'P', start, end);
-    out.truncate(behind);
-    Ok(())
 }
 
 /// Appends the lines of some parts of a passage to `out`.
@@ -69,25 +54,11 @@ fn push_lines<T: HasLine>(
     ensures { Adds out.old.items out.new.items (flat_map (T.line start) parts.now) result }
 {
     for some in parts.chunks(PARTS) {
-        push_few(out, offsets, start, some)?;
+        let at = out.len();
+        out.extend_from_slice(&ROOM[..LINE * some.len()])?;
+        let behind = place_lines(out.as_mut_slice(), at, offsets, start, some);
+        out.truncate(behind);
     }
-    Ok(())
-}
-
-/// Appends the lines of a few parts to `out`.
-fn push_few<T: HasLine>(
-    out: &mut Vec<u8>,
-    offsets: &mut Offsets,
-    start: u64,
-    parts: &[T],
-) -> Result<(), AllocError>
-    requires { (start ≤ 2 ^ 62) × (length parts.now ≤ 64) }
-    ensures { AppendsAll out.old.items out.new.items (flat_map (T.line start) parts.now) result }
-{
-    let at = out.len();
-    out.extend_from_slice(&ROOM[..LINE * parts.len()])?;
-    let behind = place_lines(out.as_mut_slice(), at, offsets, start, parts);
-    out.truncate(behind);
     Ok(())
 }
 
@@ -119,6 +90,21 @@ trait HasLine {
         ensures { PlacedIn buf.old buf.new at 64 (line start self.now) result };
 }
 
+/// A passage as a whole, of so many bytes.
+#[derive(Clone, Copy)]
+struct Whole {
+    len: u32,
+}
+
+impl HasLine for Whole {
+    ghost line = { whole_line };
+
+    fn place_line(&self, buf: &mut [u8], at: usize, offsets: &mut Offsets, start: u64) -> usize {
+        let next = place_part(buf, at, offsets, b'P', start, start + u64::from(self.len));
+        place_byte(buf, next, b'\n')
+    }
+}
+
 impl HasLine for Piece {
     ghost line = { word_line };
 
@@ -128,7 +114,9 @@ impl HasLine for Piece {
             return at;
         }
         let from = start + u64::from(self.start);
-        place_line(buf, at, offsets, b'W', from, start + u64::from(self.end))
+        let to = start + u64::from(self.end);
+        let next = place_part(buf, at, offsets, b'W', from, to);
+        place_byte(buf, next, b'\n')
     }
 }
 
@@ -144,23 +132,6 @@ impl HasLine for Segment {
         let end = line_end_of(self.rule);
         place_front(buf, next, end.bytes, end.len)
     }
-}
-
-/// Writes a line of a letter and two offsets.
-#[inline(always)]
-fn place_line(
-    line: &mut [u8],
-    at: usize,
-    offsets: &mut Offsets,
-    letter: u8,
-    start: u64,
-    end: u64,
-) -> usize
-    requires { (start < 2 ^ 63) × (end < 2 ^ 63) × (at + 64 ≤ length line.old) }
-    ensures { PlacedIn line.old line.new at 64 (part (letter ∷ []) start end ++ 10 ∷ []) result }
-{
-    let next = place_part(line, at, offsets, letter, start, end);
-    place_byte(line, next, b'\n')
 }
 
 /// Writes the letter of a line and two offsets.
