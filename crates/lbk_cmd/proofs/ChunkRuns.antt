@@ -67,9 +67,6 @@ known_chunks asked l cell profile limit from to ended u u' w w' ran at_end =
 pub ok-no-limit : (answer : Result (Unit {0}) CmdFault) → answer ≡ Ok (tt {0}) → ¬ (answer ≡ Err (cmd.Passage fault.Limit))
 ok-no-limit answer is limit = let both : Ok (tt {0}) ≡ Err (cmd.Passage fault.Limit) = sym is ∙ limit in cc
 
-pub write-no-limit : (answer : Result (Unit {0}) CmdFault) → answer ≡ Err cmd.Write → ¬ (answer ≡ Err (cmd.Passage fault.Limit))
-write-no-limit answer is limit = let both : Err cmd.Write ≡ Err (cmd.Passage fault.Limit) = sym is ∙ limit in cc
-
 -- all chunks that a window gave, where it gives no more
 pub gave-all : (asked : Asked) (text : List ℕ) (is_whole : Bool) (w w' : Window) (u v : Option (List ℕ)) (waiting waiting' : List ℕ) (g : Gave asked text is_whole w w' u v waiting waiting')
     → Rests is_whole w' → AreCutsPast (here_in w).start (cuts_in w) → (here_in w).start ≤ (here_in w).told

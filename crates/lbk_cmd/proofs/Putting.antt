@@ -1,15 +1,14 @@
 -- What stands behind the lines that wait, by the text that a segmenter lent.
-use Rattle.std.proofs.Common.{◌≡◌, ℕ, ◌+◌, ◌<◌, Bool, true, false, List, ◌++◌, length, Option, None, Some, Result, Ok, Err, refl, sym, ap, ◌∙◌, arith, inl, inr}
+use Rattle.std.proofs.Common.{◌≡◌, ℕ, ◌+◌, ◌<◌, Bool, true, false, List, length, Option, None, Some, Result, Ok, Err, refl, sym, ap, ◌∙◌, arith, inl, inr}
 use Rattle.lbk_feed.specs.Devices.{Reads}
-use Rattle.lbk_passage.specs.Marks.{Marked}
-use Rattle.lbk_passage.specs.Next.{AfterNext, IsPassage, Lends, fault_in}
+use Rattle.lbk_passage.specs.Next.{AfterNext, Lends, fault_in}
 use Rattle.lbk_passage.specs.Passages.{is_must}
 use Rattle.lbk_passage.specs.Passing.{text_alone, text_in}
 use Rattle.lbk_passage.specs.State.{State}
 use Rattle.lbk_passage.specs.declared.faults.PassageFault.{PassageFault}
 use Rattle.lbk_passage.specs.declared.passage.Passage.{Passage as LentPassage}
 use Rattle.lbk_passage.specs.declared.passage.PassageText.{PassageText}
-use Rattle.lbk_cmd.specs.Gathering.{Puts}
+use Rattle.lbk_cmd.specs.Gathering.{Puts, PutsText}
 use Rattle.lbk_cmd.specs.Run.{Engine}
 use Rattle.lbk_cmd.specs.declared.faults.CmdFault.{CmdFault}
 use Rattle.lbk_cmd.specs.declared.faults.CmdFault.TheVariants.{Memory, Passage}
@@ -43,8 +42,7 @@ module _ (e : Engine) (s : State) (before : List ℕ) (at : ℕ) (answer : Resul
 module _ (e : Engine) (s t : State) (u v : Option (List ℕ)) (e1 e2 : Bool) (r1 r2 : Reads) where
   pub puts_text : (lent : Result (Option LentPassage) PassageFault) → AfterNext s t u v e1 e2 r1 r2 lent → (text : PassageText) → Ok (Some text) ≡ text_in lent
       → (before after : List ℕ) (at : ℕ) → at ≡ text.start + length text.text.now
-      → ((ms : List Marked) (p : LentPassage) → s.cell ≡ e.cell → s.profile ≡ e.profile → IsPassage s ms p → p.text.now ≡ text.text.now → p.end ≡ text.end
-      → is_must text.end.kind ≡ true → after ≡ before ++ e.lines p.start ms) → Puts e s lent before after at (Ok true)
+      → PutsText e text.text.now text.end before after → Puts e s lent before after at (Ok true)
   puts_text (Ok None) a text is before after at ends lines = absurd (cc is)
   puts_text (Ok (Some p)) a text is before after at ends lines =
       let same : text ≡ text_alone p = cc in
@@ -52,7 +50,7 @@ module _ (e : Engine) (s t : State) (u v : Option (List ℕ)) (e1 e2 : Bool) (r1
       inl (
         refl,
         ends ∙ ap (λ k. k.start + length k.text.now) same,
-        λ ms cell_is profile_is of. lines ms p cell_is profile_is of (ap (λ k. k.text.now) (sym same)) (ap (λ k. k.end) (sym same)) (ap (λ k. is_must k.end.kind) same ∙ must),
+        λ ms cell_is profile_is of. lines s ms p cell_is profile_is of (ap (λ k. k.text.now) (sym same)) (ap (λ k. k.end) (sym same)) (ap (λ k. is_must k.end.kind) same ∙ must),
       )
   puts_text (Err why) a text is before after at ends lines = absurd (cc is)
 

@@ -7,6 +7,7 @@ use Rattle.lbk_cmd.specs.Mark.{signed_passage}
 use Rattle.lbk_cmd.specs.Run.{Engine}
 use Rattle.lbk_cmd.specs.Segment.{segmented_passage}
 use Rattle.lbk_cmd.specs.Show.{shown_passage}
+use Rattle.lbk_cmd.specs.declared.engine.Breaking.{Breaking}
 use Rattle.lbk_cmd.specs.declared.engine.Lines.{Lines}
 use Rattle.lbk_cmd.specs.declared.engine.Lines.TheVariants.{Text, Segmented}
 use Rattle.lbk_cmd.specs.declared.engine.TextLines.TheVariants.{Signed, Shown}
@@ -34,3 +35,7 @@ lines_of Segmented cell start ms = segmented_passage cell start ms
 abbrev pub engine_of : Lines → (ℕ → Cell) → Profile → ℕ → Engine
 engine_of lines cell profile limit =
     record { lines = lines_of lines cell; cell = cell; profile = profile; limit = limit }
+
+-- the engine that writes these lines of a text that is broken so, by what the cells say of a scalar
+abbrev pub engine_by : {C : Type 0} → (C → ℕ → Cell) → Lines → Breaking C → Engine
+engine_by cell_of lines how = engine_of lines (cell_of how.cells.now) how.profile how.limit

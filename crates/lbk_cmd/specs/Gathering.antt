@@ -6,9 +6,11 @@ use Rattle.lbk_feed.specs.Devices.{Reads}
 use Rattle.lbk_feed.specs.declared.traits.Source.{Ghosts as SourceMembers}
 use Rattle.lbk_passage.specs.Marks.{Marked}
 use Rattle.lbk_passage.specs.Next.{AfterNext, IsPassage, failures_with, fault_in}
+use Rattle.lbk_passage.specs.Passages.{is_must}
 use Rattle.lbk_passage.specs.State.{State}
 use Rattle.lbk_passage.specs.declared.faults.PassageFault.{PassageFault}
 use Rattle.lbk_passage.specs.declared.passage.Passage.{Passage as LentPassage}
+use Rattle.lbk_rules.specs.declared.Verdict.{Verdict}
 use Rattle.lbk_cmd.specs.Run.{Engine}
 use Rattle.lbk_cmd.specs.declared.gathered.Gathered.{Gathered}
 use Rattle.lbk_cmd.specs.declared.faults.CmdFault.{CmdFault}
@@ -34,6 +36,12 @@ Puts e s (Ok (Some p)) before after at answer =
     ++ e.lines p.start ms))
     ⊎ ((answer ≡ Err Memory) × (after ≡ before))
 Puts e s (Err why) before after at answer = (answer ≡ Err (Passage why)) × (after ≡ before)
+
+-- lines were appended to the buffer, which are those of each passage that has this text and ends by this verdict
+abbrev pub PutsText : Engine → List ℕ → Verdict → List ℕ → List ℕ → Type 0
+PutsText e text end before after = (s : State) (ms : List Marked) (p : LentPassage) → s.cell ≡ e.cell
+    → s.profile ≡ e.profile → IsPassage s ms p → p.text.now ≡ text → p.end ≡ end → is_must end.kind ≡ true
+    → after ≡ before ++ e.lines p.start ms
 
 -- the state after a call that appends the lines of the next passage to the buffer, by what a segmenter would lend
 pub record PutsNext (e : Engine) (old new : State) (unread unread' : Option (List ℕ)) (ended ended' : Bool)

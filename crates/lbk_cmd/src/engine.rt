@@ -43,15 +43,13 @@ pub fn mark_with<R: Source, W: Sink, C: CellSource>(
     ensures { Marks sign.now (C.cell_of cells.now) limit profile
         (devices_of R.Source W.Sink reader.old writer.old) (devices_of R.Source W.Sink reader.new writer.new) result }
 {
-    write_lines(
-        Lines::Text(TextLines::Signed { sign }),
-        alloc,
-        reader,
-        writer,
+    let how = Breaking {
         cells,
         limit,
         profile,
-    )
+    };
+    let lines = Lines::Text(TextLines::Signed { sign });
+    write_lines(lines, alloc, reader, writer, &how)
 }
 
 /// Writes a line for each passage of a text (UAX #14, section 6): the marks of its positions with its scalars between
@@ -72,8 +70,12 @@ pub fn show<R: Source, W: Sink, C: CellSource>(
     ensures { Shows (C.cell_of cells.now) limit profile
         (devices_of R.Source W.Sink reader.old writer.old) (devices_of R.Source W.Sink reader.new writer.new) result }
 {
-    let lines = Lines::Text(TextLines::Shown);
-    write_lines(lines, alloc, reader, writer, cells, limit, profile)
+    let how = Breaking {
+        cells,
+        limit,
+        profile,
+    };
+    write_lines(Lines::Text(TextLines::Shown), alloc, reader, writer, &how)
 }
 
 /// Writes the segments and words of a text: for each passage a line `P` with its first byte and the byte after its
@@ -92,15 +94,20 @@ pub fn segment<R: Source, W: Sink, C: CellSource>(
     ensures { Segments (C.cell_of cells.now) limit profile
         (devices_of R.Source W.Sink reader.old writer.old) (devices_of R.Source W.Sink reader.new writer.new) result }
 {
-    write_lines(
-        Lines::Segmented,
-        alloc,
-        reader,
-        writer,
+    let how = Breaking {
         cells,
         limit,
         profile,
-    )
+    };
+    write_lines(Lines::Segmented, alloc, reader, writer, &how)
+}
+
+/// How a text is broken: by these cells and the rules of this profile, with at most so many bytes in a paragraph.
+#[derive(Drop)]
+pub(crate) struct Breaking<'a, C> {
+    pub cells: &'a C,
+    pub limit: u32,
+    pub profile: Profile,
 }
 
 /// What to write for a passage.
@@ -127,18 +134,16 @@ pub fn write_lines<R: Source, W: Sink, C: CellSource>(
     alloc: Global,
     reader: &mut R,
     writer: &mut W,
-    cells: &C,
-    limit: u32,
-    profile: Profile,
+    how: &Breaking<'_, C>,
 ) -> Result<(), CmdFault>
-    ensures { Writes lines.entry (C.cell_of cells.now) limit profile
+    ensures { Writes lines.entry (C.cell_of how.now.cells.now) how.now.limit how.now.profile
         (devices_of R.Source W.Sink reader.old writer.old) (devices_of R.Source W.Sink reader.new writer.new) result }
 {
-    let mut segmenter = Segmenter::new(alloc, cells, limit, profile)?;
+    let mut segmenter = Segmenter::new(alloc, how.cells, how.limit, how.profile)?;
     let mut gathered = Gathered::new(alloc);
     loop {
         gathered.write_due(&mut segmenter, writer)?;
-        let put = gathered.put_next(lines, &mut segmenter, reader, cells, profile);
+        let put = gathered.put_next(lines, &mut segmenter, reader, how);
         if let Some(answer) = end_of(put) {
             gathered.write(writer)?;
             return answer;

@@ -4,21 +4,16 @@ ghost use Rattle.std.specs.Prelude.{ℕ, ◌≡◌, ◌≤◌, ◌<◌, ◌⊎�
 ghost use Rattle.std.specs.Prelude.{OnOk};
 ghost use Rattle.lbk_rules.specs.declared.Cell.{Cell};
 ghost use Rattle.lbk_values.specs.declared.profile.Profile as specs;
-ghost use Rattle.lbk_passage.specs.Marks.{Marked};
-ghost use Rattle.lbk_passage.specs.Next.{IsPassage};
-ghost use Rattle.lbk_passage.specs.Passages.{is_must};
 ghost use Rattle.lbk_passage.specs.Shown.{state_of};
-ghost use Rattle.lbk_passage.specs.State.{State};
-ghost use Rattle.lbk_passage.specs.declared.passage.Passage.{Passage};
 ghost use Rattle.lbk_passage.specs.declared.faults.PassageFault.{PassageFault};
-ghost use Rattle.lbk_cmd.specs.Engines.{engine_of, lines_of};
+ghost use Rattle.lbk_cmd.specs.Engines.{engine_by, engine_of};
 ghost use Rattle.lbk_cmd.specs.declared.engine.Lines.TheVariants as kinds;
 ghost use Rattle.lbk_cmd.specs.Deciding.{IsPassageText};
-ghost use Rattle.lbk_cmd.specs.Gathering.{Leaves, PutsRead, end_of};
+ghost use Rattle.lbk_cmd.specs.Gathering.{Leaves, PutsRead, PutsText, end_of};
 ghost use Rattle.lbk_cmd.specs.Ranges.{within};
 ghost use Rattle.lbk_cmd.specs.Writing.{WritesDue, WritesOut};
 
-use super::engine::{Lines, TextLines};
+use super::engine::{Breaking, Lines, TextLines};
 use super::faults::CmdFault;
 use super::offsets::Offsets;
 use super::segmented::push_segmented;
@@ -27,7 +22,7 @@ use super::signed::{BLOCK, NO_BREAKS, push_signed};
 use lbk_args::Part;
 use lbk_feed::{Failed, Sink, Source, write_all};
 use lbk_passage::{Break, Segmenter};
-use lbk_rules::{CellSource, Profile, Verdict};
+use lbk_rules::{CellSource, Verdict};
 use std::alloc::{AllocError, Global};
 
 /// How many bytes of lines are buffered at most, before those of one more passage.
@@ -99,16 +94,15 @@ impl Gathered {
         lines: Lines<'_>,
         segmenter: &mut Segmenter<'_, C>,
         reader: &mut R,
-        cells: &C,
-        profile: Profile,
+        how: &Breaking<'_, C>,
     ) -> Result<bool, CmdFault>
-        ensures { (limit : ℕ) → PutsRead R.Source (engine_of lines.entry (C.cell_of cells.now) profile limit)
+        ensures { PutsRead R.Source (engine_by C.cell_of lines.entry how.now)
             (state_of C.cell_of segmenter.old) (state_of C.cell_of segmenter.new) reader.old reader.new
             self.old.lines.items self.new.lines.items self.new.at result }
     {
         match lines {
             Lines::Segmented => self.put_segmented(segmenter, reader),
-            Lines::Text(lines) => self.put_text(lines, segmenter, reader, cells, profile),
+            Lines::Text(lines) => self.put_text(segmenter, reader, lines, how),
         }
     }
 
@@ -132,23 +126,19 @@ impl Gathered {
                 self.at = passage.start + passage.text.len() as u64;
                 Ok(true)
             }
-            Err(_) => {
-                self.lines.truncate(before);
-                Err(CmdFault::Memory)
-            }
+            Err(_) => self.take_back(before),
         }
     }
 
     /// Appends those of its text, without looking for segments or words.
     fn put_text<R: Source, C: CellSource>(
         &mut self,
-        lines: TextLines<'_>,
         segmenter: &mut Segmenter<'_, C>,
         reader: &mut R,
-        cells: &C,
-        profile: Profile,
+        lines: TextLines<'_>,
+        how: &Breaking<'_, C>,
     ) -> Result<bool, CmdFault>
-        ensures { (limit : ℕ) → PutsRead R.Source (engine_of (kinds.Text lines.entry) (C.cell_of cells.now) profile limit)
+        ensures { PutsRead R.Source (engine_by C.cell_of (kinds.Text lines.entry) how.now)
             (state_of C.cell_of segmenter.old) (state_of C.cell_of segmenter.new) reader.old reader.new
             self.old.lines.items self.new.lines.items self.new.at result }
     {
@@ -156,16 +146,22 @@ impl Gathered {
             return Ok(false);
         };
         let before = self.lines.len();
-        match self.push_text(lines, cells, profile, passage.text, passage.end) {
+        match self.push_text(lines, how, passage.text, passage.end) {
             Ok(()) => {
                 self.at = passage.start + passage.text.len() as u64;
                 Ok(true)
             }
-            Err(_) => {
-                self.lines.truncate(before);
-                Err(CmdFault::Memory)
-            }
+            Err(_) => self.take_back(before),
         }
+    }
+
+    /// Takes back what was appended behind so many bytes: memory could not grow for the rest.
+    fn take_back(&mut self, before: usize) -> Result<bool, CmdFault>
+        ensures lines { self.new.lines.items ≡ take before self.old.lines.items }
+        ensures memory { result ≡ Err CmdFault.Memory }
+    {
+        self.lines.truncate(before);
+        Err(CmdFault::Memory)
     }
 
     /// Appends the lines of a passage, from its text and the verdict at its end. After an error some of them may be
@@ -173,17 +169,13 @@ impl Gathered {
     fn push_text<C: CellSource>(
         &mut self,
         lines: TextLines<'_>,
-        cells: &C,
-        profile: Profile,
+        how: &Breaking<'_, C>,
         text: &str,
         end: Verdict,
     ) -> Result<(), AllocError>
         requires { IsPassageText text.now }
-        ensures text { OnOk result ((s : State) (ms : List Marked) (p : Passage) → s.cell ≡ C.cell_of cells.now
-            → s.profile ≡ profile
-            → IsPassage s ms p → p.text.now ≡ text.now → p.end ≡ end → is_must end.kind ≡ true
-            → self.new.lines.items
-            ≡ self.old.lines.items ++ lines_of (kinds.Text lines.entry) (C.cell_of cells.now) p.start ms) }
+        ensures text { OnOk result (PutsText (engine_by C.cell_of (kinds.Text lines.entry) how.now) text.now end
+            self.old.lines.items self.new.lines.items) }
         ensures kept { take (length self.old.lines.items) self.new.lines.items ≡ self.old.lines.items }
         ensures at { self.new.at ≡ self.old.at }
     {
@@ -191,13 +183,13 @@ impl Gathered {
             TextLines::Signed { sign } => push_signed(
                 &mut self.lines,
                 sign,
-                cells,
-                profile,
+                how.cells,
+                how.profile,
                 text,
                 &mut self.block,
             ),
             TextLines::Shown => {
-                decide(cells, profile, text, end, &mut self.verdicts)?;
+                decide(how.cells, how.profile, text, end, &mut self.verdicts)?;
                 push_shown(&mut self.lines, text, &self.verdicts)
             }
         }
@@ -211,13 +203,11 @@ impl Gathered {
         lines: Lines<'_>,
         segmenter: &mut Segmenter<'_, C>,
         reader: &mut R,
-        cells: &C,
-        profile: Profile,
+        how: &Breaking<'_, C>,
     ) -> Result<bool, CmdFault>
         requires start { self.old.at ≡ (state_of C.cell_of segmenter.old).start }
         requires early { self.old.at < part.to }
-        ensures puts { (limit : ℕ)
-            → PutsRead R.Source (within part (engine_of lines.entry (C.cell_of cells.now) profile limit))
+        ensures puts { PutsRead R.Source (within part (engine_by C.cell_of lines.entry how.now))
             (state_of C.cell_of segmenter.old) (state_of C.cell_of segmenter.new) reader.old reader.new
             self.old.lines.items self.new.lines.items self.new.at result }
         // No memory grows for passages before the range.
@@ -225,7 +215,7 @@ impl Gathered {
             → part.from ≤ self.old.at }
     {
         if self.at >= u64::from(part.from) {
-            return self.put_next(lines, segmenter, reader, cells, profile);
+            return self.put_next(lines, segmenter, reader, how);
         }
         let Some(end) = segmenter.pass(reader)? else {
             return Ok(false);

@@ -5,11 +5,11 @@ ghost use Rattle.lbk_rules.specs.CellPages.{page_cell};
 ghost use Rattle.lbk_cmd.specs.Acts.{ChunksEnd, LinesEnd, RunsOver, RunsReady, form_of};
 ghost use Rattle.lbk_cmd.specs.Chunk.{limits_of};
 ghost use Rattle.lbk_cmd.specs.Devices.{devices_of};
-ghost use Rattle.lbk_cmd.specs.Operands.{Reads, ReadsText, ReadsTexts, RunsTexts, refused_after};
+ghost use Rattle.lbk_cmd.specs.Operands.{Reads, ReadsText, RunsTexts, refused_after};
 
 use super::chunked::{Asked, chunk};
 use super::ending::{Ending, RunFault};
-use super::engine::{Lines, TextLines, write_lines};
+use super::engine::{Breaking, Lines, TextLines, write_lines};
 use super::operands::Texts;
 use super::ranges::write_range;
 use super::titles::write_title;
@@ -20,8 +20,7 @@ use lbk_files::{LoadFault, Opens, Ready};
 use lbk_notation::{Form, replay};
 use std::alloc::Global;
 
-/// Runs the engine over its texts, or over that of the reader if it names none.
-#[tactic(none)]
+/// Runs the engine over each of its texts in turn, or over that of the reader if it names none.
 pub(crate) fn perform<'a, T: Texts<'a>, R: Source, W: Sink>(
     alloc: Global,
     ready: &Ready<'_>,
@@ -36,25 +35,8 @@ pub(crate) fn perform<'a, T: Texts<'a>, R: Source, W: Sink>(
 {
     let names = ready.texts.as_slice();
     if names.is_empty() {
-        perform_titled(alloc, ready, "-", reader, writer)
-    } else {
-        perform_all(alloc, ready, names, texts, reader, writer)
+        return perform_titled(alloc, ready, "-", reader, writer);
     }
-}
-
-/// Runs the engine over each text in turn.
-fn perform_all<'a, T: Texts<'a>, R: Source, W: Sink>(
-    alloc: Global,
-    ready: &Ready<'_>,
-    names: &[&str],
-    texts: &mut T,
-    reader: &mut R,
-    writer: &mut W,
-) -> Ending
-    ensures { RunsTexts T.refused T.contents texts.old texts.new
-        (devices_of R.Source W.Sink reader.old writer.old) (devices_of R.Source W.Sink reader.new writer.new) result
-        (ReadsTexts T.File.Source (T.contents texts.old) (RunsReady ready.now) (map (λ name. name.now) names.now)) }
-{
     let mut so_far = Ending::Done;
     for name in names {
         let ending = perform_named(alloc, ready, name, texts, reader, writer);
@@ -215,13 +197,14 @@ fn perform_lines<R: Source, W: Sink>(
     ensures { LinesEnd ready.now.part lines.entry (page_cell ready.now.cells) limit ready.now.profile
         (devices_of R.Source W.Sink reader.old writer.old) (devices_of R.Source W.Sink reader.new writer.new) result }
 {
-    let cells = &ready.cells;
-    let profile = ready.profile;
+    let how = Breaking {
+        cells: &ready.cells,
+        limit,
+        profile: ready.profile,
+    };
     match ready.part {
-        None => Ending::of_text(write_lines(lines, alloc, reader, writer, cells, limit, profile)),
-        Some(part) => Ending::of_text(write_range(
-            lines, part, alloc, reader, writer, cells, limit, profile,
-        )),
+        None => Ending::of_text(write_lines(lines, alloc, reader, writer, &how)),
+        Some(part) => Ending::of_text(write_range(lines, part, alloc, reader, writer, &how)),
     }
 }
 

@@ -1,7 +1,7 @@
 use Rattle.std.proofs.Common.{◌≡◌, ◌+◌, ◌-◌}
 use Rattle.lbk_feed.specs.Text.{longest_text}
 use Rattle.lbk_passage.specs.Shown.{state_of}
-use Rattle.lbk_cmd.specs.Engines.{engine_of}
+use Rattle.lbk_cmd.specs.Engines.{engine_by}
 use Rattle.lbk_cmd.specs.Ranges.{ReadsBefore, within}
 use Rattle.lbk_cmd.specs.Run.{by_passage}
 use Rattle.lbk_cmd.proofs.Looping.{Going}
@@ -9,7 +9,7 @@ use Rattle.lbk_cmd.proofs.ranges.write_range.Given as goal
 
 abbrev pub invariant-loop-part : goal.invariant-loop-part
 invariant-loop-part g l = record {
-  going : Going (by_passage (within l.fn.part (engine_of l.fn.lines (g.C.CellSource.cell_of l.cells) l.fn.profile l.fn.limit)))
+  going : Going (by_passage (within l.fn.part (engine_by g.C.CellSource.cell_of l.fn.lines l.how)))
       (g.R.Source.unread l.fn.reader) (g.W.Sink.written l.fn.writer) (g.R.Source.reads_made l.fn.reader)
       (state_of g.C.CellSource.cell_of l.segmenter)
       (g.R.Source.unread l.reader) (g.W.Sink.written l.writer) (g.R.Source.has_ended l.reader) (g.R.Source.reads_made l.reader)

@@ -13,8 +13,8 @@ use Rattle.lbk_cmd.proofs.gathered.Gathered.push_text.Goals as goal
 
 pub returns-in-Signed-clause-text : goal.returns-in-Signed-clause-text
 returns-in-Signed-clause-text g c =
-    let cell = g.C.CellSource.cell_of c.args.cells.now in
-    let profile = c.args.profile in
+    let cell = g.C.CellSource.cell_of c.args.how.now.cells.now in
+    let profile = c.args.how.now.profile in
     let text = c.args.text.now in
     let mark = c.in-Signed.sign.now in
     on_ok_weaker c.push_signed.result
@@ -29,8 +29,8 @@ returns-in-Signed-clause-text g c =
 
 pub returns-in_ok-decide-in-Shown-clause-text : goal.returns-in_ok-decide-in-Shown-clause-text
 returns-in_ok-decide-in-Shown-clause-text g c =
-    let cell = g.C.CellSource.cell_of c.args.cells.now in
-    let profile = c.args.profile in
+    let cell = g.C.CellSource.cell_of c.args.how.now.cells.now in
+    let profile = c.args.how.now.profile in
     let text = c.args.text.now in
     on_ok_weaker c.push_shown.result
     (λ is s ms p cell_is profile_is of bytes end must.

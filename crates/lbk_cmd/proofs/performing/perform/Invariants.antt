@@ -3,7 +3,7 @@ use Rattle.lbk_cmd.specs.Acts.{RunsReady}
 use Rattle.lbk_cmd.specs.Devices.{devices_of}
 use Rattle.lbk_cmd.specs.Operands.{ReadsTexts, Standing, standing}
 use Rattle.lbk_cmd.specs.declared.ending.Ending.TheVariants.{Done}
-use Rattle.lbk_cmd.proofs.performing.perform_all.Given as goal
+use Rattle.lbk_cmd.proofs.performing.perform.Given as goal
 
 -- what reads the texts that are left, from here, reads all, from the beginning
 abbrev pub invariant-loop-name : goal.invariant-loop-name
