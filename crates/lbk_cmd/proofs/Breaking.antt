@@ -1,5 +1,5 @@
 -- A text broken in one call: what is known of the lines that were written of it.
-use Rattle.std.proofs.Common.{◌≡◌, ℕ, ◌≤◌, true, List, [], ◌∷◌, length, Option, Result, Ok, Err, IfErr, IsUtf8, chars, refl, sym, ap, subst, ◌∙◌, inl, inr, arith}
+use Rattle.std.proofs.Common.{◌≡◌, ℕ, ◌≤◌, true, List, [], ◌∷◌, length, Option, Result, Ok, Err, ◌⊎◌, IsUtf8, chars, sym, subst, ◌∙◌, inl, inr, arith}
 use Rattle.std.specs.Char.{IsScalar}
 use Rattle.std.specs.List.{AllByRecursion, flat_map}
 use Rattle.std.proofs.Math.Utf8.{scalar, scalars}
@@ -15,7 +15,7 @@ use Rattle.lbk_feed.specs.Text.{greatest_limit}
 use Rattle.lbk_notation.specs.TestLine.{Line}
 use Rattle.lbk_files.specs.Cells.{AreCellsOf}
 use Rattle.lbk_cmd.specs.Acts.{Shows}
-use Rattle.lbk_cmd.specs.Broken.{IsBroken, IsLinesFault, ShowStops}
+use Rattle.lbk_cmd.specs.Broken.{IsBroken, IsLinesFault, ReadsBy, ShowStops}
 use Rattle.lbk_cmd.specs.Devices.{Devices}
 use Rattle.lbk_cmd.specs.Engines.{showing}
 use Rattle.lbk_cmd.specs.ReadBack.{AreReadable, AreShown, IsReadable, IsShown, Say}
@@ -54,19 +54,12 @@ all_readable limit (ms ∷ given) low all within =
       all_readable limit given low parts.1 within.1,
     )
 
--- `show` stopped
-pub show_stopped : {X : Type 0} (files : Files) (cell : ℕ → Cell) (limit : ℕ) (profile : Profile) (before after : Devices)
-    (answer : Result X BreakFault) (why : BreakFault) (fault : CmdFault) → answer ≡ Err why → why ≡ text_fault fault → AreCellsOf files cell
-    → ShowStops cell limit profile before after fault → IfErr answer (IsLinesFault files limit profile before after)
-show_stopped files cell limit profile before after answer why fault is same cells stops =
-    subst (λ r. IfErr r (IsLinesFault files limit profile before after)) (sym (is ∙ ap Err same)) (cell, cells, inl stops)
-
--- memory could not grow for what is read back
-pub out_of_memory : {X : Type 0} (files : Files) (cell : ℕ → Cell) (limit : ℕ) (profile : Profile) (before after : Devices)
-    (answer : Result X BreakFault) (why : BreakFault) → answer ≡ Err why → why ≡ text_fault cmd.Memory → AreCellsOf files cell
-    → Shows cell limit profile before after (Ok tt) → IfErr answer (IsLinesFault files limit profile before after)
-out_of_memory files cell limit profile before after answer why is memory cells shows =
-    subst (λ r. IfErr r (IsLinesFault files limit profile before after)) (sym (is ∙ ap Err memory)) (cell, cells, inr (refl, shows))
+-- the text is refused: `show` stopped, or memory could not grow for what is read back
+pub text_refused : {X : Type 0} {files : Files} {cell : ℕ → Cell} {limit : ℕ} {profile : Profile} {before after : Devices} {answer : Result X BreakFault}
+    (fault : CmdFault) → answer ≡ Err (text_fault fault) → AreCellsOf files cell
+    → ShowStops cell limit profile before after fault ⊎ ((fault ≡ cmd.Memory) × Shows cell limit profile before after (Ok tt))
+    → ReadsBy IsLinesFault files limit profile before after answer
+text_refused {X} {files} {cell} fault is cells why = rw is (record { whole = tt; refused = (cell, cells, why) })
 
 module _ (cell : ℕ → Cell) (limit : ℕ) (profile : Profile) (before after : Devices) (shows : Shows cell limit profile before after (Ok tt))
     (unread : Option (List ℕ)) (text : List ℕ) (shown : IsShown (showing cell profile limit) unread text) where

@@ -1,5 +1,5 @@
 -- The passages that a loop owns are those that its segmenter has lent.
-use Rattle.std.proofs.Common.{◌≡◌, ℕ, ◌+◌, true, Bool, List, [], ◌∷◌, ◌++◌, length, Option, None, Some, Result, Ok, Err, IfErr, chars, encode_utf8_all, refl, sym, ap, ap₂, subst, ◌∙◌, arith, inl, length-append}
+use Rattle.std.proofs.Common.{◌≡◌, ℕ, ◌+◌, true, Bool, List, [], ◌∷◌, ◌++◌, length, Option, None, Some, Result, Ok, chars, encode_utf8_all, refl, sym, ap, ap₂, subst, ◌∙◌, arith, inl, length-append}
 use Rattle.std.specs.List.{flat_map}
 use Rattle.std.proofs.KnownBytes.{Consumes-whole}
 use Rattle.std.proofs.lemmas.Str.{encodes-append, scalars-chars}
@@ -20,9 +20,6 @@ use Rattle.lbk_passage.specs.declared.passage.Passage.{Passage}
 use Rattle.lbk_passage.proofs.SameCells.{AgreeOnScalars, pieces_same, scalars_parts}
 use Rattle.lbk_passage.proofs.Together.{passages-scalars}
 use Rattle.lbk_files.specs.Cells.{AreCellsOf, cell_of_files}
-use Rattle.lbk_cmd.specs.Acts.{Shows}
-use Rattle.lbk_cmd.specs.Devices.{Devices}
-use Rattle.lbk_cmd.specs.declared.faults.CmdFault.{CmdFault}
 use Rattle.lbk_cmd.specs.Owned.{AreOwned, AreRead, Owned, lent_as, owned_from, owned_of, owned_passage, owned_passages}
 use Rattle.lbk_cmd.specs.Run.{Engine, by_passage}
 use Rattle.lbk_cmd.proofs.Breaking.{chars_scalars}
@@ -129,9 +126,3 @@ pub read_once : (files : Files) (profile : Profile) (input : List ℕ) (one othe
     → AreRead files profile (Some input) one → AreRead files profile (Some input) other → one ≡ other
 read_once files profile input one other a b =
     a.owned.is ∙ ap (owned_passages profile (cell_of_files files)) (a.owned.read ∙ sym b.owned.read) ∙ sym b.owned.is
-
--- an error, as `show` answers it
-pub shows_err : (cell : ℕ → Cell) (limit : ℕ) (profile : Profile) (before after : Devices) (r : Result (Unit {0}) CmdFault)
-    → Shows cell limit profile before after r → IfErr r (λ fault. Shows cell limit profile before after (Err fault))
-shows_err cell limit profile before after (Ok x) shows = tt
-shows_err cell limit profile before after (Err fault) shows = shows

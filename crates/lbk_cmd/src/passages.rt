@@ -1,11 +1,11 @@
 //! The passages of a text in one call: from the bytes of four property files and of a text to its breaks and words.
 
-ghost use Rattle.std.specs.Prelude.{◌≡◌, [], ◌∷◌, ◌++◌, Ok, Err, IfOk, IfErr, OnOk};
+ghost use Rattle.std.specs.Prelude.{◌≡◌, [], ◌∷◌, ◌++◌, IfOk, OnOk};
 ghost use Rattle.lbk_rules.specs.CellPages.{page_cell};
+ghost use Rattle.lbk_passage.specs.Next.{IsPlaced};
 ghost use Rattle.lbk_cmd.specs.Acts.{Shows};
 ghost use Rattle.lbk_cmd.specs.Broken.{IsBreakFault, ReadsBy};
 ghost use Rattle.lbk_cmd.specs.Devices.{reader_alone};
-ghost use Rattle.lbk_passage.specs.Next.{IsPlaced};
 ghost use Rattle.lbk_cmd.specs.Owned.{AreOwned, AreRead, lent_as};
 
 use super::broken::BreakFault;
@@ -57,10 +57,8 @@ fn own_passages<R: Source>(
 ) -> Result<(), CmdFault>
     requires { passages.old.items ≡ [] }
     ensures owned { OnOk result (AreOwned profile (page_cell cells.now) (R.unread reader.old) passages.new.items) }
-    ensures done { OnOk result (Shows (page_cell cells.now) limit profile
-        (reader_alone R.Source reader.old) (reader_alone R.Source reader.new) (Ok (tt {0}))) }
-    ensures refused { IfErr result (λ fault. Shows (page_cell cells.now) limit profile
-        (reader_alone R.Source reader.old) (reader_alone R.Source reader.new) (Err fault)) }
+    ensures shows { Shows (page_cell cells.now) limit profile
+        (reader_alone R.Source reader.old) (reader_alone R.Source reader.new) result }
 {
     let mut segmenter = Segmenter::new(alloc, cells, limit, profile)?;
     while let Some(passage) = segmenter.next(reader)? {
