@@ -1,7 +1,7 @@
 -- What a call promises that takes the next piece of a stream of units: each set of clauses once.
 use Rattle.std.specs.Prelude.{◌≡◌, ℕ, suc, ◌+◌, ◌-◌, ◌^◌, ◌<◌, ◌≤◌, ◌⊎◌, Bool, true, false, List, [], ◌++◌}
 use Rattle.std.specs.Prelude.{drop, length, map, take}
-use Rattle.bstr.specs.Utf8.{Decoded}
+use Rattle.bstr.specs.Utf8.{Decoded, pieces}
 use Rattle.lbk_rules.specs.declared.Break.{Break}
 use Rattle.lbk_rules.specs.declared.Cell.{Cell}
 use Rattle.lbk_rules.specs.declared.flat_table.FlatTable.{FlatTable}
@@ -9,13 +9,16 @@ use Rattle.lbk_values.specs.declared.profile.Profile.{Profile}
 use Rattle.lbk_rules.specs.FlatTable.{IsFlatOf}
 use Rattle.lbk_rules.specs.Joins.{moved}
 use Rattle.lbk_bytes.specs.declared.raw_break.RawBreak.{RawBreak}
+use Rattle.lbk_bytes.specs.Bytes.{breaks_of_bytes, breaks_of_part}
+use Rattle.lbk_bytes.specs.Open.{could_go_on}
 use Rattle.lbk_bytes.specs.Order.{AreBreaks, AreInOrder}
 use Rattle.lbk_bytes.specs.Shown.{given_in}
+use Rattle.lbk_units.specs.Units.{breaks_of_part_of, breaks_of_utf16, pieces_of_utf16}
 use Rattle.lbk_streams.specs.declared.stream.Fed.{Fed}
 use Rattle.lbk_streams.specs.declared.stream.Stream.{Stream}
 use Rattle.lbk_streams.specs.Stands.{StreamsIn}
-use Rattle.lbk_streams.specs.Streams.{AreUnsettledIn, IsSoundIn, cut_units, most_left_in, next_place, part_stream}
-use Rattle.lbk_streams.specs.Streams.{place_of, stream_start}
+use Rattle.lbk_streams.specs.Streams.{AreUnsettledIn, IsSoundIn, could_go_on_utf16, cut_units, most_left_in, next_place}
+use Rattle.lbk_streams.specs.Streams.{part_stream, place_of, stream_start, units_in}
 
 -- whatever the table and the stream, of a piece of so many units: at most one break for each unit, one that waited and
 -- the end; from a stream's start on their places rise, in a call and from one call to the next; and where the stream
@@ -75,3 +78,12 @@ pub record TakesPiece {A : Type 0} (pieces_of : List A → List Decoded) (carrie
   pub cut : old.cut_size ≤ widest → new.cut_size ≤ widest
   pub end : (cell : ℕ → Cell) (to_come : List Break) → StreamsIn pieces_of carried cell table old piece to_come
       → last ≡ true → fed.count < room → fed.count ≡ length to_come
+
+-- of bytes, of which a stream holds at most four, and of units of 16 bits, of which it holds at most two
+abbrev pub TakesBytes : FlatTable → Stream → Stream → List ℕ → Bool → ℕ → List RawBreak → Fed → Type 0
+TakesBytes = TakesPiece pieces (λ bytes. bytes) could_go_on 4 breaks_of_bytes breaks_of_part
+
+abbrev pub TakesUtf16 : FlatTable → Stream → Stream → List ℕ → Bool → ℕ → List RawBreak → Fed → Type 0
+TakesUtf16 =
+    TakesPiece pieces_of_utf16 units_in could_go_on_utf16 2 breaks_of_utf16
+    (λ goes_on profile cell text. breaks_of_part_of goes_on profile cell (pieces_of_utf16 text))

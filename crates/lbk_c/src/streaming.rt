@@ -1,12 +1,7 @@
 //! A text that arrives in pieces.
 
 ghost use Rattle.std.specs.Prelude.{length};
-ghost use Rattle.bstr.specs.Utf8.{pieces};
-ghost use Rattle.lbk_bytes.specs.Bytes.{breaks_of_bytes, breaks_of_part};
-ghost use Rattle.lbk_bytes.specs.Open.{could_go_on};
-ghost use Rattle.lbk_c.specs.Feeds.{TakesPiece};
-ghost use Rattle.lbk_units.specs.Units.{breaks_of_part_of, breaks_of_utf16, pieces_of_utf16};
-ghost use Rattle.lbk_streams.specs.Streams.{could_go_on_utf16, units_in};
+ghost use Rattle.lbk_c.specs.Feeds.{TakesBytes, TakesUtf16};
 
 use lbk_bytes::RawBreak;
 use lbk_rules::FlatTable;
@@ -29,8 +24,7 @@ pub extern "C" fn lbk_feed(
     last: bool,
     out: &mut [RawBreak],
 ) -> Fed
-    ensures { TakesPiece pieces (λ bytes. bytes) could_go_on 4 breaks_of_bytes breaks_of_part table.now stream.old
-        stream.new piece.now last (length out.old) out.new result }
+    ensures { TakesBytes table.now stream.old stream.new piece.now last (length out.old) out.new result }
 {
     feed(table, stream, piece, last, out)
 }
@@ -50,9 +44,7 @@ pub extern "C" fn lbk_feed_utf16(
     last: bool,
     out: &mut [RawBreak],
 ) -> Fed
-    ensures { TakesPiece pieces_of_utf16 units_in could_go_on_utf16 2 breaks_of_utf16
-        (λ goes_on profile cell text. breaks_of_part_of goes_on profile cell (pieces_of_utf16 text)) table.now
-        stream.old stream.new piece.now last (length out.old) out.new result }
+    ensures { TakesUtf16 table.now stream.old stream.new piece.now last (length out.old) out.new result }
 {
     feed(table, stream, piece, last, out)
 }
