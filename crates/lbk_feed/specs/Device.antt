@@ -1,5 +1,5 @@
 -- What a `Device` shows: its inner reader or writer, and its counts.
-use Rattle.std.specs.Prelude.{ℕ, Bool}
+use Rattle.std.specs.Prelude.{◌≡◌, ℕ, Bool, ◌⊎◌, Result, Ok, Err, IsErr}
 use Rattle.lbk_feed.specs.Devices.{Reads}
 use Rattle.lbk_feed.specs.declared.adapter.Device.{Device}
 
@@ -18,3 +18,13 @@ failures_of d = d.tally.failures
 -- whether a read with room returned no byte
 unfoldable pub has_met_end : {D : Type 0} → Device D → Bool
 has_met_end d = d.tally.ended
+
+-- the result of a read, for the outcome of the inner one: its count, and a failure for each error
+abbrev pub Passes : {E F : Type 0} → Result ℕ E → Result ℕ F → Type 0
+Passes (Ok n) result = result ≡ Ok n
+Passes (Err _) result = IsErr result
+
+-- the result of a write, likewise; a count of 0 may also be a failure
+abbrev pub PassesSome : {E F : Type 0} → Result ℕ E → Result ℕ F → Type 0
+PassesSome (Ok n) result = (result ≡ Ok n) ⊎ ((n ≡ 0) × IsErr result)
+PassesSome (Err _) result = IsErr result

@@ -1,16 +1,19 @@
 //! A source over a reader of std, and a sink over a writer of std.
 #![tactic(auto, unfolding(crate::specs::Device::inner_of, crate::specs::Device::reads_of, crate::specs::Device::failures_of, crate::specs::Device::has_met_end))]
 
-ghost use Rattle.std.specs.Prelude.{◌≡◌, false};
-ghost use Rattle.lbk_feed.specs.Device.{inner_of, reads_of, failures_of, has_met_end};
+ghost use Rattle.std.specs.Prelude.{◌≡◌, ℕ, ◌<◌, ◌≤◌, false, length, Result, IfOk};
+ghost use Rattle.std.specs.declared.io.Error.{Error};
+ghost use Rattle.lbk_feed.specs.Devices.{count_up, given_by, failures_after, ended_after, Takes, Puts};
+ghost use Rattle.lbk_feed.specs.Device.{inner_of, reads_of, failures_of, has_met_end, Passes, PassesSome};
 
+use super::one_call::{OneRead, OneWrite};
 use super::tally::Tally;
 use super::traits::{Failed, Sink, Source};
-use std::io::{Read, Write};
 
 /// A source over any reader of std, or a sink over any writer of std.
 ///
-/// An interrupted call fails. A write that accepts no byte of a buffer with bytes also fails.
+/// Each read or write is one of the inner reader or writer. An interrupted one fails. A write that accepts no byte of a
+/// buffer with bytes also fails.
 ///
 /// ```rust
 /// let mut room = [0; 5];
@@ -45,7 +48,7 @@ impl<D> Device<D> {
     }
 }
 
-impl<R: Read> Source for Device<R> {
+impl<R: OneRead> Source for Device<R> {
     ghost unread = { λ d. R.remaining (inner_of d) };
 
     ghost reads_made = { λ d. reads_of d };
@@ -54,8 +57,17 @@ impl<R: Read> Source for Device<R> {
 
     ghost has_ended = { λ d. has_met_end d };
 
-    fn read(&mut self, buf: &mut [u8]) -> Result<usize, Failed> {
-        let outcome = self.inner.read(buf).map_err(|_| Failed);
+    fn read(&mut self, buf: &mut [u8]) -> Result<usize, Failed>
+        ensures within { IfOk result (λ n. n ≤ length buf.old) }
+        ensures bytes { Takes (R.remaining (inner_of self.old)) (R.remaining (inner_of self.new)) result buf.new }
+        ensures reads { (reads_of self.new).count ≡ count_up (reads_of self.old).count }
+        ensures gave { (reads_of self.new).gave ≡ given_by result }
+        ensures failures { failures_of self.new ≡ failures_after (failures_of self.old) result }
+        ensures ended { has_met_end self.new ≡ ended_after (has_met_end self.old) result (length buf.old) }
+        ensures one_call { (outcome : Result ℕ Error)
+            × R.is_one_read (inner_of self.old) outcome (inner_of self.new) × Passes outcome result }
+    {
+        let outcome = self.inner.read_once(buf).map_err(|_| Failed);
         self.tally.note_read(&outcome, buf.len());
         outcome
     }
@@ -73,13 +85,20 @@ impl<R: Read> Source for Device<R> {
     }
 }
 
-impl<W: Write> Sink for Device<W> {
+impl<W: OneWrite> Sink for Device<W> {
     ghost written = { λ d. W.contents (inner_of d) };
 
     ghost failure_count = { λ d. failures_of d };
 
-    fn write(&mut self, bytes: &[u8]) -> Result<usize, Failed> {
-        let outcome = match self.inner.write(bytes) {
+    fn write(&mut self, bytes: &[u8]) -> Result<usize, Failed>
+        ensures within { IfOk result (λ n. n ≤ length bytes.now) }
+        ensures some { 0 < length bytes.now → IfOk result (λ n. 0 < n) }
+        ensures bytes { Puts (W.contents (inner_of self.old)) (W.contents (inner_of self.new)) result bytes.now }
+        ensures failures { failures_of self.new ≡ failures_after (failures_of self.old) result }
+        ensures one_call { (outcome : Result ℕ Error)
+            × W.is_one_write (inner_of self.old) outcome (inner_of self.new) × PassesSome outcome result }
+    {
+        let outcome = match self.inner.write_once(bytes) {
             Ok(0) if !bytes.is_empty() => Err(Failed),
             Ok(n) => Ok(n),
             Err(_) => Err(Failed),

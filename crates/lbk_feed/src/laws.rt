@@ -1,10 +1,16 @@
-//! Laws about the definitions of well-formed bytes. Each is the contract of a function with an empty body.
+//! Laws about the definitions of well-formed bytes, each the contract of a function with an empty body, and one about the
+//! reads of a device.
 
-ghost use Rattle.std.specs.Prelude.{◌≡◌, ℕ, Bool, List, ◌++◌, IsUtf8};
+ghost use Rattle.std.specs.Prelude.{◌≡◌, ℕ, Bool, List, Result, ◌++◌, IsErr, IsUtf8};
+ghost use Rattle.std.specs.declared.io.Error.{Error};
+ghost use Rattle.lbk_feed.specs.Device.{inner_of};
 ghost use Rattle.lbk_feed.specs.Text.{greatest_limit, longest_text, well_formed_prefix, IsLongestText, IsNotUtf8At};
 ghost use Rattle.lbk_feed.specs.Text.{IsTooLong};
 
+use crate::adapter::Device;
 use crate::limits::{LIMIT_MAX, TEXT_MAX};
+use crate::one_call::OneRead;
+use crate::traits::{Failed, Source};
 
 /// `TEXT_MAX` is the size limit of a text in the definitions.
 pub fn text_max()
@@ -30,3 +36,14 @@ pub fn prefix_behind_a_text()
 pub fn faults_exclude_each_other()
     ensures { (bs : List ℕ) (ended : Bool) (at : ℕ) → IsNotUtf8At bs ended at → ¬ (IsTooLong bs) }
 {}
+
+/// A read of a device fails where one read of its reader can only fail, as an interrupted one does.
+pub fn interrupted_read_fails<R: OneRead>(
+    device: &mut Device<R>,
+    buf: &mut [u8],
+) -> Result<usize, Failed>
+    ensures { ((outcome : Result ℕ Error) (after : R) → R.is_one_read (inner_of device.old) outcome after
+        → IsErr outcome) → IsErr result }
+{
+    device.read(buf)
+}

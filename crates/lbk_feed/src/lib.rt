@@ -10,6 +10,7 @@ mod judge;
 pub mod laws;
 mod limits;
 pub mod noted;
+pub mod one_call;
 mod pieces;
 mod tally;
 mod traits;

@@ -2,8 +2,11 @@
 #![tactic(auto, unfolding(crate::specs::Within::within_noting))]
 
 ghost use Rattle.std.specs.Prelude.{◌≡◌};
+ghost use Rattle.std.specs.Io.{ReadsAtMost, WritesAtMost};
+ghost use Rattle.std.specs.Io.KnownBytes.{ReadConsumes, WriteAppends};
 ghost use Rattle.lbk_feed.specs.Within.{within_noting};
 
+use crate::one_call::{OneRead, OneWrite};
 use std::cell::Cell;
 use std::io::{self, ErrorKind, Read, Write};
 
@@ -45,7 +48,8 @@ impl Notes {
     }
 }
 
-/// A reader or writer of std that records its errors. It passes exactly the bytes of the inner one.
+/// A reader or writer of std that records its errors. Each read or write is one of the inner one, with its
+/// bytes.
 #[derive(Drop)]
 pub struct Noting<'a, D> {
     inner: D,
@@ -61,22 +65,32 @@ impl<'a, D> Noting<'a, D> {
     }
 }
 
-impl<'a, R: Read> Read for Noting<'a, R> {
+impl<'a, R: OneRead> Read for Noting<'a, R> {
     ghost remaining = { λ noting. R.remaining (within_noting noting) };
 
-    fn read(&mut self, buf: &mut [u8]) -> io::Result<usize> {
-        self.notes.noted(self.inner.read(buf))
+    fn read(&mut self, buf: &mut [u8]) -> io::Result<usize>
+        ensures bound { ReadsAtMost result buf.new }
+        ensures bytes { ReadConsumes (R.remaining (within_noting self.old)) (R.remaining (within_noting self.new))
+            result buf.new }
+        ensures one_call { R.is_one_read (within_noting self.old) result (within_noting self.new) }
+    {
+        self.notes.noted(self.inner.read_once(buf))
     }
 }
 
-impl<'a, W: Write> Write for Noting<'a, W> {
+impl<'a, W: OneWrite> Write for Noting<'a, W> {
     ghost contents = { λ noting. W.contents (within_noting noting) };
 
-    fn write(&mut self, buf: &[u8]) -> io::Result<usize> {
-        self.notes.noted(self.inner.write(buf))
+    fn write(&mut self, buf: &[u8]) -> io::Result<usize>
+        ensures bound { WritesAtMost result buf.now }
+        ensures bytes { WriteAppends (W.contents (within_noting self.old)) (W.contents (within_noting self.new))
+            result buf.now }
+        ensures one_call { W.is_one_write (within_noting self.old) result (within_noting self.new) }
+    {
+        self.notes.noted(self.inner.write_once(buf))
     }
 
     fn flush(&mut self) -> io::Result<()> {
-        self.notes.noted(self.inner.flush())
+        self.notes.noted(self.inner.flush_once())
     }
 }
