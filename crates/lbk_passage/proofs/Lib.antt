@@ -3,6 +3,7 @@ pub mod Booleans
 pub mod Cutting
 pub mod Letters
 pub mod PieceLemmas
+pub mod CountLemmas
 pub mod Marking
 pub mod Reading
 pub mod Settling

@@ -1,16 +1,25 @@
 -- The pieces from a byte on.
-use Rattle.std.proofs.Common.{◌≡◌, ℕ, ◌+◌, ◌-◌, ◌<◌, ◌≤◌, Bool, List, [], ◌∷◌, drop, length, map, slice_index_or, take, ap, subst, ◌∙◌, arith}
-use Rattle.std.specs.Str.{IsUtf8, encode_utf8_all}
+use Rattle.std.proofs.Common.{◌≡◌, ℕ, zero, suc, ◌+◌, ◌*◌, ◌-◌, ◌^◌, Result, Ok, Err, max, vec_capacity, ◌<◌, ◌≤◌, ⊎_elim, bit_and, count_ones, w64, Bool, List, [], ◌∷◌, ◌++◌, Vec, append_assoc, drop, length, map, slice_index_or, take, vec_len, refl, sym, ap, subst, ◌∙◌, arith}
+use Rattle.std.specs.Str.{IsCharBoundary, IsUtf8, encode_utf8_all}
+use Rattle.std.specs.Int.{trailing_zeros}
+use Rattle.std.proofs.lemmas.Bool.{cases_lt}
+use Rattle.std.proofs.lemmas.Nat.{and_le_r, ones_le_self}
 use Rattle.std.proofs.Math.ListN.{drop_of_length-le}
 use Rattle.std.proofs.lemmas.List.{drop_more, length-drop, length-take-le}
-use Rattle.std.proofs.lemmas.Str.{chars-nil}
+use Rattle.std.proofs.lemmas.Str.{IsCharBoundary-from_drop, chars-nil}
 use Rattle.unicode_segmentation.specs.Segments.{cut, segments}
 use Rattle.unicode_segmentation.specs.Word.{is_word_break, word_bounds}
 use Rattle.lbk_rules.specs.declared.Cell.{Cell}
 use Rattle.lbk_words.specs.Places.{IsFirstPiece}
 use Rattle.lbk_words.proofs.WellFormedLemmas.{first-bound}
-use Rattle.lbk_words.specs.Ends.{AreParts}
-use Rattle.lbk_passage.specs.Pieces.{is_word, pieces_from, pieces_on}
+use Rattle.lbk_masks.specs.Bits.{AreCleared, IsLowest}
+use Rattle.lbk_masks.proofs.KeptLemmas.{are-cleared, lowest}
+use Rattle.lbk_passage.proofs.CountLemmas.{one-fewer}
+use Rattle.lbk_passage.proofs.RoomLemmas.{Grows-made, Grows-none}
+use Rattle.lbk_words.specs.Ends.{AreEnds, AreParts, AreTold}
+use Rattle.lbk_words.proofs.EndLemmas.{IsEnd, next-end}
+use Rattle.lbk_passage.specs.declared.passage.Piece.{Piece}
+use Rattle.lbk_passage.specs.Pieces.{CutsOn, IsCutOn, is_word, pieces_from, pieces_on}
 
 -- the first of them, and those behind it
 pub pieces-step : (cell : ℕ → Cell) (text : List ℕ) (start end : ℕ) (word : Bool) → IsUtf8 (drop start text) → IsFirstPiece text start end word
@@ -42,3 +51,105 @@ parts-few cell text from to (end ∷ ends) utf8 parts =
 pub part-at : (text : List ℕ) (from to i : ℕ) (ends : List ℕ) → i < length ends → AreParts text from to (drop i ends)
     → ((is_word : Bool) × IsFirstPiece text from (slice_index_or ends i 0) is_word) × AreParts text (slice_index_or ends i 0) to (drop (i + 1) ends)
 part-at text from to i ends inside parts = subst (AreParts text from to) (drop_more ends i 0 inside) parts
+
+module _ {Z : Type 0} (cell : ℕ → Cell) (text : List ℕ) where
+  -- the next piece is put behind those of a list
+  pub cut-one : (start end : ℕ) (word known : Bool) (old new : Vec Piece Z) → IsUtf8 (drop start text) → IsFirstPiece text start end word
+      → known ≡ is_word cell (take (end - start) (drop start text))
+      → new.items ≡ old.items ++ record { start = start; end = end; word = known } ∷ [] → vec_len new ≡ vec_len old + 1
+      → IsCutOn cell text start old new end
+  cut-one start end word known old new utf8 first told items len =
+      let others = pieces_on cell text end in
+      let step = pieces-step cell text start end word utf8 first in
+      let piece : Piece = record { start = start; end = end; word = known } in
+      let ahead : piece ∷ others ≡ pieces_on cell text start = ap (λ w. record { start = start; end = end; word = w } ∷ others) told ∙ sym step in
+      record {
+        cut = ap (λ all. all ++ others) items ∙ append_assoc old.items (piece ∷ []) others ∙ ap (λ rest. old.items ++ rest) ahead;
+        count = omega (arith, len, ap length step);
+        utf8 = (first-bound text start end word utf8 first).utf8;
+        within = first.within;
+      }
+
+  -- more of them are put behind some
+  pub cut-on : (from mid to : ℕ) (old some new : Vec Piece Z) → IsCutOn cell text from old some mid → IsCutOn cell text mid some new to
+      → IsCutOn cell text from old new to
+  cut-on from mid to old some new before after = record {
+    cut = after.cut ∙ before.cut;
+    count = after.count ∙ before.count;
+    utf8 = after.utf8;
+    within = after.within;
+  }
+
+  -- behind those of a list with the same items as another they are put behind those of that one, too
+  pub cut-from : (start : ℕ) (old made : Vec Piece Z) (next : ℕ) (new : Vec Piece Z) → made.items ≡ old.items → vec_len made ≡ vec_len old
+      → IsCutOn cell text start made new next → IsCutOn cell text start old new next
+  cut-from start old made next new items len is = record {
+    cut = is.cut ∙ ap (λ all. all ++ pieces_on cell text start) items;
+    count = omega (arith, len, is.count);
+    utf8 = is.utf8;
+    within = is.within;
+  }
+
+-- where a piece of well-formed text ends, a scalar begins
+pub piece-ends : (text : List ℕ) (start end : ℕ) (word : Bool) → IsUtf8 (drop start text) → IsFirstPiece text start end word → IsCharBoundary text end
+piece-ends text start end word utf8 first = IsCharBoundary-from_drop text end first.within (first-bound text start end word utf8 first).utf8
+
+-- the ends of the pieces from the byte `start` on that bits tell, the lowest for the byte `base`
+pub record AreNext (text : List ℕ) (base start left : ℕ) : Type 0 where
+  pub at : ℕ
+  pub stop : ℕ
+  pub place : start ≡ base + at
+  pub within : base + stop ≤ length text
+  pub ends : AreEnds (drop base text) at stop left
+
+pub all-next : (text : List ℕ) (base ends : ℕ) → AreTold text base ends → AreNext text base base ends
+all-next text base ends told = record { at = 0; stop = told.stop; place = omega arith; within = told.within; ends = told.ends }
+
+-- the next of them, and those behind it
+pub record IsNext (text : List ℕ) (base start left end next : ℕ) : Type 0 where
+  pub piece : (is_word : Bool) × IsFirstPiece text start (base + end) is_word
+  pub rest : AreNext text base (base + end) next
+  pub fewer : count_ones left ≡ count_ones next + 1
+
+pub next-told : (text : List ℕ) (base start left end next : ℕ) → AreNext text base start left → left < 2 ^ 64 → 0 < left → end < 64 → IsLowest left end
+    → AreCleared left end next → IsNext text base start left end next
+next-told text base start left end next are fits some few lowest cleared =
+    let found : IsEnd text base are.at are.stop end next = next-end text base are.at are.stop left end next are.ends are.within some few lowest cleared in
+    record {
+      piece = (found.part.0, subst (λ from. IsFirstPiece text from (base + end) found.part.0) (sym are.place) found.part.1);
+      rest = record { at = end; stop = are.stop; place = refl; within = are.within; ends = found.rest };
+      fewer = (let upto = cleared.fewer in one-fewer left end next fits (omega (arith, upto, fits)) some few lowest cleared);
+    }
+
+-- there are as many pieces as bits tell ends, or more
+pub told-few : (k : ℕ) (cell : ℕ → Cell) (text : List ℕ) (base start left : ℕ) → left < 2 ^ 64 → count_ones left ≤ k → IsUtf8 (drop start text)
+    → AreNext text base start left → count_ones left ≤ length (pieces_on cell text start)
+told-few zero cell text base start left fits most utf8 are = omega (arith, most)
+told-few (suc k) cell text base start left fits most utf8 are = ⊎_elim
+    (λ (some : 0 < left).
+    let end : ℕ = bit_and (trailing_zeros w64 left) 63 in
+    let next : ℕ = bit_and left (left - 1) in
+    let few : end < 64 = omega (arith, and_le_r (trailing_zeros w64 left) 63) in
+    let low = lowest left fits in
+    let cleared = are-cleared left end some few low in
+    let found = next-told text base start left end next are fits some few low cleared in
+    let one = found.fewer in
+    let piece = found.piece.1 in
+    let behind = told-few k cell text base (base + end) next (omega (arith, cleared.fewer, fits)) (omega (arith, one, most)) (first-bound text start (base + end) found.piece.0 utf8 piece).utf8 found.rest in
+    omega (arith, one, behind, ap length (pieces-step cell text start (base + end) found.piece.0 utf8 piece)))
+    (λ (none : left ≤ 0). omega (arith, none, ones_le_self left))
+    (cases_lt 0 left)
+
+module _ {Z E : Type 0} (cell : ℕ → Cell) (text : List ℕ) (start : ℕ) (old made : Vec Piece Z) where
+  -- they were put into room that was made for them
+  pub cuts-made : (next count : ℕ) (new : Vec Piece Z) (r : Result ℕ E) → r ≡ Ok next → IsCutOn cell text start old new next → vec_capacity old ≤ vec_capacity made
+      → vec_capacity made ≤ max (vec_capacity old) (2 * (vec_len old + count)) → vec_capacity new ≡ vec_capacity made → vec_len new ≡ vec_len old + count
+      → CutsOn cell text start old new r
+  cuts-made next count new r is cut kept most room len =
+      subst (CutsOn cell text start old new) (sym is) (record { cut = cut; grows = Grows-made old made new count kept most room len; full = tt })
+
+  -- there was no room for as many as there are, or fewer
+  pub cuts-refused : (count : ℕ) (e : E) (r : Result ℕ E) → r ≡ Err e → vec_capacity made ≡ vec_capacity old → vec_len made ≡ vec_len old
+      → vec_capacity old < vec_len old + count → count ≤ length (pieces_on cell text start) → CutsOn cell text start old made r
+  cuts-refused count e r is room len short few =
+      subst (CutsOn cell text start old made) (sym is) (record { cut = tt; grows = Grows-none old made room len; full = omega (arith, short, few) })

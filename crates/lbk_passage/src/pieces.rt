@@ -1,16 +1,17 @@
 //! The pieces of a passage.
 
-ghost use Rattle.std.specs.Prelude.{◌≡◌, ℕ, ◌+◌, ◌*◌, ◌<◌, ◌≤◌, ◌^◌, ◌++◌, drop, length, max, vec_capacity, vec_len};
+ghost use Rattle.std.specs.Prelude.{◌≡◌, ℕ, ◌+◌, ◌*◌, ◌<◌, ◌≤◌, ◌^◌, Bool, drop, length, max, vec_capacity, vec_len};
 ghost use Rattle.std.specs.Prelude.{IfOk, IsUtf8, OnErr, OnOk};
-ghost use Rattle.lbk_passage.specs.Pieces.{is_word, pieces_of, pieces_on};
-ghost use Rattle.lbk_passage.specs.Room.{Grows};
-ghost use Rattle.lbk_words.specs.Ends.{AreParts};
+ghost use Rattle.lbk_passage.specs.Pieces.{CutsOn, IsCutOn, is_word, pieces_of};
+ghost use Rattle.lbk_words.specs.Ends.{AreParts, AreTold};
+ghost use Rattle.lbk_words.specs.Places.{IsFirstPiece};
 
 use crate::known::KnownCells;
 use crate::passage::Piece;
 use crate::room::make_room;
+use lbk_masks::{first_set, without_first};
 use lbk_rules::CellSource;
-use lbk_words::fill_ends;
+use lbk_words::{ends_from, fill_ends};
 use std::alloc::AllocError;
 
 /// How many ends of pieces are found at a time.
@@ -38,15 +39,74 @@ pub fn cut_words<C: CellSource>(
     let bytes = text.as_bytes();
     let mut start = 0;
     while start < bytes.len() {
-        let count = fill_ends(bytes, start, block);
-        start = cut_block(known, text, start, &block[..count], pieces)?;
+        start = cut_next(known, text, start, block, pieces)?;
     }
     Ok(())
 }
 
+/// Puts the next pieces after those in the list, the first from `start` on, and returns where the others begin.
+#[inline(always)]
+fn cut_next<C: CellSource>(
+    known: &KnownCells<'_, C>,
+    text: &str,
+    start: usize,
+    block: &mut [usize; ENDS],
+    pieces: &mut Vec<Piece>,
+) -> Result<usize, AllocError>
+    requires few { length text.now < 2 ^ 32 }
+    requires within { start < length text.now }
+    requires utf8 { IsUtf8 (drop start text.now) }
+    ensures cuts { CutsOn (C.cell_of known.now.cells.now) text.now start pieces.old pieces.new result }
+    ensures onward { IfOk result (λ next. start < next) }
+{
+    let bytes = text.as_bytes();
+    // Most lines end with a piece of one byte.
+    if bytes.len() - start == 1 && bytes[start] < 0x80 {
+        make_room(pieces, 1)?;
+        put_piece(known, text, start, start + 1, pieces);
+        return Ok(start + 1);
+    }
+    let ends = ends_from(bytes, start);
+    if ends == 0 {
+        let count = fill_ends(bytes, start, block);
+        return cut_block(known, text, start, &block[..count], pieces);
+    }
+    cut_told(known, text, start, ends, pieces)
+}
+
+/// Puts the pieces whose ends bits tell after those in the list, the first from `base` on, and returns where the next
+/// begins. The lowest bit stands for the byte `base`.
+#[inline(always)]
+fn cut_told<C: CellSource>(
+    known: &KnownCells<'_, C>,
+    text: &str,
+    base: usize,
+    ends: u64,
+    pieces: &mut Vec<Piece>,
+) -> Result<usize, AllocError>
+    requires few { length text.now < 2 ^ 32 }
+    requires within { base ≤ length text.now }
+    requires utf8 { IsUtf8 (drop base text.now) }
+    requires some { 0 < ends }
+    requires told { AreTold text.now base ends }
+    ensures cuts { CutsOn (C.cell_of known.now.cells.now) text.now base pieces.old pieces.new result }
+    ensures onward { IfOk result (λ next. base < next) }
+{
+    make_room(pieces, ends.count_ones() as usize)?;
+    let mut left = ends;
+    let mut start = base;
+    while 0 < left {
+        let end = base + first_set(left);
+        left = without_first(left);
+        put_piece(known, text, start, end, pieces);
+        start = end;
+    }
+    Ok(start)
+}
+
 /// Puts the pieces that end at these bytes after those in the list, the first from `start` on, and returns where the
-/// next begins. It stands apart, so that all that its loop has stays in registers.
-#[inline(never)]
+/// next begins.
+#[inline(always)]
 fn cut_block<C: CellSource>(
     known: &KnownCells<'_, C>,
     text: &str,
@@ -58,30 +118,41 @@ fn cut_block<C: CellSource>(
     requires within { start ≤ length text.now }
     requires utf8 { IsUtf8 (drop start text.now) }
     requires parts { (to : ℕ) × AreParts text.now start to ends.now }
-    ensures cut { IfOk result (λ next. pieces.new.items ++ pieces_on (C.cell_of known.now.cells.now) text.now next
-        ≡ pieces.old.items ++ pieces_on (C.cell_of known.now.cells.now) text.now start) }
-    ensures count { IfOk result (λ next. vec_len pieces.new
-        + length (pieces_on (C.cell_of known.now.cells.now) text.now next)
-        ≡ vec_len pieces.old + length (pieces_on (C.cell_of known.now.cells.now) text.now start)) }
-    ensures utf8 { IfOk result (λ next. IsUtf8 (drop next text.now)) }
-    ensures within { IfOk result (λ next. next ≤ length text.now) }
+    ensures cuts { CutsOn (C.cell_of known.now.cells.now) text.now start pieces.old pieces.new result }
     ensures onward { IfOk result (λ next. start + length ends.now ≤ next) }
-    ensures grows { Grows pieces.old pieces.new }
-    ensures full { OnErr result (vec_capacity pieces.old
-        < vec_len pieces.old + length (pieces_on (C.cell_of known.now.cells.now) text.now start)) }
 {
     make_room(pieces, ends.len())?;
     let mut start = start;
     for end in ends {
-        let end = *end;
-        pieces.push_reserved(Piece {
-            start: start as u32,
-            end: end as u32,
-            word: is_word(known, &text[start..end]),
-        });
-        start = end;
+        put_piece(known, text, start, *end, pieces);
+        start = *end;
     }
     Ok(start)
+}
+
+/// Puts the piece between two bytes after those in the list.
+#[inline(always)]
+fn put_piece<C: CellSource>(
+    known: &KnownCells<'_, C>,
+    text: &str,
+    start: usize,
+    end: usize,
+    pieces: &mut Vec<Piece>,
+)
+    requires few { length text.now < 2 ^ 32 }
+    requires utf8 { IsUtf8 (drop start text.now) }
+    requires within { (start < end) × (end ≤ length text.now) }
+    requires piece { (is_word : Bool) × IsFirstPiece text.now start end is_word }
+    requires room { vec_len pieces.old < vec_capacity pieces.old }
+    ensures cut { IsCutOn (C.cell_of known.now.cells.now) text.now start pieces.old pieces.new end }
+    ensures room { vec_capacity pieces.new ≡ vec_capacity pieces.old }
+    ensures len { vec_len pieces.new ≡ vec_len pieces.old + 1 }
+{
+    pieces.push_reserved(Piece {
+        start: start as u32,
+        end: end as u32,
+        word: is_word(known, &text[start..end]),
+    });
 }
 
 /// Whether a piece holds a letter or a number. Its first byte tells where it is one, or is all of the piece. One

@@ -102,7 +102,7 @@ fn cut_alone<C: CellSource>(
 
 /// Puts the segments that end at these breaks after those in the list, the first from `start` on, and returns where
 /// the next begins.
-#[inline(never)]
+#[inline(always)]
 fn cut_block(block: &[RawBreak], start: u32, segments: &mut Vec<Segment>) -> Result<u32, AllocError>
     requires breaks { AreBreaks block.now (length block.now) }
     requires few { All (λ one. one.at < 2 ^ 32) block.now }

@@ -1,19 +1,17 @@
 -- Ends of parts, one behind the other in a block.
-use Rattle.std.proofs.Common.{◌≡◌, ℕ, zero, suc, ◌+◌, ◌<◌, Bool, true, false, List, [], ◌∷◌, ◌++◌, length, slice_index, slice_index_or, take, refl, sym, ap, subst, ◌∙◌, arith}
+use Rattle.std.proofs.Common.{◌≡◌, ℕ, ◌+◌, ◌<◌, Bool, true, false, List, [], ◌∷◌, ◌++◌, length, slice_index, take, refl, sym, ap, subst, ◌∙◌, arith}
 use Rattle.std.specs.Int.{from_bool}
 use Rattle.std.proofs.Math.ListN.{set}
 use Rattle.std.proofs.lemmas.List.{take-set, take_more_set}
 use Rattle.ucd_breaks.specs.WordBreak.{word_break}
 use Rattle.unicode_segmentation.specs.Word.{significant, value_at}
-use Rattle.lbk_masks.specs.Bits.{AreCleared, IsLowest}
 use Rattle.lbk_words.specs.declared.steps.Step.{Step}
 use Rattle.lbk_words.specs.Contexts.{context_after, context_of}
 use Rattle.lbk_words.specs.Letters.{is_letter_or_number}
-use Rattle.lbk_words.specs.Ends.{AreLeft, AreParts, AreTold, IsReading}
+use Rattle.lbk_words.specs.Ends.{AreParts, IsReading}
 use Rattle.lbk_words.specs.Places.{IsFirstPiece, IsReadAt}
 use Rattle.lbk_words.specs.Rows.{IsStep, row_word}
 use Rattle.lbk_words.specs.Words.{scalars_on}
-use Rattle.lbk_words.proofs.EndLemmas.{IsEnd, next-end}
 use Rattle.lbk_words.proofs.ReadLemmas.{one-read}
 use Rattle.lbk_words.proofs.WalkLemmas.{walk-end, walk-start}
 use Rattle.lbk_words.proofs.StepLemmas.{row-begins, row-ends, row-goes-on}
@@ -29,30 +27,6 @@ pub parts-written : (text : List ℕ) (from mid end count : ℕ) (is_word : Bool
     → IsFirstPiece text mid end is_word → AreParts text from end (take (count + 1) (set out count end))
 parts-written text from mid end count is_word out parts some first =
     subst (AreParts text from end) (sym (take_more_set out count end some)) (parts-more text from mid end (take count out) is_word parts first)
-
--- no bit was taken yet
-pub none-taken : (text : List ℕ) (from base ends count : ℕ) (out : List ℕ) → AreTold text base ends → AreParts text from base (take count out)
-    → AreLeft text from base ends count out
-none-taken text from base ends count out told parts = record {
-  at = 0;
-  stop = told.stop;
-  within = told.within;
-  parts = subst (λ to. AreParts text from to (take count out)) (let e : base ≡ base + 0 = omega arith in e) parts;
-  ends = told.ends;
-}
-
--- the lowest bit is taken
-pub bit-taken : (text : List ℕ) (from base left count end next : ℕ) (out : List ℕ) → AreLeft text from base left count out → 0 < left → count < length out
-    → end < 64 → IsLowest left end → AreCleared left end next → AreLeft text from base next (count + 1) (set out count (base + end))
-bit-taken text from base left count end next out are some room few lowest cleared =
-    let found : IsEnd text base are.at are.stop end next = next-end text base are.at are.stop left end next are.ends are.within some few lowest cleared in
-    record {
-      at = end;
-      stop = are.stop;
-      within = are.within;
-      parts = parts-written text from (base + are.at) (base + end) count found.part.0 out are.parts room found.part.1;
-      ends = found.rest;
-    }
 
 -- one scalar more is read
 reading-by : (text : List ℕ) (from at row count c end : ℕ) (out : List ℕ) (step : Step) (cuts : Bool) → IsReading text from at row count out → count < length out
@@ -83,11 +57,3 @@ lone-part text at size low =
       is_letter_or_number c,
       walk-end text at (at + 1) (context_after (context_of []) (word_break c)) (is_letter_or_number c) (walk-start text at c (at + 1) read) (omega arith),
     )
-
--- the last of some ends
-pub parts-last : (text : List ℕ) (from to n : ℕ) (ends : List ℕ) → AreParts text from to ends → length ends ≡ n + 1 → slice_index_or ends n 0 ≡ to
-parts-last text from to n [] parts size = absurd (omega (arith, size))
-parts-last text from to zero (e ∷ []) parts size = parts.1
-parts-last text from to (suc n) (e ∷ []) parts size = absurd (omega (arith, size))
-parts-last text from to zero (e ∷ next ∷ es) parts size = absurd (omega (arith, size))
-parts-last text from to (suc n) (e ∷ next ∷ es) parts size = parts-last text e to n (next ∷ es) parts.1 (omega (arith, size))

@@ -35,21 +35,6 @@ abbrev pub AreParts : List ℕ → ℕ → ℕ → List ℕ → Type 0
 AreParts text from to [] = from ≡ to
 AreParts text from to (end ∷ ends) = ((is_word : Bool) × IsFirstPiece text from end is_word) × AreParts text end to ends
 
--- the next ends are put behind those in the front of a block, the first for the boundary `start`
-pub record PutsOn (text : List ℕ) (start count : ℕ) (old : List ℕ) (result : ℕ) (new : List ℕ) : Type 0 where
-  pub more : count < result
-  pub within : result ≤ length old
-  pub parts : (from : ℕ) → AreParts text from start (take count old)
-      → (to : ℕ) × AreParts text from to (take result new)
-
--- ends from the boundary `from` on are in the front of a block, up to the byte `at` behind `base`, and bits tell others
-pub record AreLeft (text : List ℕ) (from base left count : ℕ) (out : List ℕ) : Type 0 where
-  pub at : ℕ
-  pub stop : ℕ
-  pub within : base + stop ≤ length text
-  pub parts : AreParts text from (base + at) (take count out)
-  pub ends : AreEnds (drop base text) at stop left
-
 -- the parts that ended are in the front of a block, and the scalars behind them, up to the byte `at`, are of one part
 pub record IsReading (text : List ℕ) (from at row count : ℕ) (out : List ℕ) : Type 0 where
   pub begin : ℕ

@@ -1,13 +1,13 @@
 //! Where the parts of a text end: its cutting at word boundaries (UAX #29, section 4).
 
-ghost use Rattle.std.specs.Prelude.{◌≡◌, ℕ, ◌+◌, ◌-◌, ◌<◌, ◌≤◌, ◌^◌, List, get_or, length, take};
+ghost use Rattle.std.specs.Prelude.{◌≡◌, ℕ, ◌-◌, ◌<◌, ◌≤◌, get_or, length, take};
 ghost use Rattle.lbk_masks.specs.Sets.{is_set};
-ghost use Rattle.lbk_words.specs.Ends.{AreEnds, AreParts, AreTold, PutsOn, is_pair};
+ghost use Rattle.lbk_words.specs.Ends.{AreEnds, AreParts, AreTold, is_pair};
 
 use crate::blocks::{BLOCK, marks_of, wides_of};
 use crate::scalars::scalar_at;
 use crate::steps::{first_row, next_step};
-use lbk_masks::{HalfSets, first_set, kept_below, kept_from, without_first};
+use lbk_masks::{HalfSets, first_set, kept_below, kept_from};
 
 /// Fewer bytes than this are left to steps.
 const FEW: usize = 16;
@@ -27,50 +27,21 @@ const FEEDS: u8 = 2;
 
 const SPACES: u8 = 4;
 
-/// Puts where the next parts of a text end, from a boundary on, into the front of a block, as many as it holds or all,
-/// and returns how many.
+/// Puts where the next parts of a text end, from a boundary on, into the front of a block, scalar by scalar: until the
+/// block is full, the text ends, or bits are likely to tell the next end. Returns how many.
+#[inline(never)]
 pub fn fill_ends(text: &[u8], start: usize, out: &mut [usize]) -> usize
     ensures some { start < length text.now → 0 < length out.old → 0 < result }
     ensures within { result ≤ length out.old }
     ensures parts { (to : ℕ) × AreParts text.now start to (take result out.new) }
 {
-    let mut count = 0;
-    let mut at = start;
-    'rounds: while at < text.len() && count < out.len() {
-        count = fill_further(text, at, count, out);
-        at = out[count - 1];
+    if text.len() <= start || out.len() == 0 {
+        return 0;
     }
-    count
-}
-
-/// Puts where the next parts end after the ends in the front of the block, and returns how many ends these are now.
-#[inline(always)]
-fn fill_further(text: &[u8], start: usize, count: usize, out: &mut [usize]) -> usize
-    requires { (start < length text.now) × (count < length out.old) }
-    ensures { PutsOn text.now start count out.old result out.new }
-{
-    // Most lines end with a part of one byte.
-    if text.len() - start == 1 && text[start] < 0x80 {
-        out[count] = start + 1;
-        return count + 1;
-    }
-    let ends = ends_from(text, start);
-    if ends == 0 {
-        return put_by_steps(text, start, count, out);
-    }
-    put_ends(start, ends, count, out)
-}
-
-/// The same scalar by scalar, until the block is full, the text ends, or bits are likely to tell the next end.
-#[inline(never)]
-fn put_by_steps(text: &[u8], start: usize, count: usize, out: &mut [usize]) -> usize
-    requires { (start < length text.now) × (count < length out.old) }
-    ensures { PutsOn text.now start count out.old result out.new }
-{
     let first = scalar_at(text, start);
     let mut at = first.end;
     let mut row = first_row(first);
-    let mut count = count;
+    let mut count = 0;
     'scalars: while at < text.len() {
         let next = next_step(row, text, at);
         // Written whether the part ends there or not, so that no branch depends on it.
@@ -90,31 +61,11 @@ fn put_by_steps(text: &[u8], start: usize, count: usize, out: &mut [usize]) -> u
     count + 1
 }
 
-/// Puts the bytes that bits stand for, the first for the byte `base`, after the ends in the front of the block, as many
-/// as it holds, and returns how many ends these are now.
-#[inline(always)]
-fn put_ends(base: usize, ends: u64, count: usize, out: &mut [usize]) -> usize
-    requires base { base + 64 < 2 ^ 64 }
-    requires some { 0 < ends }
-    requires room { count < length out.old }
-    ensures more { count < result }
-    ensures within { result ≤ length out.old }
-    ensures parts { (text : List ℕ) (from : ℕ) → AreTold text base ends → AreParts text from base (take count out.old)
-        → (to : ℕ) × AreParts text from to (take result out.new) }
-{
-    let mut left = ends;
-    let mut count = count;
-    'ends: while 0 < left && count < out.len() {
-        out[count] = base + first_set(left);
-        left = without_first(left);
-        count += 1;
-    }
-    count
-}
-
-/// The ends that bits tell of the parts from a byte on, if any. They tell little where a scalar of three bytes or more
+/// Where the next parts of a text end, from a boundary on, as far as bits tell it: a bit for each byte from there on, the
+/// lowest for the first, and none set where they tell nothing. They tell little where a scalar of three bytes or more
 /// comes, or a few bytes are left.
-fn ends_from(text: &[u8], start: usize) -> u64
+#[inline(always)]
+pub fn ends_from(text: &[u8], start: usize) -> u64
     requires { start < length text.now }
     ensures { 0 < result → AreTold text.now start result }
 {

@@ -19,6 +19,6 @@ mod steps;
 mod word;
 
 pub use calls::{WordState, lbk_words};
-pub use ends::fill_ends;
+pub use ends::{ends_from, fill_ends};
 pub use filling::fill;
 pub use word::{Filled, Word};

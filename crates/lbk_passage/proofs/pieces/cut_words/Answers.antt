@@ -22,23 +22,23 @@ loop-start-init g c =
 pub returns-in_err-start-clause-most : goal.returns-in_err-start-clause-most
 returns-in_err-start-clause-most g c =
     let l = c.loop-start in
-    let cut = c.cut_block.ensures in
-    room-on (vec_capacity c.args.pieces.now) (vec_capacity l.pieces) (vec_capacity c.cut_block.new.pieces) (vec_len l.pieces) (vec_len c.cut_block.new.pieces) l.invariant.most
+    let cut = c.cut_next.ensures.cuts in
+    room-on (vec_capacity c.args.pieces.now) (vec_capacity l.pieces) (vec_capacity c.cut_next.new.pieces) (vec_len l.pieces) (vec_len c.cut_next.new.pieces) l.invariant.most
     cut.grows.most cut.grows.onward
 
 pub loop-start-preserved : goal.loop-start-preserved
 loop-start-preserved g c =
     let l = c.loop-start in
-    let cut = c.cut_block.ensures in
+    let cut = c.cut_next.ensures.cuts in
     let next = c.in_ok-start.ensures in
     record {
-      cut = next.cut ∙ l.invariant.cut;
-      count = omega (arith, next.count, l.invariant.count);
+      cut = next.cuts.cut.cut ∙ l.invariant.cut;
+      count = next.cuts.cut.count ∙ l.invariant.count;
       room = omega (arith, cut.grows.room, l.invariant.room);
-      most = room-on (vec_capacity c.args.pieces.now) (vec_capacity l.pieces) (vec_capacity c.cut_block.new.pieces) (vec_len l.pieces) (vec_len c.cut_block.new.pieces) l.invariant.most
+      most = room-on (vec_capacity c.args.pieces.now) (vec_capacity l.pieces) (vec_capacity c.cut_next.new.pieces) (vec_len l.pieces) (vec_len c.cut_next.new.pieces) l.invariant.most
           cut.grows.most cut.grows.onward;
-      within = next.within;
-      utf8 = next.utf8;
+      within = next.cuts.cut.within;
+      utf8 = next.cuts.cut.utf8;
     }
 
 pub returns-clause-cut : goal.returns-clause-cut
