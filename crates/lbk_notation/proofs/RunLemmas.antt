@@ -271,17 +271,9 @@ IsReplay-ended cell form profile ended Memory read out is = unwritten-ended cell
 keeps_up : (cell : ℕ → Cell) (form : Form) (profile : Profile) (progress : ReplayState) (from to : Reads) (before last read out later all : List ℕ)
     → Stands cell form profile progress before out → read ≡ before ++ last → all ≡ out ++ later → length last ≡ to.gave
     → to.count ≤ from.count + (length before + 1) → KeepsUp cell form profile from to read all
-keeps_up cell form profile progress from to before last read out later all stands split is gave each = record {
-  before = before;
-  last = last;
-  split = split;
-  is_last = gave;
-  each_gave = each;
-  written = out;
-  later = later;
-  is = is;
-  settled = Stands-text cell form profile progress before out stands;
-}
+keeps_up cell form profile progress from to before last read out later all stands split is gave each =
+    let settled = Stands-text cell form profile progress before out stands in
+    record { before = before; last = last; split = split; is_last = gave; each_gave = each; written = out; later = later; is = is; settled = settled }
 
 pub record ReadsSoFar (cell : ℕ → Cell) (form : Form) (profile : Profile) (progress : ReplayState) (unread unread' written written' : Option (List ℕ)) : Type 0 where
   pub read : List ℕ

@@ -15,36 +15,38 @@ use itoa::Buffer;
 use lbk_rules::Verdict;
 use std::alloc::AllocError;
 
-/// Writes the result of a line of the file as a line; nothing for a line that agrees, for a blank one or a comment.
-pub fn push_finding(
-    text: &mut Vec<u8>,
-    form: Form,
-    number: u32,
-    finding: Finding,
-) -> Result<(), AllocError>
-    ensures { OnOk result (text.new.items ≡ text.old.items ++ finding_text form number finding) }
-{
-    match finding {
-        Finding::NoLine | Finding::Replayed(Outcome::Agree) => Ok(()),
-        Finding::Replayed(
-            Outcome::Differ {
-                position,
-                file,
-                rules,
-            },
-        ) => {
-            push_head(text, b"D", number)?;
-            push_difference(text, form, position, file, rules)
-        }
-        Finding::Bad { at } => {
-            push_head(text, b"R", number)?;
-            push_number(text, at as u64)?;
-            push_end(text)
-        }
-        Finding::Long => {
-            push_head(text, b"R", number)?;
-            push_word(text, b"long")?;
-            push_end(text)
+impl Finding {
+    /// Writes the result of a line of the file as a line; nothing for a line that agrees, for a blank one or a comment.
+    pub(crate) fn push_to(
+        self,
+        text: &mut Vec<u8>,
+        form: Form,
+        number: u32,
+    ) -> Result<(), AllocError>
+        ensures { OnOk result (text.new.items ≡ text.old.items ++ finding_text form number self) }
+    {
+        match self {
+            Finding::NoLine | Finding::Replayed(Outcome::Agree) => Ok(()),
+            Finding::Replayed(
+                Outcome::Differ {
+                    position,
+                    file,
+                    rules,
+                },
+            ) => {
+                push_head(text, b"D", number)?;
+                push_difference(text, form, position, file, rules)
+            }
+            Finding::Bad { at } => {
+                push_head(text, b"R", number)?;
+                push_number(text, at as u64)?;
+                push_end(text)
+            }
+            Finding::Long => {
+                push_head(text, b"R", number)?;
+                push_word(text, b"long")?;
+                push_end(text)
+            }
         }
     }
 }

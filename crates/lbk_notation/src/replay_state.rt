@@ -8,7 +8,7 @@ ghost use Rattle.lbk_notation.specs.Stream.{longest_stream};
 
 use super::findings::{Finding, Report, STREAM_MAX};
 use super::line_reading::LONGEST;
-use super::replay_lines::{push_finding, push_total};
+use super::replay_lines::push_total;
 use super::replayer::Replayer;
 use lbk_rules::CellSource;
 use std::alloc::{AllocError, Global};
@@ -189,7 +189,7 @@ impl ReplayState {
         self.line.clear();
         self.is_long = false;
         self.text.clear();
-        push_finding(&mut self.text, replayer.form, self.number, finding)?;
+        finding.push_to(&mut self.text, replayer.form, self.number)?;
         Ok(())
     }
 
