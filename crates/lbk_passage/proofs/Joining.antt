@@ -324,3 +324,8 @@ module _ (profile : Profile) (cell : ℕ → Cell) where
   joined-pieces_of_parts parts are =
       sym (map-moved_piece_none (pieces_at cell 0 (passages profile cell (flat_map (λ part. part) parts))))
       ∙ joined-parts cell (pieces_in profile cell) joins-pieces (λ at. refl) 0 parts are
+
+-- what is said of two texts, and of many
+pub ruleset of_two = (joined-passages, joined-segments, joined-pieces)
+
+pub ruleset of_many = (joined-passages_of_parts, joined-segments_of_parts, joined-pieces_of_parts)

@@ -67,3 +67,6 @@ module _ (profile : Profile) (cell : ℕ → Cell) where
       → ps ≡ passages profile cell text
   unfolding passages
   passages-only text ps joined all = sym (cut_after-only ends_passage ps all) ∙ ap (cut_after ends_passage) joined
+
+-- that passages cut the marks of a text in one way
+pub ruleset one_way = (passages-marks, passages-end, passages-only)

@@ -30,6 +30,7 @@ pub fn behind_an_earlier_text()
 
 /// The passages of a text cut its marks after each Must: joined they are its marks, a line must end after the last mark
 /// of each and after no other, and no other cutting is like that (UAX #14, section 6, rules LB3 to LB5).
+#[tactic(auto, using(crate::proofs::Together::one_way))]
 pub fn one_cutting()
     ensures joined { (profile : Profile) (cell : ℕ → Cell) (text : List ℕ)
         → flat_map (λ ms. ms) (passages profile cell text) ≡ marks profile cell text }
@@ -84,6 +85,7 @@ pub fn run_ends()
 /// except the end of the first text: a text ends by rule 3, and by rule 4 or 5 where another follows. So are their
 /// segments and their pieces, the words among them, if the places of the second are moved by the bytes of the first
 /// (UAX #14, section 6.1, rules LB3 to LB5).
+#[tactic(auto, using(crate::proofs::Joining::of_two))]
 pub fn joined_texts()
     ensures passages { (profile : Profile) (cell : ℕ → Cell) (first second : List ℕ)
         → IsTrue (must_end_between cell first second)
@@ -102,6 +104,7 @@ pub fn joined_texts()
 {}
 
 /// The same for any number of parts: each is cut alone, given its offset and whether another part follows.
+#[tactic(auto, using(crate::proofs::Joining::of_many))]
 pub fn joined_parts()
     ensures passages { (profile : Profile) (cell : ℕ → Cell) (parts : List (List ℕ)) → AreParts cell parts
         → passages profile cell (flat_map (λ part. part) parts) ≡ of_parts (λ at. passages_in profile cell) 0 parts }
