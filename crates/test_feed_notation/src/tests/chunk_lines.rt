@@ -1,6 +1,7 @@
-//! The lines that `chunk` writes for a whole text and for a range, for reads cut in any way, and a window alone.
+//! The lines that `chunk` writes for a whole text, for a range and before a fault, for reads cut in any way, and a
+//! window alone.
 
-use crate::tests::calls::sample_cells;
+use crate::tests::calls::{cut_source, memory_sink, sample_cells};
 use crate::tests::chunk_rows::{LIMITS, ROWS};
 use crate::tests::chunks::{LIMIT, limits_of, push_told};
 use lbk_args::Part;
@@ -16,29 +17,27 @@ use test_support::calls::segmenter_of;
 use test_support::checks::same;
 use test_support::reads::cuttings;
 
-/// A text, read in these sizes, has these lines, and the run ends so.
-fn check(
+/// `chunk`, without its contract.
+fn chunked(
     alloc: Global,
     cells: &CellPages,
     asked: Asked,
-    text: &[u8],
-    sizes: &[usize],
-    want: (&str, Result<(), CmdFault>),
-) -> Result<(), Fail> {
-    let mut reader = MemorySource::cut(text, sizes);
-    let mut writer = MemorySink::new(alloc, 1024)?;
-    let answer = chunk(
-        limits_of(&[4, 0, 2, 0]),
-        asked,
-        alloc,
-        &mut reader,
-        &mut writer,
-        cells,
-        LIMIT,
-        Profile::First,
-    );
-    same(&writer.bytes(), &want.0.as_bytes(), &sizes)?;
-    same(&answer, &want.1, &sizes)
+    reader: &mut MemorySource<'_>,
+    writer: &mut MemorySink,
+) -> Result<(), CmdFault> {
+    let limits = limits_of(&[4, 0, 2, 0]);
+    let profile = Profile::First;
+    chunk(limits, asked, alloc, reader, writer, cells, LIMIT, profile)
+}
+
+/// A text, read in these sizes, has these lines, and the run ends so.
+fn check(alloc: Global, cells: &CellPages, row: &Row, sizes: &[usize]) -> Result<(), Fail> {
+    let (asked, text, lines, end) = *row;
+    let mut reader = cut_source(text, sizes);
+    let mut writer = memory_sink(alloc, 1024, usize::MAX)?;
+    let answer = chunked(alloc, cells, asked, &mut reader, &mut writer);
+    same(&writer.bytes(), &lines.as_bytes(), &sizes)?;
+    same(&answer, &end, &sizes)
 }
 
 /// All chunks, a line for each.
@@ -53,66 +52,57 @@ const OBJECTS: Asked = Asked {
     texts: true,
 };
 
-/// What is asked for, a text, and the output.
-static WHOLE: [(Asked, &[u8], &str); 2] = [
+const RANGE: Option<Part> = Some(Part { from: 1, to: 6 });
+
+const ILL_FORMED: CmdFault = CmdFault::Passage(PassageFault::NotUtf8 { at: 8 });
+
+/// What is asked for, a text, the output, and how the run ends.
+type Row = (Asked, &'static [u8], &'static str, Result<(), CmdFault>);
+
+static WRITTEN: [Row; 5] = [
     (
         LINES,
         b"aa bb\ncc",
         "C 0 3 1 May 18\nC 3 6 1 Must 5\nC 6 8 1 Must 3\n",
+        Ok(()),
     ),
     (
         OBJECTS,
         b"\"\\\x1F a\nb\x7F",
         "{\"start\":0,\"end\":4,\"words\":0,\"text\":\"\\\"\\\\\\u001f \"}\n\
          {\"start\":4,\"end\":8,\"words\":2,\"text\":\"a\\nb\x7F\"}\n",
+        Ok(()),
     ),
+    (
+        Asked {
+            range: RANGE,
+            ..LINES
+        },
+        b"aa bb\ncc",
+        "C 3 6 1 Must 5\n",
+        Ok(()),
+    ),
+    (
+        Asked {
+            range: RANGE,
+            ..OBJECTS
+        },
+        b"aa bb\ncc",
+        "{\"start\":3,\"end\":6,\"words\":1,\"text\":\"bb\\n\"}\n",
+        Ok(()),
+    ),
+    (LINES, b"aa bb\ncc\xFF", "C 0 3 1 May 18\n", Err(ILL_FORMED)),
 ];
 
 #[test]
 fn written_in_all_reads(rt: HostRuntime) -> Result<(), Fail> {
     let cells = sample_cells(rt.alloc())?;
-    for (asked, text, lines) in &WHOLE {
-        for sizes in &cuttings(rt.alloc(), text.len())? {
-            check(rt.alloc(), &cells, *asked, text, sizes, (lines, Ok(())))?;
+    for row in &WRITTEN {
+        for sizes in &cuttings(rt.alloc(), row.1.len())? {
+            check(rt.alloc(), &cells, row, sizes)?;
         }
     }
     Ok(())
-}
-
-#[test]
-fn lines_of_a_range(rt: HostRuntime) -> Result<(), Fail> {
-    let cells = sample_cells(rt.alloc())?;
-    let range = Some(Part { from: 1, to: 6 });
-    let text = b"aa bb\ncc";
-    let want = ("C 3 6 1 Must 5\n", Ok(()));
-    check(
-        rt.alloc(),
-        &cells,
-        Asked { range, ..LINES },
-        text,
-        &[8],
-        want,
-    )?;
-    let want = (
-        "{\"start\":3,\"end\":6,\"words\":1,\"text\":\"bb\\n\"}\n",
-        Ok(()),
-    );
-    check(
-        rt.alloc(),
-        &cells,
-        Asked { range, ..OBJECTS },
-        text,
-        &[8],
-        want,
-    )
-}
-
-#[test]
-fn lines_before_a_fault(rt: HostRuntime) -> Result<(), Fail> {
-    let cells = sample_cells(rt.alloc())?;
-    let fault = CmdFault::Passage(PassageFault::NotUtf8 { at: 8 });
-    let want = ("C 0 3 1 May 18\n", Err(fault));
-    check(rt.alloc(), &cells, LINES, b"aa bb\ncc\xFF", &[9], want)
 }
 
 /// The chunks of a text, by a window.

@@ -182,111 +182,130 @@ fn reads_of_inputs(rt: HostRuntime) -> Result<(), Fail> {
     Ok(())
 }
 
-/// A text, the limit of a paragraph, the fault, if any, and what each of `OF_TEXTS` writes before.
-type Row = (&'static [u8], u32, Option<PassageFault>, [&'static str; 4]);
+/// A text, the limit of a paragraph, the fault, if any, and the passages that are written.
+type Row = (&'static [u8], u32, Option<PassageFault>, &'static str);
 
 const TOO_LONG: Option<PassageFault> = Some(ParagraphTooLong { start: 0 });
 
-const NOTHING: [&str; 4] = [""; 4];
-
-/// The passage `a` and a line end.
-const LETTER: [&str; 4] = [
-    "P 0 2 5 S 0 2 Must 5 W 0 1 p 1 2\n",
-    "a\n",
-    "× 0061 × 000A !\t# 2 6 5\n",
-    "P 0 2\nS 0 2 Must 5\nW 0 1\n",
-];
-
-/// The passage `a b` and a line end.
-const TWO_LETTERS: [&str; 4] = [
-    "P 0 4 5 S 0 2 May 18 S 2 4 Must 5 W 0 1 p 1 2 W 2 3 p 3 4\n",
-    "a ÷b\n",
-    "× 0061 × 0020 ÷ 0062 × 000A !\t# 2 7 18 6 5\n",
-    "P 0 4\nS 0 2 May 18\nS 2 4 Must 5\nW 0 1\nW 2 3\n",
-];
-
-/// A text `ab cd`.
-const TWO_WORDS: [&str; 4] = [
-    "P 0 5 3 S 0 3 May 18 S 3 5 Must 3 W 0 2 p 2 3 W 3 5\n",
-    "ab ÷cd\n",
-    "× 0061 × 0062 × 0020 ÷ 0063 × 0064 !\t# 2 28 7 18 28 3\n",
-    "P 0 5\nS 0 3 May 18\nS 3 5 Must 3\nW 0 2\nW 3 5\n",
-];
-
-/// A line end before a character that is too long.
-const LINE_END: [&str; 4] = [
-    "P 0 1 5 S 0 1 Must 5 p 0 1\n",
-    "\n",
-    "× 000A !\t# 2 5\n",
-    "P 0 1\nS 0 1 Must 5\n",
-];
-
-/// A text `ab` and a line end.
-const LAST_LINE: [&str; 4] = [
-    "P 0 4 3 S 0 4 Must 3 W 0 2 p 2 4\n",
-    "ab\r\n",
-    "× 0061 × 0062 × 000D × 000A !\t# 2 28 6 5 3\n",
-    "P 0 4\nS 0 4 Must 3\nW 0 2\n",
-];
-
-/// Three passages; the longest has as many bytes as a paragraph may have.
-const THREE: [&str; 4] = [
-    "P 0 4 5 S 0 4 Must 5 W 0 2 p 2 4\nP 4 4 5 S 0 4 Must 5 W 0 3 p 3 4\nP 8 1 3 S 0 1 Must 3 W 0 1\n",
-    "ab\r\nabc\rb\n",
-    "× 0061 × 0062 × 000D × 000A !\t# 2 28 6 5 5\n× 0061 × 0062 × 0063 × 000D !\t# 2 28 28 6 5\n× 0062 !\t# 2 3\n",
-    "P 0 4\nS 0 4 Must 5\nW 0 2\nP 4 8\nS 4 8 Must 5\nW 4 7\nP 8 9\nS 8 9 Must 3\nW 8 9\n",
-];
-
 /// Texts at a limit, over it, and ill-formed.
 static ROWS: [Row; 21] = [
-    (b"ab cd", 0, Some(Limit), NOTHING),
-    (b"", 0, Some(Limit), NOTHING),
-    (b"", 16_777_217, Some(Limit), NOTHING),
-    (b"ab cd", 16_777_217, Some(Limit), NOTHING),
-    (b"ab cd", 16_777_216, None, TWO_WORDS),
-    (b"ab cd", 5, None, TWO_WORDS),
-    (b"ab cd", 4, TOO_LONG, NOTHING),
-    (b"ab\r\n", 4, None, LAST_LINE),
-    (b"ab\r\nabc\rb", 4, None, THREE),
-    (b"abc\r\n", 4, TOO_LONG, NOTHING),
-    (b"\xE2\x80\x99", 1, TOO_LONG, NOTHING),
+    (b"ab cd", 0, Some(Limit), ""),
+    (b"", 0, Some(Limit), ""),
+    (b"", 16_777_217, Some(Limit), ""),
+    (b"ab cd", 16_777_217, Some(Limit), ""),
+    (b"ab cd", 16_777_216, None, "ab cd"),
+    (b"ab cd", 5, None, "ab cd"),
+    (b"ab cd", 4, TOO_LONG, ""),
+    (b"ab\r\n", 4, None, "ab\r\n"),
+    (b"ab\r\nabc\rb", 4, None, "ab\r\nabc\rb"),
+    (b"abc\r\n", 4, TOO_LONG, ""),
+    (b"\xE2\x80\x99", 1, TOO_LONG, ""),
     (
         b"\n\xE2\x80\x99",
         1,
         Some(ParagraphTooLong { start: 1 }),
-        LINE_END,
+        "\n",
     ),
     (
         b"a\nbcdef\ng",
         4,
         Some(ParagraphTooLong { start: 2 }),
-        LETTER,
+        "a\n",
     ),
     (
         b"a b\nabcde",
         4,
         Some(ParagraphTooLong { start: 4 }),
-        TWO_LETTERS,
+        "a b\n",
     ),
-    (b"abcde\xFF", 4, TOO_LONG, NOTHING),
-    (b"abcd\xFF", 4, Some(NotUtf8 { at: 4 }), NOTHING),
-    (b"a\nb\xFFc\nd", 4, Some(NotUtf8 { at: 3 }), LETTER),
-    (b"a\nb\xFF", LIMIT, Some(NotUtf8 { at: 3 }), LETTER),
-    (b"a b\nb\xFF", 9, Some(NotUtf8 { at: 5 }), TWO_LETTERS),
-    (b"a\n\xFF", LIMIT, Some(NotUtf8 { at: 2 }), NOTHING),
-    (b"a\xE2\x82", LIMIT, Some(NotUtf8 { at: 1 }), NOTHING),
+    (b"abcde\xFF", 4, TOO_LONG, ""),
+    (b"abcd\xFF", 4, Some(NotUtf8 { at: 4 }), ""),
+    (b"a\nb\xFFc\nd", 4, Some(NotUtf8 { at: 3 }), "a\n"),
+    (b"a\nb\xFF", LIMIT, Some(NotUtf8 { at: 3 }), "a\n"),
+    (b"a b\nb\xFF", 9, Some(NotUtf8 { at: 5 }), "a b\n"),
+    (b"a\n\xFF", LIMIT, Some(NotUtf8 { at: 2 }), ""),
+    (b"a\xE2\x82", LIMIT, Some(NotUtf8 { at: 1 }), ""),
 ];
+
+/// Passages, and what each of `OF_TEXTS` writes for them.
+static WRITTEN: [(&str, [&str; 4]); 7] = [
+    ("", [""; 4]),
+    (
+        "ab cd",
+        [
+            "P 0 5 3 S 0 3 May 18 S 3 5 Must 3 W 0 2 p 2 3 W 3 5\n",
+            "ab ÷cd\n",
+            "× 0061 × 0062 × 0020 ÷ 0063 × 0064 !\t# 2 28 7 18 28 3\n",
+            "P 0 5\nS 0 3 May 18\nS 3 5 Must 3\nW 0 2\nW 3 5\n",
+        ],
+    ),
+    (
+        "a\n",
+        [
+            "P 0 2 5 S 0 2 Must 5 W 0 1 p 1 2\n",
+            "a\n",
+            "× 0061 × 000A !\t# 2 6 5\n",
+            "P 0 2\nS 0 2 Must 5\nW 0 1\n",
+        ],
+    ),
+    (
+        "a b\n",
+        [
+            "P 0 4 5 S 0 2 May 18 S 2 4 Must 5 W 0 1 p 1 2 W 2 3 p 3 4\n",
+            "a ÷b\n",
+            "× 0061 × 0020 ÷ 0062 × 000A !\t# 2 7 18 6 5\n",
+            "P 0 4\nS 0 2 May 18\nS 2 4 Must 5\nW 0 1\nW 2 3\n",
+        ],
+    ),
+    (
+        "\n",
+        [
+            "P 0 1 5 S 0 1 Must 5 p 0 1\n",
+            "\n",
+            "× 000A !\t# 2 5\n",
+            "P 0 1\nS 0 1 Must 5\n",
+        ],
+    ),
+    (
+        "ab\r\n",
+        [
+            "P 0 4 3 S 0 4 Must 3 W 0 2 p 2 4\n",
+            "ab\r\n",
+            "× 0061 × 0062 × 000D × 000A !\t# 2 28 6 5 3\n",
+            "P 0 4\nS 0 4 Must 3\nW 0 2\n",
+        ],
+    ),
+    (
+        "ab\r\nabc\rb",
+        [
+            "P 0 4 5 S 0 4 Must 5 W 0 2 p 2 4\nP 4 4 5 S 0 4 Must 5 W 0 3 p 3 4\nP 8 1 3 S 0 1 Must 3 W 0 1\n",
+            "ab\r\nabc\rb\n",
+            "× 0061 × 0062 × 000D × 000A !\t# 2 28 6 5 5\n× 0061 × 0062 × 0063 × 000D !\t# 2 28 28 6 5\n× 0062 !\t# 2 3\n",
+            "P 0 4\nS 0 4 Must 5\nW 0 2\nP 4 8\nS 4 8 Must 5\nW 4 7\nP 8 9\nS 8 9 Must 3\nW 8 9\n",
+        ],
+    ),
+];
+
+/// What each of `OF_TEXTS` writes for some passages.
+fn written_for(passages: &str) -> Result<&'static [&'static str; 4], Fail> {
+    for (text, written) in &WRITTEN {
+        if *text == passages {
+            return Ok(written);
+        }
+    }
+    Err(Fail::new("passages that are not in the table"))
+}
 
 /// Compares what each task writes for a text, and how it ends.
 fn check_tasks(setting: Setting<'_>, row: &Row) -> Result<(), Fail> {
-    let (text, limit, fault, written) = *row;
+    let (text, limit, fault, passages) = *row;
     let mut setting = setting;
     setting.limit = limit;
     let end = match fault {
         Some(fault) => End::refused(fault),
         None => End::Text(Ok(())),
     };
-    for (task, written) in OF_TEXTS.iter().zip(written.iter()) {
+    for (task, written) in OF_TEXTS.iter().zip(written_for(passages)?.iter()) {
         check(setting, *task, text, end, written.as_bytes())?;
     }
     Ok(())

@@ -1,5 +1,6 @@
 //! The feed over reads that are cut, that fail and that end, with the expected pieces, counts and offsets.
 
+use crate::tests::calls::source_of;
 use crate::tests::feed_calls::{same, settle, use_up};
 use lbk_feed::devices::{MemorySource, RepeatedSource};
 use lbk_feed::{Feed, FeedFault, Source};
@@ -8,20 +9,25 @@ use std::process::Abort;
 use std::test::Fail;
 use test_support::reads::SIZES;
 
-/// What a call of `piece` has to return, and how many reads it makes.
+/// What a call of `piece` has to return.
+type Answer<'a> = Result<Option<&'a [u8]>, FeedFault>;
+
+/// The same, and how many reads it makes.
 #[derive(Clone, Copy)]
-struct Row<'a>(Result<Option<&'a [u8]>, FeedFault>, u64);
+struct Row<'a>(Answer<'a>, u64);
+
+/// No piece: the bytes are ill-formed at the first, the second or the third.
+const ILL_FIRST: Answer<'static> = Err(FeedFault::NotUtf8 { at: 0 });
+
+const ILL_SECOND: Answer<'static> = Err(FeedFault::NotUtf8 { at: 1 });
+
+const ILL_THIRD: Answer<'static> = Err(FeedFault::NotUtf8 { at: 2 });
 
 /// No piece and no read, because a fault was returned before.
 const SPENT: Row<'static> = Row(Err(FeedFault::Spent), 0);
 
 /// Asks for a piece, and compares it.
-fn check_piece<R: Source>(
-    rt: &impl Abort,
-    feed: &mut Feed,
-    reader: &mut R,
-    want: Result<Option<&[u8]>, FeedFault>,
-) {
+fn check_piece<R: Source>(rt: &impl Abort, feed: &mut Feed, reader: &mut R, want: Answer<'_>) {
     let found = feed
         .piece(reader)
         .map(|piece| piece.map(|text| text.as_bytes()));
@@ -57,86 +63,94 @@ fn check_pieces<R: Source>(rt: &impl Abort, reader: &mut R, rows: &[Row<'_>]) {
 /// A scalar of three bytes between two letters.
 const EURO: &[u8] = b"a\xE2\x82\xACb";
 
-const CUT_EURO: [Row<'static>; 4] = [
-    Row(Ok(Some(b"a")), 1),
-    Row(Ok(Some(b"\xE2\x82\xACb")), 2),
-    Row(Ok(None), 1),
-    Row(Ok(None), 0),
-];
+/// Bytes, the sizes of their reads, the read that fails, if any, and what the calls of `piece` return.
+type Case = (
+    &'static [u8],
+    &'static [usize],
+    Option<u64>,
+    &'static [Row<'static>],
+);
 
-const FOUR_BYTES: [Row<'static>; 2] = [Row(Ok(Some(b"\xF0\x9F\x91\xA6")), 4), Row(Ok(None), 1)];
-
-const FAILED_READ: [Row<'static>; 5] = [
-    Row(Ok(Some(b"a")), 1),
-    Row(Err(FeedFault::Read), 1),
-    SPENT,
-    SPENT,
-    SPENT,
+// After ill-formed bytes there is no read, so one that would fail changes no result.
+static PIECES: [Case; 10] = [
+    (
+        EURO,
+        &[2, 1, 2],
+        None,
+        &[
+            Row(Ok(Some(b"a")), 1),
+            Row(Ok(Some(b"\xE2\x82\xACb")), 2),
+            Row(Ok(None), 1),
+            Row(Ok(None), 0),
+        ],
+    ),
+    (
+        b"\xF0\x9F\x91\xA6",
+        &[1],
+        None,
+        &[Row(Ok(Some(b"\xF0\x9F\x91\xA6")), 4), Row(Ok(None), 1)],
+    ),
+    (
+        EURO,
+        &[2],
+        Some(1),
+        &[
+            Row(Ok(Some(b"a")), 1),
+            Row(Err(FeedFault::Read), 1),
+            SPENT,
+            SPENT,
+            SPENT,
+        ],
+    ),
+    (
+        b"a\xFF",
+        &[],
+        None,
+        &[Row(Ok(Some(b"a")), 1), Row(ILL_SECOND, 0), SPENT],
+    ),
+    (
+        b"\xF0\x9F\x91",
+        &[],
+        None,
+        &[Row(ILL_FIRST, 2), SPENT, SPENT],
+    ),
+    (
+        b"\xED\xA0\x80",
+        &[],
+        None,
+        &[Row(ILL_FIRST, 1), SPENT, SPENT],
+    ),
+    (b"\xC0\x80", &[], None, &[Row(ILL_FIRST, 1), SPENT, SPENT]),
+    (
+        b"ab\xFFc",
+        &[1],
+        Some(3),
+        &[
+            Row(Ok(Some(b"a")), 1),
+            Row(Ok(Some(b"b")), 1),
+            Row(ILL_THIRD, 1),
+            SPENT,
+        ],
+    ),
+    (
+        b"ab\xFFc",
+        &[3],
+        Some(1),
+        &[Row(Ok(Some(b"ab")), 1), Row(ILL_THIRD, 0), SPENT],
+    ),
+    (
+        b"a\xE2\x41c",
+        &[2, 1],
+        Some(2),
+        &[Row(Ok(Some(b"a")), 1), Row(ILL_SECOND, 1), SPENT],
+    ),
 ];
 
 #[test]
 fn pieces(rt: HostRuntime) {
-    check_cut(&rt, EURO, &[2, 1, 2], &CUT_EURO);
-    check_cut(&rt, b"\xF0\x9F\x91\xA6", &[1], &FOUR_BYTES);
-    check_failing(&rt, EURO, &[2], 1, &FAILED_READ);
-}
-
-/// Checks the pieces of these bytes, read in these sizes.
-fn check_cut(rt: &impl Abort, bytes: &[u8], sizes: &[usize], rows: &[Row<'_>]) {
-    check_pieces(rt, &mut MemorySource::cut(bytes, sizes), rows);
-}
-
-/// The same, with a failing read of this number.
-fn check_failing(rt: &impl Abort, bytes: &[u8], sizes: &[usize], read: u64, rows: &[Row<'_>]) {
-    let mut reader = MemorySource::cut(bytes, sizes).failing_at(read);
-    check_pieces(rt, &mut reader, rows);
-}
-
-const ILL_FORMED_SECOND: [Row<'static>; 3] = [
-    Row(Ok(Some(b"a")), 1),
-    Row(Err(FeedFault::NotUtf8 { at: 1 }), 0),
-    SPENT,
-];
-
-#[test]
-fn ill_formed_bytes(rt: HostRuntime) {
-    check_cut(&rt, b"a\xFF", &[], &ILL_FORMED_SECOND);
-    check_ill_formed(&rt, b"\xF0\x9F\x91", 2);
-    check_ill_formed(&rt, b"\xED\xA0\x80", 1);
-    check_ill_formed(&rt, b"\xC0\x80", 1);
-}
-
-/// Bytes that are ill-formed from the first one on.
-fn check_ill_formed(rt: &impl Abort, bytes: &[u8], reads: u64) {
-    let fault = Row(Err(FeedFault::NotUtf8 { at: 0 }), reads);
-    check_cut(rt, bytes, &[], &[fault, SPENT, SPENT]);
-}
-
-const FAULT_AT_THE_THIRD: [Row<'static>; 4] = [
-    Row(Ok(Some(b"a")), 1),
-    Row(Ok(Some(b"b")), 1),
-    Row(Err(FeedFault::NotUtf8 { at: 2 }), 1),
-    SPENT,
-];
-
-const FAULT_IN_A_READ: [Row<'static>; 3] = [
-    Row(Ok(Some(b"ab")), 1),
-    Row(Err(FeedFault::NotUtf8 { at: 2 }), 0),
-    SPENT,
-];
-
-const FAULT_IN_A_SCALAR: [Row<'static>; 3] = [
-    Row(Ok(Some(b"a")), 1),
-    Row(Err(FeedFault::NotUtf8 { at: 1 }), 1),
-    SPENT,
-];
-
-// After ill-formed bytes there is no read, so one that would fail changes no result.
-#[test]
-fn no_read_after_a_fault(rt: HostRuntime) {
-    check_failing(&rt, b"ab\xFFc", &[1], 3, &FAULT_AT_THE_THIRD);
-    check_failing(&rt, b"ab\xFFc", &[3], 1, &FAULT_IN_A_READ);
-    check_failing(&rt, b"a\xE2\x41c", &[2, 1], 2, &FAULT_IN_A_SCALAR);
+    for (bytes, sizes, failing, rows) in &PIECES {
+        check_pieces(&rt, &mut source_of(bytes, sizes, *failing), rows);
+    }
 }
 
 /// Settles the feed, and compares the result and how many reads were made in all.

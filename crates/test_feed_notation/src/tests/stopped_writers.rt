@@ -72,8 +72,9 @@ fn check_row(setting: Setting<'_>, row: Row) -> Result<(), Fail> {
 #[test]
 fn stopped_writers(rt: HostRuntime) -> Result<(), Fail> {
     let cells = sample_cells(rt.alloc())?;
+    let setting = Setting::new(rt.alloc(), &cells, Profile::First);
     for row in &RUNS {
-        check_row(Setting::new(rt.alloc(), &cells, Profile::First), *row)?;
+        check_row(setting, *row)?;
     }
     Ok(())
 }
