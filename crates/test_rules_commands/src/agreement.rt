@@ -128,7 +128,7 @@ fn stepper_by_rows(rt: HostRuntime) -> Result<(), Fail> {
     Ok(())
 }
 
-/// Scalars of the sample files, with normal cells.
+/// Scalars of the sample files, with normal cells: those without a flag, and those with one.
 fn sample_scalars() -> [Scalar; 15] {
     [
         ('\0', plain(Class::Alphabetic)),
@@ -136,16 +136,16 @@ fn sample_scalars() -> [Scalar; 15] {
         (' ', plain(Class::Space)),
         (',', plain(Class::InfixNumeric)),
         ('(', plain(Class::OpenPunctuation)),
-        ('\u{FF08}', wide(Class::OpenPunctuation)),
         ('"', plain(Class::Quotation)),
-        ('\u{2018}', mark(Quote::Initial)),
-        ('\u{2019}', mark(Quote::Final)),
         ('\u{4E00}', plain(Class::Ideographic)),
         ('\u{1F3FB}', plain(Class::EModifier)),
         ('\u{1F466}', plain(Class::EBase)),
-        ('\u{1FAFF}', pictograph()),
         ('\u{1FB00}', plain(Class::Alphabetic)),
         ('\u{10FFFF}', plain(Class::Alphabetic)),
+        ('\u{FF08}', wide(Class::OpenPunctuation)),
+        ('\u{2018}', mark(Quote::Initial)),
+        ('\u{2019}', mark(Quote::Final)),
+        ('\u{1FAFF}', pictograph()),
     ]
 }
 

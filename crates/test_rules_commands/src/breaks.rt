@@ -183,10 +183,6 @@ fn check_source<C: CellSource>(alloc: Global, source: &C) -> Result<(), Fail> {
 
 #[test]
 fn breaks_of_texts(rt: HostRuntime) -> Result<(), Fail> {
-    check_source(rt.alloc(), &pages_by(rt.alloc(), SAMPLES)?)
-}
-
-#[test]
-fn breaks_of_texts_by_tables(rt: HostRuntime) -> Result<(), Fail> {
+    check_source(rt.alloc(), &pages_by(rt.alloc(), SAMPLES)?)?;
     check_source(rt.alloc(), &tables_of(rt.alloc(), SAMPLES)?)
 }

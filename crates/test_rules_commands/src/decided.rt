@@ -181,31 +181,42 @@ fn push_late(steps: &mut String, late: Option<(u64, Verdict)>) -> Result<(), All
     Ok(())
 }
 
-/// Compares the verdicts of the positions of each text with those of its row.
+/// Compares the steps of the late machine and of a stepper over a text with those of its row.
+fn check_steps<C: CellSource>(
+    rt: &impl Abort,
+    setting: &Setting<'_, C>,
+    cells: &[Cell],
+    (text, want): Row,
+) -> Result<(), AllocError> {
+    let found = steps_of(rt, setting.alloc, setting.profile, cells)?;
+    same(rt, found.as_str(), want, "steps", text);
+    let found = steps_over(setting, text)?;
+    same(rt, found.as_str(), want, "the stepper", text);
+    Ok(())
+}
+
+/// What of a text is compared with its row.
+#[derive(Clone, Copy)]
+enum Compared {
+    /// The verdicts of the positions.
+    Verdicts,
+    /// What each step returns.
+    Steps,
+}
+
+/// Compares what each text gives with its row.
 fn check<C: CellSource>(
     rt: &impl Abort,
     setting: &Setting<'_, C>,
+    compared: Compared,
     rows: &[Row],
 ) -> Result<(), AllocError> {
     for row in rows {
         let cells = cells_of(setting.alloc, setting.source, row.0)?;
-        check_cells(rt, setting.alloc, setting.profile, &cells, *row)?;
-    }
-    Ok(())
-}
-
-/// Compares the steps of the late machine and of a stepper over each text with those of its row.
-fn check_steps<C: CellSource>(
-    rt: &impl Abort,
-    setting: &Setting<'_, C>,
-    rows: &[Row],
-) -> Result<(), AllocError> {
-    for (text, want) in rows {
-        let cells = cells_of(setting.alloc, setting.source, text)?;
-        let found = steps_of(rt, setting.alloc, setting.profile, &cells)?;
-        same(rt, found.as_str(), want, "steps", text);
-        let found = steps_over(setting, text)?;
-        same(rt, found.as_str(), want, "the stepper", text);
+        match compared {
+            Compared::Verdicts => check_cells(rt, setting.alloc, setting.profile, &cells, *row)?,
+            Compared::Steps => check_steps(rt, setting, &cells, *row)?,
+        }
     }
     Ok(())
 }
@@ -220,23 +231,18 @@ fn check_source<C: CellSource>(
         source,
         profile: Profile::First,
     };
-    check(rt, &setting, &FIRST)?;
-    check(rt, &setting, &KINDS[..1])?;
-    check_steps(rt, &setting, &FIRST)?;
+    check(rt, &setting, Compared::Verdicts, &FIRST)?;
+    check(rt, &setting, Compared::Verdicts, &KINDS[..1])?;
+    check(rt, &setting, Compared::Steps, &FIRST)?;
     setting.profile = Profile::Second;
-    check(rt, &setting, &SECOND)?;
-    check(rt, &setting, &KINDS[1..])?;
-    check_steps(rt, &setting, &STEPS)
+    check(rt, &setting, Compared::Verdicts, &SECOND)?;
+    check(rt, &setting, Compared::Verdicts, &KINDS[1..])?;
+    check(rt, &setting, Compared::Steps, &STEPS)
 }
 
 #[test]
 fn sample_rows(rt: HostRuntime) -> Result<(), Fail> {
     check_source(&rt, rt.alloc(), &pages_by(rt.alloc(), SAMPLES)?)?;
-    Ok(())
-}
-
-#[test]
-fn sample_rows_by_tables(rt: HostRuntime) -> Result<(), Fail> {
     check_source(&rt, rt.alloc(), &tables_of(rt.alloc(), SAMPLES)?)?;
     Ok(())
 }
@@ -249,21 +255,9 @@ fn no_files(rt: HostRuntime) -> Result<(), Fail> {
         source: &tables,
         profile: Profile::First,
     };
-    check(&rt, &setting, &[("a ", "2 28 3")])?;
+    check(&rt, &setting, Compared::Verdicts, &[("a ", "2 28 3")])?;
     Ok(())
 }
-
-/// The classes by `EDGES_FILE`.
-const EDGES: [(char, Class); 6] = [
-    ('\u{FE}', Class::Alphabetic),
-    ('\u{FF}', Class::Ideographic),
-    ('\u{100}', Class::ClosePunctuation),
-    ('\u{101}', Class::Alphabetic),
-    ('\u{10FFFE}', Class::Alphabetic),
-    ('\u{10FFFF}', Class::Ideographic),
-];
-
-const EDGES_FILE: &[u8] = b"00FF;ID\n0100;CL\n10FFFF;ID\n";
 
 fn check_class(rt: &impl Abort, pages: &CellPages, c: char, class: Class) {
     assert_eq!(rt; cell_of(pages, c).class, class, "{c:?}");
@@ -272,9 +266,17 @@ fn check_class(rt: &impl Abort, pages: &CellPages, c: char, class: Class) {
 // The edges of rows, and a default of all scalars.
 #[test]
 fn classes_of_files(rt: HostRuntime) -> Result<(), Fail> {
-    let pages = pages_by(rt.alloc(), line_break_alone(EDGES_FILE))?;
-    for (c, class) in &EDGES {
-        check_class(&rt, &pages, *c, *class);
+    let file = line_break_alone(b"00FF;ID\n0100;CL\n10FFFF;ID\n");
+    let pages = pages_by(rt.alloc(), file)?;
+    for (c, class) in [
+        ('\u{FE}', Class::Alphabetic),
+        ('\u{FF}', Class::Ideographic),
+        ('\u{100}', Class::ClosePunctuation),
+        ('\u{101}', Class::Alphabetic),
+        ('\u{10FFFE}', Class::Alphabetic),
+        ('\u{10FFFF}', Class::Ideographic),
+    ] {
+        check_class(&rt, &pages, c, class);
     }
     let file = line_break_alone(b"# @missing: 0000..10FFFF; CB");
     let pages = pages_by(rt.alloc(), file)?;

@@ -1,19 +1,13 @@
-//! How another crate calls the library: a snippet of each passage, and the output of `show` for a text.
+//! How another crate calls the library: a snippet of each passage.
 
-ghost use Rattle.std.specs.Prelude.{◌≡◌, ◌≤◌, ◌⊎◌, Contains, IfOk};
+ghost use Rattle.std.specs.Prelude.{◌≡◌, ◌≤◌, ◌⊎◌, Contains};
 ghost use Rattle.std.specs.List.{All};
-ghost use Rattle.std.specs.Str.{chars};
-ghost use Rattle.lbk_cmd.specs.Texts.{show_text};
-ghost use Rattle.lbk_feed.specs.MemorySink.{sink_bytes};
-ghost use Rattle.lbk_passage.specs.Passages.{passages};
 ghost use Rattle.lbk_passage.specs.declared.passage.Segment.{Segment};
-ghost use Rattle.lbk_rules.specs.CellPages.{page_cell};
 
-use lbk_cmd::{CmdFault, SAMPLE_FILES, read_cells, show};
-use lbk_feed::devices::{MemorySink, MemorySource};
+use lbk_cmd::{SAMPLE_FILES, read_cells};
+use lbk_feed::devices::MemorySource;
 use lbk_passage::{Segment, Segmenter};
-use lbk_rules::{CellPages, Profile};
-use std::alloc::Global;
+use lbk_rules::Profile;
 use std::test::Fail;
 
 /// The end of the longest snippet of at most `most` bytes from a passage's start; 0 if not even one segment fits.
@@ -29,17 +23,6 @@ fn snippet_end(segments: &[Segment], most: u32) -> u32
         }
     }
     end
-}
-
-/// What `show` writes for a text, in at most `room` bytes.
-fn shown(alloc: Global, cells: &CellPages, text: &str, room: usize) -> Result<MemorySink, CmdFault>
-    ensures { IfOk result (λ out. sink_bytes out
-        ≡ show_text (passages Profile.First (page_cell cells.now) (chars text.now))) }
-{
-    let mut reader = MemorySource::new(text.as_bytes());
-    let mut out = MemorySink::new(alloc, room)?;
-    show(alloc, &mut reader, &mut out, cells, 65_536, Profile::First)?;
-    Ok(out)
 }
 
 #[test]
@@ -58,9 +41,5 @@ fn guide(rt: HostRuntime) -> Result<(), Fail> {
         snippets.push((passage.start, snippet_end(passage.segments, 7)))?;
     }
     assert_eq!(&rt; snippets.as_slice(), [(0, 6), (9, 2)].as_slice());
-
-    let out = shown(rt.alloc(), &cells, "ab cd", 100)?;
-    let line = "× 0061 × 0062 × 0020 ÷ 0063 × 0064 !\t# 2 28 7 18 28 3\n";
-    assert_eq!(&rt; out.bytes(), line.as_bytes());
     Ok(())
 }

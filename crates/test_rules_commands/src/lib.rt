@@ -31,7 +31,6 @@ mod guide;
 #[cfg(test)]
 mod laws;
 #[cfg(test)]
-#[cfg(test)]
 mod owned_passages;
 #[cfg(test)]
 mod pages;
@@ -43,6 +42,8 @@ mod property_calls;
 mod reasons_told;
 #[cfg(test)]
 mod sample_ranges;
+#[cfg(test)]
+mod shown_text;
 #[cfg(test)]
 mod sizes_of_passages;
 #[cfg(test)]

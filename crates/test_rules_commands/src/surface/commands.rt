@@ -13,34 +13,24 @@ use std::alloc::Global;
 use std::test::Fail;
 use test_support::calls::pages_by;
 
+/// That a value has this type.
+fn is<T: Copy>(_value: T) -> bool {
+    true
+}
+
 fn fault(fault: CmdFault) -> bool {
     match fault {
-        CmdFault::Passage(fault) => {
-            let _: PassageFault = fault;
-            true
-        }
+        CmdFault::Passage(fault) => is::<PassageFault>(fault),
         CmdFault::Write | CmdFault::Memory => true,
     }
 }
 
 fn run_fault(fault: RunFault) -> bool {
     match fault {
-        RunFault::Load(which) => {
-            let _: Which = which;
-            true
-        }
-        RunFault::Tables(fault) => {
-            let _: UcdFault = fault;
-            true
-        }
-        RunFault::Cmd(fault) => {
-            let _: CmdFault = fault;
-            true
-        }
-        RunFault::Replay(fault) => {
-            let _: ReplayFault = fault;
-            true
-        }
+        RunFault::Load(which) => is::<Which>(which),
+        RunFault::Tables(fault) => is::<UcdFault>(fault),
+        RunFault::Cmd(fault) => is::<CmdFault>(fault),
+        RunFault::Replay(fault) => is::<ReplayFault>(fault),
         RunFault::Memory => true,
         // What only a run over texts, or with a folder, returns.
         RunFault::Open | RunFault::Claim(..) => false,

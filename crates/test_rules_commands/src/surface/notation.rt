@@ -3,26 +3,11 @@
 use lbk_cmd::SAMPLE_FILES;
 use lbk_feed::devices::{MemorySink, MemorySource};
 use lbk_feed::{Sink, Source};
-use lbk_notation::{
-    Form, LineFault, Mark, Outcome, ReplayFault, Report, TestLine, mark_text, read_line, replay,
-    replay_line, write_line,
-};
+use lbk_notation::{Form, LineFault, Mark, Outcome, ReplayFault, Report, TestLine, replay};
 use lbk_rules::{CellPages, CellSource, Profile, Verdict};
-use std::alloc::{AllocError, Global};
+use std::alloc::Global;
 use std::test::Fail;
-use test_support::calls::pages_by;
-
-fn mark(value: Mark) -> bool {
-    match value {
-        Mark::No | Mark::May | Mark::Must => true,
-    }
-}
-
-fn form(value: Form) -> bool {
-    match value {
-        Form::Plain | Form::Kinds => true,
-    }
-}
+use test_support::calls::{mark_text, pages_by, read_line, replay_line, write_line};
 
 fn line_fault(fault: LineFault) -> u32 {
     match fault {
@@ -49,32 +34,6 @@ fn outcome(outcome: Outcome) -> Option<(usize, Mark, Verdict)> {
     }
 }
 
-fn read(alloc: Global, bytes: &[u8], form: Form) -> Result<Option<TestLine>, LineFault> {
-    read_line(alloc, bytes, form)
-}
-
-fn written(alloc: Global, line: &TestLine, form: Form) -> Result<Vec<u8>, AllocError> {
-    write_line(alloc, line, form)
-}
-
-fn marked<C: CellSource>(
-    alloc: Global,
-    cells: &C,
-    text: &str,
-    profile: Profile,
-) -> Result<TestLine, AllocError> {
-    mark_text(alloc, cells, text, profile)
-}
-
-fn replayed_line<C: CellSource>(
-    cells: &C,
-    line: &TestLine,
-    form: Form,
-    profile: Profile,
-) -> Outcome {
-    replay_line(cells, line, form, profile)
-}
-
 fn replayed<R: Source, W: Sink, C: CellSource>(
     alloc: Global,
     (cells, form, profile): (&C, Form, Profile),
@@ -91,16 +50,19 @@ fn made(scalars: Vec<char>, marks: Vec<Mark>) -> Option<TestLine> {
 #[test]
 fn lines(rt: HostRuntime) -> Result<(), Fail> {
     let cells: CellPages = pages_by(rt.alloc(), SAMPLE_FILES)?;
-    let line: TestLine = marked(rt.alloc(), &cells, "ab", Profile::First)?;
+    let line: TestLine = mark_text(rt.alloc(), &cells, "ab", Profile::First)?;
     let scalars: &[char] = line.scalars();
     let marks: &[Mark] = line.marks();
-    assert!(&rt; scalars.len() == 2 && marks.len() == 3 && mark(Mark::Must) && form(Form::Kinds));
-    let text: Vec<u8> = written(rt.alloc(), &line, Form::Plain)?;
-    let again = read(rt.alloc(), text.as_slice(), Form::Plain);
+    assert!(&rt; scalars.len() == 2 && marks.len() == 3);
+    match (Mark::Must, Form::Kinds) {
+        (Mark::No | Mark::May | Mark::Must, Form::Plain | Form::Kinds) => {}
+    }
+    let text: Vec<u8> = write_line(rt.alloc(), &line, Form::Plain)?;
+    let again = read_line(rt.alloc(), text.as_slice(), Form::Plain);
     assert!(&rt; again.is_ok());
-    let bad = read(rt.alloc(), "× D800 ÷".as_bytes(), Form::Plain);
+    let bad = read_line(rt.alloc(), "× D800 ÷".as_bytes(), Form::Plain);
     assert_eq!(&rt; bad.map(|line| line.is_some()).map_err(line_fault), Err(7));
-    let same: Outcome = replayed_line(&cells, &line, Form::Kinds, Profile::First);
+    let same: Outcome = replay_line(&cells, &line, Form::Kinds, Profile::First);
     assert!(&rt; outcome(same).is_none());
     assert!(&rt; made(Vec::new(rt.alloc()), Vec::new(rt.alloc())).is_none());
     Ok(())

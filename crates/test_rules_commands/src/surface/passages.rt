@@ -1,13 +1,11 @@
 //! What `lbk_passage` exports: the segmenter, and what it lends.
 
 use lbk_cmd::SAMPLE_FILES;
-use lbk_feed::Source;
 use lbk_feed::devices::MemorySource;
-use lbk_passage::{Passage, PassageFault, Piece, Segment, Segmenter};
-use lbk_rules::{CellPages, CellSource, Kind, Profile, Rule, Verdict};
-use std::alloc::Global;
+use lbk_passage::{Passage, PassageFault, Piece, Segment};
+use lbk_rules::{CellPages, Kind, Profile, Rule, Verdict};
 use std::test::Fail;
-use test_support::calls::pages_by;
+use test_support::calls::{next_passage, pages_by, segmenter_of};
 
 fn fault(fault: PassageFault) -> u64 {
     match fault {
@@ -19,22 +17,6 @@ fn fault(fault: PassageFault) -> u64 {
         PassageFault::NotUtf8 { at } => at,
         PassageFault::ParagraphTooLong { start } => start,
     }
-}
-
-fn new<C: CellSource>(
-    alloc: Global,
-    cells: &C,
-    limit: u32,
-    profile: Profile,
-) -> Result<Segmenter<'_, C>, PassageFault> {
-    Segmenter::new(alloc, cells, limit, profile)
-}
-
-fn next<'a, C: CellSource, R: Source>(
-    segmenter: &'a mut Segmenter<'_, C>,
-    reader: &mut R,
-) -> Result<Option<Passage<'a>>, PassageFault> {
-    segmenter.next(reader)
 }
 
 fn segment(segment: Segment) -> (u32, u32, Kind, Rule) {
@@ -83,13 +65,13 @@ fn passage(
 #[test]
 fn passages(rt: HostRuntime) -> Result<(), Fail> {
     let cells: CellPages = pages_by(rt.alloc(), SAMPLE_FILES)?;
-    let refused = new(rt.alloc(), &cells, 0, Profile::First);
+    let refused = segmenter_of(rt.alloc(), &cells, 0, Profile::First);
     assert!(&rt; matches!(refused, Err(PassageFault::Limit)));
-    let segmenter = new(rt.alloc(), &cells, 4, Profile::First);
+    let segmenter = segmenter_of(rt.alloc(), &cells, 4, Profile::First);
     assert!(&rt; segmenter.is_ok());
     if let Ok(mut segmenter) = segmenter {
         let mut reader = MemorySource::new(b"ab\nc\xFF");
-        let lent = next(&mut segmenter, &mut reader).map(|lent| lent.map(passage));
+        let lent = next_passage(&mut segmenter, &mut reader).map(|lent| lent.map(passage));
         let (kind, rule) = (Kind::Must, Rule::Lb5);
         let want = (
             0,
@@ -99,7 +81,7 @@ fn passages(rt: HostRuntime) -> Result<(), Fail> {
             Verdict { kind, rule },
         );
         assert_eq!(&rt; lent, Ok(Some(want)));
-        let ended = next(&mut segmenter, &mut reader).map(|lent| lent.is_some());
+        let ended = next_passage(&mut segmenter, &mut reader).map(|lent| lent.is_some());
         assert_eq!(&rt; ended.map_err(fault), Err(4));
     }
     Ok(())

@@ -3,14 +3,13 @@
 use crate::calls::{decided, decided_in, late_step};
 use lbk_cmd::SAMPLE_FILES;
 use lbk_rules::{
-    Cell, CellPages, CellSource, Class, End, Kind, LateMachine, Machine, Out, Profile, Quote, Rule,
-    Verdict, decide, decide_in, laws, resolve,
+    Cell, CellPages, Class, End, Kind, LateMachine, Machine, Out, Profile, Quote, Rule, Verdict,
+    resolve,
 };
 use lbk_ucd::{Category, EastAsian, LineBreak, Tables};
-use std::alloc::{AllocError, Global};
 use std::process::Abort;
 use std::test::Fail;
-use test_support::calls::tables_of;
+use test_support::calls::{cell_of, pages_of, tables_of};
 
 /// The property value of the same name.
 fn class(value: Class) -> LineBreak {
@@ -100,32 +99,6 @@ fn rule(value: Rule) -> bool {
     }
 }
 
-fn quote(value: Quote) -> bool {
-    match value {
-        Quote::Neither | Quote::Initial | Quote::Final => true,
-    }
-}
-
-fn kind(value: Kind) -> bool {
-    match value {
-        Kind::No | Kind::May | Kind::Must => true,
-    }
-}
-
-fn profile(value: Profile) -> bool {
-    match value {
-        Profile::First | Profile::Second => true,
-    }
-}
-
-fn cell_of<C: CellSource>(source: &C, c: char) -> Cell {
-    source.cell(c)
-}
-
-fn pages(alloc: Global, tables: &Tables) -> Result<CellPages, AllocError> {
-    CellPages::build(alloc, tables)
-}
-
 fn letter() -> Cell {
     let wide: bool = false;
     let pict_cn: bool = false;
@@ -176,9 +149,12 @@ fn cells(rt: HostRuntime) -> Result<(), Fail> {
         letter,
     } = resolved;
     assert_eq!(&rt; class(its_class), LineBreak::Alphabetic);
-    assert!(&rt; !wide && !pict_cn && quote(its_quote) && letter);
+    assert!(&rt; !wide && !pict_cn && letter);
+    match its_quote {
+        Quote::Neither | Quote::Initial | Quote::Final => {}
+    }
     let tables: Tables = tables_of(rt.alloc(), SAMPLE_FILES)?;
-    let pages: CellPages = pages(rt.alloc(), &tables)?;
+    let pages: CellPages = pages_of(rt.alloc(), &tables)?;
     assert_eq!(&rt; cell_of(&tables, 'a'), cell_of(&pages, 'a'));
     Ok(())
 }
@@ -191,25 +167,16 @@ fn verdicts(rt: HostRuntime) -> Result<(), Fail> {
         rule: its_rule,
     } = decided(&rt, cells, 1);
     let label: &'static str = its_rule.label();
-    assert!(&rt; kind(its_kind) && rule(its_rule) && profile(Profile::Second));
+    match (its_kind, Profile::Second) {
+        (Kind::No | Kind::May | Kind::Must, Profile::First | Profile::Second) => {}
+    }
+    assert!(&rt; rule(its_rule));
     assert_eq!(&rt; label, "3");
+    let first: Verdict = decided_in(&rt, Profile::First, cells, 1);
+    assert_eq!(&rt; first, decided(&rt, cells, 1));
     let second: Verdict = decided_in(&rt, Profile::Second, cells, 1);
     let (before, after) = by_machine(letter());
     let (late_before, late_after) = by_late_machine(&rt, Profile::Second, letter());
     assert!(&rt; second == after && late_before == Some(before) && late_after == after);
-    Ok(())
-}
-
-/// The evaluator's own types, by the calls with a precondition.
-fn evaluated(cells: &[Cell]) -> (Verdict, Verdict) {
-    let k: usize = cells.len();
-    (decide(cells, k), decide_in(Profile::First, cells, k))
-}
-
-#[test]
-fn evaluator(rt: HostRuntime) -> Result<(), Fail> {
-    let (plain, first) = evaluated(&[letter()]);
-    assert_eq!(&rt; plain, first);
-    laws::paragraph();
     Ok(())
 }
