@@ -15,7 +15,7 @@ use Rattle.lbk_rules.proofs.NeighboursLemmas.{neighbours-told}
 use Rattle.lbk_rules.specs.FlatTable.{AreFlatKinds, AreKinds}
 use Rattle.lbk_rules.specs.Kinds.{kind_of}
 use Rattle.lbk_rules.proofs.KindsLemmas.{kind-few}
-use Rattle.lbk_rules.proofs.PagesLemmas.{scalar_below}
+use Rattle.lbk_uax14.proofs.PagesLemmas.{scalar_below}
 use Rattle.lbk_rules.proofs.RowMachineLemmas.{kind_same}
 
 -- a code has the kind of its cell

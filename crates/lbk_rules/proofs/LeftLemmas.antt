@@ -8,7 +8,7 @@ use Rattle.lbk_uax14.specs.declared.classes.Class.TheVariants.{Alphabetic}
 use Rattle.lbk_uax14.specs.declared.facts.Before.{Before}
 use Rattle.lbk_uax14.specs.declared.facts.Left.{Left}
 use Rattle.lbk_uax14.specs.Units.{letter}
-use Rattle.lbk_rules.proofs.PagesLemmas.{cell_Decides, class_Decides, five_Decide}
+use Rattle.lbk_uax14.proofs.PagesLemmas.{cell_Decides, class_Decides, five_Decide}
 
 before_from_fields : (one other : Before) → one.last ≡ other.last → one.before_spaces ≡ other.before_spaces
     → one.hebrew_hyphen ≡ other.hebrew_hyphen → one.odd_indicators ≡ other.odd_indicators

@@ -15,7 +15,7 @@ pub use Rattle.lbk_uax14.proofs.StepLemmas
 pub use Rattle.lbk_uax14.proofs.NormalLemmas
 pub use Rattle.lbk_uax14.proofs.MarkLemmas
 pub use Rattle.lbk_uax14.proofs.JoinLemmas
-pub mod PagesLemmas
+pub use Rattle.lbk_uax14.proofs.PagesLemmas
 pub mod PagesOfText
 pub mod KindsLemmas
 pub mod CellTableLemmas

@@ -24,6 +24,8 @@ pub use Rattle.lbk_uax14.specs.Codes
 pub use Rattle.lbk_uax14.specs.Facts
 pub use Rattle.lbk_uax14.specs.Fits
 pub use Rattle.lbk_uax14.specs.LateFits
+pub use Rattle.lbk_uax14.specs.PageCells
+pub use Rattle.lbk_uax14.specs.Pages
 pub mod CellOfTables
 pub mod CellPages
 pub mod CellTable
@@ -33,7 +35,6 @@ pub mod KindTable
 pub mod Kinds
 pub mod Letters
 pub mod Neighbours
-pub mod Pages
 pub mod RowMachineFits
 pub mod Rows
 pub mod StepperFits

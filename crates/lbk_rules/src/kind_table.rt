@@ -7,7 +7,7 @@ use crate::flat_table::CODES;
 use crate::kinds::{KINDS, kind_of};
 use crate::runs::CellRuns;
 use crate::walk::Walk;
-use lbk_uax14::Cell;
+use lbk_uax14::{Cell, CellWalk};
 use std::alloc::{AllocError, Global};
 
 /// The kind of each of the first codes.

@@ -16,7 +16,7 @@ pub(crate) struct CellRun {
 /// Something that knows the cells of ranges of codes.
 pub(crate) trait CellRuns {
     ghost use Rattle.lbk_uax14.specs.declared.cells.Cell.{Cell};
-    ghost use Rattle.lbk_rules.specs.Pages.{AreSame};
+    ghost use Rattle.lbk_uax14.specs.Pages.{AreSame};
 
     ghost cell_at: { Self → ℕ → Cell };
 

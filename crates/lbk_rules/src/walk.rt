@@ -4,12 +4,13 @@ ghost use Rattle.std.specs.Prelude.{◌≡◌, ℕ, ◌+◌, ◌<◌, ◌≤◌,
 ghost use Rattle.lbk_rules.specs.FirstBytes.{AreQuietTo};
 ghost use Rattle.lbk_rules.specs.KindTable.{kind_at};
 ghost use Rattle.lbk_rules.specs.Kinds.{kind_of};
-ghost use Rattle.lbk_rules.specs.Pages.{AreSame};
+ghost use Rattle.lbk_uax14.specs.Pages.{AreSame};
 ghost use Rattle.lbk_uax14.specs.declared.cells.Cell.{Cell};
 
 use crate::first_bytes::leave_out;
 use crate::kind_table::KindTable;
 use crate::runs::{CellRun, CellRuns};
+use lbk_uax14::{CellRange, CellWalk};
 use lbk_ucd::Places;
 use std::alloc::{AllocError, Global};
 
@@ -59,9 +60,26 @@ impl<'a, C: CellRuns> Walk<'a, C> {
             quiet_first_bytes,
         })
     }
+}
+
+impl<'a, C: CellRuns> CellWalk for Walk<'a, C> {
+    ghost use Rattle.lbk_uax14.specs.declared.ranges.CellRange.{CellRange};
+
+    ghost cell_at = { λ walk. C.cell_at walk.source.now };
+
+    ghost at = { λ walk. record { first = walk.first; last = walk.run.last; cell = walk.run.cell } };
+
+    #[inline(always)]
+    fn range(&self) -> CellRange {
+        CellRange {
+            first: self.first,
+            last: self.run.last,
+            cell: self.run.cell,
+        }
+    }
 
     /// Goes on to the next range. On an error it stays where it is.
-    pub(crate) fn go_on(&mut self) -> Result<(), AllocError>
+    fn go_on(&mut self) -> Result<(), AllocError>
         requires { self.old.run.last < 0x10FFFF }
         ensures source { self.new.source.now ≡ self.old.source.now }
         ensures most { self.new.most ≡ self.old.most }

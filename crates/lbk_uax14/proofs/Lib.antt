@@ -15,3 +15,4 @@ pub mod StepLemmas
 pub mod NormalLemmas
 pub mod MarkLemmas
 pub mod JoinLemmas
+pub mod PagesLemmas

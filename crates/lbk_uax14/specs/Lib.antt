@@ -22,3 +22,5 @@ pub mod Codes
 pub mod Facts
 pub mod Fits
 pub mod LateFits
+pub mod PageCells
+pub mod Pages

@@ -1,6 +1,6 @@
 use Rattle.std.proofs.Common.{sym, ◌∙◌}
 use Rattle.lbk_rules.proofs.CellTableLemmas.{kinds-at}
-use Rattle.lbk_rules.proofs.PagesLemmas.{scalar_below}
+use Rattle.lbk_uax14.proofs.PagesLemmas.{scalar_below}
 use Rattle.lbk_rules.proofs.cell_table.CellTableKindSource.kind_at.Goals as goal
 
 pub returns-in-Some : goal.returns-in-Some

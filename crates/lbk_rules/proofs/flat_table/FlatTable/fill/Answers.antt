@@ -4,7 +4,7 @@ use Rattle.lbk_rules.specs.CellOfTables.{cell_of_tables}
 use Rattle.lbk_rules.specs.Kinds.{kind_cell}
 use Rattle.lbk_rules.specs.KindTable.{kind_at}
 use Rattle.lbk_rules.proofs.KindsLemmas.{kind-cell, real-kind}
-use Rattle.lbk_rules.proofs.PagesLemmas.{scalar_below}
+use Rattle.lbk_uax14.proofs.PagesLemmas.{scalar_below}
 use Rattle.lbk_rules.proofs.flat_table.FlatTable.fill.Goals as goal
 
 copied : (c : goal.After-drop-kinds) → IsTrue c.complete.result

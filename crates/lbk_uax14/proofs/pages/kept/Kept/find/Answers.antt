@@ -1,9 +1,9 @@
 use Rattle.std.proofs.Common.{◌<◌, true, false, refl, length, get_or, [], arith, ap, sym, ◌∙◌, below_more}
 use Rattle.std.proofs.lemmas.Bool.{false≢true}
 use Rattle.std.proofs.lemmas.List.{get_or_read, get_or_default}
-use Rattle.lbk_rules.proofs.PagesLemmas.{digest_at, digests_length, page_Decides}
-use Rattle.lbk_rules.proofs.pages.kept.Kept.find.Goals as goal
-use Rattle.lbk_rules.proofs.pages.kept.Kept.find.Goals.{else-known-digest-via-then-known-digest+else-eq, else-known-digest-via-else-known-digest}
+use Rattle.lbk_uax14.proofs.PagesLemmas.{digest_at, digests_length, page_Decides}
+use Rattle.lbk_uax14.proofs.pages.kept.Kept.find.Goals as goal
+use Rattle.lbk_uax14.proofs.pages.kept.Kept.find.Goals.{else-known-digest-via-then-known-digest+else-eq, else-known-digest-via-else-known-digest}
 
 pub returns-then-eq : goal.returns-then-eq
 returns-then-eq c =

@@ -14,7 +14,7 @@ use Rattle.lbk_uax14.specs.contracts.cells.CellPartialEq.TheImpl.{eq-value}
 use Rattle.lbk_uax14.specs.declared.cells.Cell.{Cell}
 use Rattle.lbk_uax14.specs.declared.classes.Class.{Class}
 use Rattle.lbk_uax14.specs.declared.classes.Quote.{Quote}
-use Rattle.lbk_rules.specs.Pages.{AreSame, IsPageOf, cell_in, digest_of, page_at}
+use Rattle.lbk_uax14.specs.Pages.{AreSame, IsPageOf, cell_in, digest_of, page_at}
 
 pub class_Decides : (one other : Class) → Decides (sameb class_type one other) (one ≡ other)
 class_Decides one other = (same_true class_type tt one other, true_same class_type one other)

@@ -2,10 +2,10 @@
 
 ghost use Rattle.std.specs.Prelude.{◌≡◌, ◌≢◌, ℕ, ◌+◌, ◌<◌, ◌≤◌, ◌^◌, length, map, slice_index_or, [], ◌∷◌, ◌++◌};
 ghost use Rattle.std.specs.Prelude.{IfOk, MatchOption, All};
-ghost use Rattle.lbk_rules.specs.Pages.{AreDistinct, cell_number, digest_of, digest_with, mixed, with_run};
+ghost use Rattle.lbk_uax14.specs.Pages.{AreDistinct, cell_number, digest_of, digest_with, mixed, with_run};
 
 use super::Page;
-use lbk_uax14::Cell;
+use crate::cells::Cell;
 use std::alloc::{AllocError, Global};
 
 /// A page with its digest.

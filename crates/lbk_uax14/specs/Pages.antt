@@ -7,7 +7,7 @@ use Rattle.lbk_uax14.specs.declared.classes.Quote.{Quote}
 use Rattle.lbk_uax14.specs.declared.classes.Quote.TheVariants.{Neither, Initial, Final}
 use Rattle.lbk_uax14.specs.Classes.{place}
 use Rattle.lbk_uax14.specs.Units.{letter}
-use Rattle.lbk_rules.specs.declared.pages.kept.CellSum.{CellSum}
+use Rattle.lbk_uax14.specs.declared.pages.kept.CellSum.{CellSum}
 
 -- the page holds the cells of the 256 codes from `first` on
 abbrev pub IsPageOf : (ℕ → Cell) → ℕ → List Cell → Type 0
