@@ -1,4 +1,4 @@
-use Rattle.std.proofs.Common.{◌≡◌, ◌+◌, ◌∙◌, ap, sym, arith}
+use Rattle.std.proofs.Common.{◌∙◌, ap, sym, arith}
 use Rattle.lbk_uax14.specs.Ends.{ends_line}
 use Rattle.lbk_uax14.proofs.PagesLemmas.{scalar_below}
 use Rattle.lbk_rules.specs.CellPages.{page_cell}
