@@ -1,8 +1,6 @@
 pub mod Deciding
 pub mod LineWriting
 pub mod PassageLines
-pub mod Pairs
-pub mod Places
 pub mod Breaking
 pub mod InMemory
 pub mod ReadingBack

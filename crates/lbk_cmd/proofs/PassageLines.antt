@@ -9,7 +9,7 @@ use Rattle.lbk_passage.specs.Pieces.{pieces_of}
 use Rattle.lbk_passage.specs.State.{State}
 use Rattle.lbk_passage.specs.Next.{IsPassage}
 use Rattle.lbk_passage.specs.declared.passage.Passage.{Passage}
-use Rattle.lbk_cmd.specs.Segment.{passage_lines, segmented_passage}
+use Rattle.lbk_passage.specs.Lines.{passage_lines, segmented_passage}
 use Rattle.lbk_cmd.specs.Show.{verdicts_of, shown_passage}
 
 pub shown-is : (cell : ℕ → Cell) (profile : Profile) (s : State) (ms : List Marked) (p : Passage) → s.cell ≡ cell → s.profile ≡ profile → IsPassage s ms p

@@ -10,6 +10,7 @@ use Rattle.lbk_rules.specs.Labels.{label_of}
 use Rattle.lbk_rules.specs.declared.Cell.{Cell}
 use Rattle.lbk_values.specs.declared.profile.Profile.{Profile}
 use Rattle.lbk_passage.specs.Marks.{Marked, text_of}
+use Rattle.lbk_passage.specs.Lines.{kind_name, part}
 use Rattle.lbk_chunks.specs.declared.chunk.Chunk.{Chunk}
 use Rattle.lbk_chunks.specs.declared.chunk.Limits.{Limits}
 use Rattle.lbk_chunks.specs.Chunks.{AreChunks, text_start}
@@ -20,7 +21,6 @@ use Rattle.lbk_args.specs.declared.order.Part.{Part}
 use Rattle.lbk_args.specs.declared.order.Sizes.{Sizes}
 use Rattle.lbk_cmd.specs.Ranges.{begins_in}
 use Rattle.lbk_cmd.specs.Run.{Writing}
-use Rattle.lbk_cmd.specs.Segment.{kind_name, part}
 use Rattle.lbk_cmd.specs.declared.chunked.Asked.{Asked}
 
 -- C, a chunk's start and end, its number of words, and the kind and the rule at its end

@@ -3,9 +3,9 @@ use Rattle.std.specs.Prelude.{ℕ, List}
 use Rattle.lbk_rules.specs.declared.Cell.{Cell}
 use Rattle.lbk_values.specs.declared.profile.Profile.{Profile}
 use Rattle.lbk_passage.specs.Marks.{Marked}
+use Rattle.lbk_passage.specs.Lines.{segmented_passage}
 use Rattle.lbk_cmd.specs.Mark.{signed_passage}
 use Rattle.lbk_cmd.specs.Run.{Engine}
-use Rattle.lbk_cmd.specs.Segment.{segmented_passage}
 use Rattle.lbk_cmd.specs.Show.{shown_passage}
 use Rattle.lbk_cmd.specs.declared.engine.Breaking.{Breaking}
 use Rattle.lbk_cmd.specs.declared.engine.Lines.{Lines}

@@ -1,6 +1,5 @@
 -- What a reader has to believe.
 pub mod Show
-pub mod Segment
 pub mod Mark
 pub mod Texts
 pub mod Run
@@ -23,8 +22,6 @@ pub mod Deciding
 pub mod Gathering
 pub mod Signing
 pub mod ReadBack
-pub mod Adding
-pub mod Placing
 pub mod Waiting
 pub mod Objects
 pub mod Chunking

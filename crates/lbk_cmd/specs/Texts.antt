@@ -2,9 +2,9 @@
 use Rattle.std.specs.Prelude.{ℕ, ◌+◌, List, [], ◌∷◌, ◌++◌, length}
 use Rattle.lbk_rules.specs.declared.Cell.{Cell}
 use Rattle.lbk_passage.specs.Marks.{Marked, text_of}
+use Rattle.lbk_passage.specs.Lines.{segmented_passage}
 use Rattle.lbk_cmd.specs.Mark.{signed_passage}
 use Rattle.lbk_cmd.specs.Show.{shown_passage}
-use Rattle.lbk_cmd.specs.Segment.{segmented_passage}
 
 -- the lines of successive passages; `lines` has those of a passage that begins at a byte of the text, and the first one
 -- begins at `start`

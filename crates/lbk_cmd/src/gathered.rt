@@ -15,12 +15,11 @@ ghost use Rattle.lbk_cmd.specs.Writing.{WritesDue, WritesOut};
 
 use super::engine::{Breaking, Lines, TextLines};
 use super::faults::CmdFault;
-use super::offsets::Offsets;
-use super::segmented::push_segmented;
 use super::shown::{decide, push_shown};
 use super::signed::{BLOCK, NO_BREAKS, push_signed};
 use lbk_args::Part;
 use lbk_feed::{Failed, Sink, Source, write_all};
+use lbk_passage::lines::{Offsets, push_segmented};
 use lbk_passage::{Break, Segmenter};
 use lbk_rules::{CellSource, Verdict};
 use std::alloc::{AllocError, Global};

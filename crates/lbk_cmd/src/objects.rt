@@ -4,12 +4,12 @@ ghost use Rattle.std.specs.Prelude.{◌≡◌, ◌+◌, ◌<◌, ◌≤◌, leng
 ghost use Rattle.std.specs.Char.{digit_char};
 ghost use Rattle.json.specs.Print.{escape_byte, escape_letter};
 ghost use Rattle.lbk_chunk_reader.specs.Numbered.{numbered_chunk};
-ghost use Rattle.lbk_cmd.specs.Placing.{Placed};
+ghost use Rattle.lbk_passage.specs.Placing.{Placed};
 ghost use Rattle.lbk_cmd.specs.Objects.{front_of_object};
 
-use super::placing::{place_byte, place_front};
 use super::waiting::place_number;
 use lbk_chunk_reader::Chunk;
+use lbk_passage::lines::{place_byte, place_front};
 
 /// Writes the object of a chunk up to its text.
 pub fn place_front_of_object(line: &mut [u8], at: usize, chunk: &Chunk) -> usize

@@ -7,8 +7,8 @@ ghost use Rattle.lbk_notation.specs.Shown.{passage_line, written_labels, passage
 ghost use Rattle.lbk_notation.specs.Written.{written_line};
 ghost use Rattle.lbk_notation.specs.declared.marks.Form.TheVariants.{Kinds};
 ghost use Rattle.lbk_passage.specs.Marks.{marks, ended};
+ghost use Rattle.lbk_passage.specs.Adding.{Adds};
 ghost use Rattle.lbk_rules.specs.Answers.{written};
-ghost use Rattle.lbk_cmd.specs.Adding.{Adds};
 ghost use Rattle.lbk_cmd.specs.Show.{verdicts_of};
 ghost use Rattle.lbk_cmd.specs.Deciding.{IsPassageText, placed};
 
@@ -64,7 +64,7 @@ fn now_or_none(now: Option<Verdict>) -> Verdict
 
 /// Appends the line of a passage to `out`, with its line end: the marks of its positions with its scalars between them,
 /// a tab, `#`, and the number of the rule that decided each position. After an error some of it may be appended.
-#[tactic(auto, using(crate::proofs::Places::front_append))]
+#[tactic(auto, using(lbk_passage::proofs::Places::front_append))]
 pub fn push_shown(out: &mut Vec<u8>, text: &str, verdicts: &[Verdict]) -> Result<(), AllocError>
     requires { length verdicts.now ≡ length (chars text.now) + 1 }
     ensures { Adds out.old.items out.new.items (passage_line (chars text.now) verdicts.now ++ 10 ∷ []) result }
@@ -76,7 +76,7 @@ pub fn push_shown(out: &mut Vec<u8>, text: &str, verdicts: &[Verdict]) -> Result
     Ok(())
 }
 
-#[tactic(auto, using(crate::proofs::Places::front_append))]
+#[tactic(auto, using(lbk_passage::proofs::Places::front_append))]
 fn push_marks(out: &mut Vec<u8>, text: &str, verdicts: &[Verdict]) -> Result<(), AllocError>
     requires { length verdicts.now ≡ length (chars text.now) + 1 }
     ensures { Adds out.old.items out.new.items (written_line Kinds (passage_marks (chars text.now) verdicts.now))

@@ -7,7 +7,7 @@ ghost use Rattle.std.specs.Option.{option_map_or};
 ghost use Rattle.std.specs.Str.{chars};
 ghost use Rattle.lbk_rules.specs.Breaks.{breaks};
 ghost use Rattle.lbk_rules.specs.declared.Break.{Break};
-ghost use Rattle.lbk_cmd.specs.Adding.{Adds};
+ghost use Rattle.lbk_passage.specs.Adding.{Adds};
 ghost use Rattle.lbk_cmd.specs.Mark.{is_line_end, missing_line_end, sign};
 ghost use Rattle.lbk_cmd.specs.Signing.{IsCut, signed_from};
 
@@ -27,7 +27,7 @@ pub const NO_BREAKS: [Break; BLOCK] = [Break {
 
 /// Appends the text of a passage to `out`, with a mark at each position where a line may end, and with a line end if
 /// the text has none. `block` is a list to work in. After an error some of it may be appended.
-#[tactic(auto, using(crate::proofs::Places::front_append))]
+#[tactic(auto, using(lbk_passage::proofs::Places::front_append))]
 pub fn push_signed<C: CellSource>(
     out: &mut Vec<u8>,
     mark: &str,
@@ -79,7 +79,7 @@ fn push_rest(out: &mut Vec<u8>, text: &[u8], start: usize) -> Result<(), AllocEr
 
 /// Appends the text from byte `start` up to the last of these breaks to `out`, with their signs, and returns where the
 /// rest begins.
-#[tactic(auto, using(crate::proofs::Places::front_append))]
+#[tactic(auto, using(lbk_passage::proofs::Places::front_append))]
 fn push_block(
     out: &mut Vec<u8>,
     mark: &str,

@@ -3,20 +3,19 @@
 ghost use Rattle.std.specs.Prelude.{◌≡◌, ◌+◌, ◌≤◌, [], length, decimal};
 ghost use Rattle.std.specs.Prelude.{OnOk, option_map};
 ghost use Rattle.lbk_passage.specs.Shown.{state_of};
+ghost use Rattle.lbk_passage.specs.Placing.{Placed, PlacedIn};
 ghost use Rattle.lbk_chunk_reader.specs.Numbered.{numbered_chunk};
 ghost use Rattle.json.specs.Print.{escape};
 ghost use Rattle.lbk_cmd.specs.Chunk.{chunk_line, is_asked, line_in, object_line};
-ghost use Rattle.lbk_cmd.specs.Placing.{PlacedIn};
 ghost use Rattle.lbk_cmd.specs.Writing.{PutsBehind, WritesDue, WritesOut};
 
 use super::objects::{place_escaped, place_front_of_object};
-use super::placing::{place_byte, place_few, place_front};
-use super::segmented::place_kind;
 use itoa::write_digits;
 use lbk_args::Part;
 use lbk_chunk_reader::Chunk;
 use lbk_feed::{Failed, Sink, write_all};
 use lbk_passage::Segmenter;
+use lbk_passage::lines::{place_byte, place_front, place_kind};
 use lbk_rules::CellSource;
 
 /// How many bytes are buffered at most.
@@ -185,4 +184,25 @@ pub(crate) fn place_number(line: &mut [u8], at: usize, number: usize) -> usize
     let behind = at + digits.len();
     line[at..behind].copy_from_slice(digits);
     behind
+}
+
+/// Writes a text of at most three bytes.
+#[inline(always)]
+fn place_few(buf: &mut [u8], at: usize, text: &[u8]) -> usize
+    requires { (length text.now ≤ 3) × (at + 3 ≤ length buf.old) }
+    ensures { Placed buf.old buf.new at text.now result }
+{
+    match text {
+        [] => at,
+        [only] => place_byte(buf, at, *only),
+        [first, second] => {
+            let next = place_byte(buf, at, *first);
+            place_byte(buf, next, *second)
+        }
+        [first, second, third, ..] => {
+            let next = place_byte(buf, at, *first);
+            let last = place_byte(buf, next, *second);
+            place_byte(buf, last, *third)
+        }
+    }
 }

@@ -26,3 +26,5 @@ pub mod SameCells
 pub mod ReadLemmas
 pub mod FoundLemmas
 pub mod KeptLemmas
+pub mod Pairs
+pub mod Places

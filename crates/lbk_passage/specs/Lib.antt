@@ -12,6 +12,9 @@ pub mod Laws
 pub mod Runs
 pub use Rattle.lbk_rules.specs.Joins
 pub mod Parts
+pub mod Lines
+pub mod Adding
+pub mod Placing
 -- What only carries proofs.
 pub mod Faults
 pub mod Stays

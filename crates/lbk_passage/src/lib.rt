@@ -3,7 +3,8 @@
 //! Segments end at line breaks (Unicode Standard Annex #14), and words are those of Annex #29.
 //!
 //! [`Breaks`] finds the breaks of a text in memory, a block at a time or one by one. It takes any source of cells, and
-//! is fast with `CellPages` of the crate `lbk_rules`. A [`Segmenter`] reads bytes, and returns passage after passage.
+//! is fast with `CellPages` of the crate `lbk_rules`. A [`Segmenter`] reads bytes, and returns passage after passage;
+//! [`lines`] writes one as `lbk segment` does.
 #![tactic(auto)]
 
 mod breaks;
@@ -14,6 +15,7 @@ mod found;
 mod kept;
 mod known;
 pub mod laws;
+pub mod lines;
 mod paragraph;
 mod passage;
 mod pieces;

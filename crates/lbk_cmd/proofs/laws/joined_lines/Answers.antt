@@ -1,4 +1,4 @@
-use Rattle.lbk_cmd.specs.Segment.{segmented_passage}
+use Rattle.lbk_passage.specs.Lines.{segmented_passage}
 use Rattle.lbk_cmd.specs.Show.{shown_passage}
 use Rattle.lbk_cmd.proofs.Joined.{joined-lines, joined-signed}
 use Rattle.lbk_cmd.proofs.Relabeling.{differs}

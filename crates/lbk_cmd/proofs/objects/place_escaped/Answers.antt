@@ -2,7 +2,7 @@ use Rattle.std.proofs.Common.{◌≡◌, ◌≤◌, ◌<◌, ℕ, ◌/◌, ◌%�
 use Rattle.std.specs.Char.{digit_char}
 use Rattle.std.proofs.lemmas.Bool.Decides.{nat_tests}
 use Rattle.json.specs.Print.{escape_byte, escape_letter}
-use Rattle.lbk_cmd.specs.Placing.{Placed}
+use Rattle.lbk_passage.specs.Placing.{Placed}
 use Rattle.lbk_cmd.proofs.objects.place_escaped.Goals as goal
 
 by-letter : (x letter : ℕ) → letter ≡ escape_letter x → 0 < letter → 92 ∷ letter ∷ [] ≡ escape_byte x

@@ -6,8 +6,8 @@ use Rattle.lbk_notation.specs.declared.marks.Form.TheVariants.{Kinds}
 use Rattle.lbk_rules.specs.declared.Verdict.{Verdict}
 use Rattle.lbk_rules.specs.declared.Kind.TheVariants.{No}
 use Rattle.lbk_rules.specs.declared.Rule.TheVariants.{Lb2}
+use Rattle.lbk_passage.proofs.Places.{front_append}
 use Rattle.lbk_cmd.proofs.LineWriting.{Writes-step, Writes-end}
-use Rattle.lbk_cmd.proofs.Places.{front_append}
 use Rattle.lbk_cmd.proofs.shown.push_marks.Goals as goal
 
 pub loop-c-preserved : goal.loop-c-preserved

@@ -1,8 +1,8 @@
 use Rattle.std.proofs.Common.{◌≤◌, ◌++◌, [], drop, length, take, append-nil, refl, sym, ap, subst, ◌∙◌, arith}
 use Rattle.std.proofs.lemmas.List.{take_all, take-append-drop}
 use Rattle.std.proofs.lemmas.Result.{on_ok_weaker}
+use Rattle.lbk_passage.proofs.Places.{front_then}
 use Rattle.lbk_cmd.specs.Signing.{IsCut, signed_from}
-use Rattle.lbk_cmd.proofs.Places.{front_then}
 use Rattle.lbk_cmd.proofs.Signing.{cut-front}
 use Rattle.lbk_cmd.proofs.signed.push_text.Goals as goal
 

@@ -1,10 +1,10 @@
 use Rattle.std.proofs.Common.{◌≡◌, ◌++◌, ◌∷◌, [], decimal, ap, ap₂, subst, sym, ◌∙◌, rules}
 use Rattle.lbk_rules.specs.Labels.{label_of}
 use Rattle.lbk_rules.proofs.ShownLemmas.{kind-back, rule-back}
-use Rattle.lbk_cmd.specs.Placing.{Placed}
-use Rattle.lbk_cmd.specs.Segment.{kind_name}
+use Rattle.lbk_passage.specs.Placing.{Placed}
+use Rattle.lbk_passage.specs.Lines.{kind_name}
+use Rattle.lbk_passage.proofs.Places.{Placed-then}
 use Rattle.lbk_cmd.proofs.ChunkLines.{parts-joined}
-use Rattle.lbk_cmd.proofs.Places.{Placed-then}
 use Rattle.lbk_cmd.proofs.waiting.place_chunk.Goals as goal
 
 pub returns : goal.returns
