@@ -5,10 +5,12 @@ use Rattle.std.proofs.Math.ListN.{set}
 use Rattle.std.proofs.lemmas.List.{take-set, take_more_set}
 use Rattle.ucd_breaks.specs.WordBreak.{word_break}
 use Rattle.unicode_segmentation.specs.Word.{significant, value_at}
+use Rattle.lbk_words.specs.declared.steps.NextStep.{NextStep}
 use Rattle.lbk_words.specs.declared.steps.Step.{Step}
 use Rattle.lbk_words.specs.Contexts.{context_after, context_of}
 use Rattle.lbk_words.specs.Letters.{is_letter_or_number}
 use Rattle.lbk_words.specs.Ends.{AreParts, IsReading}
+use Rattle.lbk_words.specs.Filling.{IsNextStep}
 use Rattle.lbk_words.specs.Places.{IsFirstPiece, IsReadAt}
 use Rattle.lbk_words.specs.Rows.{IsStep, row_word}
 use Rattle.lbk_words.specs.Words.{scalars_on}
@@ -48,6 +50,13 @@ pub reading-taken : (text : List ℕ) (from at row count c end : ℕ) (out : Lis
     → IsReadAt text at c end → IsStep row c (value_at (significant (scalars_on text end)) 0) step
     → IsReading text from end step.next (count + from_bool step.cuts) (set out count at)
 reading-taken text from at row count c end out step r some read is = reading-by text from at row count c end out step step.cuts r some read is refl
+
+-- one scalar more, where so many parts ended
+pub reading-on : {text : List ℕ} {from at row count n : ℕ} {out : List ℕ} {next : NextStep} → IsNextStep text row at next → count < length out
+    → n ≡ from_bool next.step.cuts → IsReading text from at row count out → IsReading text from next.end next.step.next (count + n) (set out count at)
+reading-on {text} {from} {at} {row} {count} {n} {out} {next} is some few r =
+    subst (λ n. IsReading text from next.end next.step.next (count + n) (set out count at)) (sym few)
+    (reading-taken text from at row count is.code next.end out next.step r some is.read is.step)
 
 -- the last byte of a text is a part, if it is a scalar by itself
 pub lone-part : (text : List ℕ) (at : ℕ) → length text ≡ at + 1 → slice_index text at < 128 → (is_word : Bool) × IsFirstPiece text at (at + 1) is_word

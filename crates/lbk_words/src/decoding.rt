@@ -47,6 +47,28 @@ pub(crate) fn scalar_of_few(bytes: &[u8]) -> Option<Coded>
     Some(Coded { code, size: 3 })
 }
 
+/// The scalar at the front of three bytes or more, by few comparisons, where its first byte is that of a scalar of three
+/// bytes and neither 0xE0 nor 0xED, which not every continuation byte may follow.
+#[inline(always)]
+pub(crate) fn scalar_of_three(bytes: &[u8]) -> Option<Coded>
+    requires { 3 ≤ length bytes.now }
+    ensures { IfSome result (λ scalar. decoded bytes.now ≡ good scalar.code scalar.size) }
+{
+    let first = bytes[0];
+    if first <= 0xE0 || 0xEF < first || first == 0xED {
+        return None;
+    }
+    let next = bytes[1];
+    let last = bytes[2];
+    if !is_continuation(next) || !is_continuation(last) {
+        return None;
+    }
+    Some(Coded {
+        code: code_of_three(first, next, last),
+        size: 3,
+    })
+}
+
 /// Whether a byte may follow the first byte of a scalar.
 #[inline(always)]
 fn is_continuation(byte: u8) -> bool

@@ -2,11 +2,11 @@
 
 ghost use Rattle.std.specs.Prelude.{◌≡◌, ℕ, ◌-◌, ◌<◌, ◌≤◌, get_or, length, take};
 ghost use Rattle.lbk_masks.specs.Sets.{is_set};
-ghost use Rattle.lbk_words.specs.Ends.{AreEnds, AreParts, AreTold, is_pair};
+ghost use Rattle.lbk_words.specs.Ends.{AreEnds, AreParts, AreTold, IsReading, is_pair};
 
 use crate::blocks::{BLOCK, marks_of, wides_of};
 use crate::scalars::scalar_at;
-use crate::steps::{first_row, next_step};
+use crate::steps::{first_row, next_step, step_of_three};
 use lbk_masks::{HalfSets, first_set, kept_below, kept_from};
 
 /// Fewer bytes than this are left to steps.
@@ -14,6 +14,20 @@ const FEW: usize = 16;
 
 /// The first byte value with which few letters of two bytes begin, or longer ones do.
 const LONG: u8 = 0xDC;
+
+/// The first byte value with which scalars of three bytes or more begin.
+const WIDE: u8 = 0xE0;
+
+/// How far the parts of a text were read.
+#[derive(Clone, Copy)]
+struct Reading {
+    /// How many ends were found.
+    count: usize,
+    /// The byte after the scalars of the part so far.
+    at: usize,
+    /// The row of the part so far.
+    row: usize,
+}
 
 /// The sets of the bytes of which two are one part.
 const PAIRS: HalfSets = HalfSets {
@@ -47,18 +61,53 @@ pub fn fill_ends(text: &[u8], start: usize, out: &mut [usize]) -> usize
         // Written whether the part ends there or not, so that no branch depends on it.
         out[count] = at;
         count += usize::from(next.step.cuts);
-        if count == out.len() {
-            return count;
-        }
         let ends_here = may_tell(&text[at..]) & next.step.cuts;
         if ends_here {
             return count;
         }
-        at = next.end;
-        row = next.step.next;
+        let read = Reading {
+            count,
+            at: next.end,
+            row: next.step.next,
+        };
+        let there = read_threes(text, text[at], read, out);
+        count = there.count;
+        if count == out.len() {
+            return count;
+        }
+        at = there.at;
+        row = there.row;
     }
     out[count] = at;
     count + 1
+}
+
+/// Goes on by scalars of three bytes where the scalar before begins with such a byte, since they come in runs.
+#[inline(always)]
+fn read_threes(text: &[u8], before: u8, from: Reading, out: &mut [usize]) -> Reading
+    requires { (from.row < 43) × (from.at ≤ length text.now) × (from.count ≤ length out.old) }
+    ensures reads { (start : ℕ) → IsReading text.now start from.at from.row from.count out.old
+        → IsReading text.now start result.at result.row result.count out.new }
+    ensures onward { (from.at ≤ result.at) × (from.count ≤ result.count) }
+    ensures within { (result.at ≤ length text.now) × (result.count ≤ length out.old) }
+    ensures row { result.row < 43 }
+{
+    let mut here = from;
+    if before < WIDE {
+        return here;
+    }
+    'threes: while here.count < out.len() && 3 <= text.len() - here.at {
+        let Some(next) = step_of_three(here.row, text, here.at) else {
+            break;
+        };
+        out[here.count] = here.at;
+        here = Reading {
+            count: here.count + usize::from(next.step.cuts),
+            at: next.end,
+            row: next.step.next,
+        };
+    }
+    here
 }
 
 /// Where the next parts of a text end, from a boundary on, as far as bits tell it: a bit for each byte from there on, the

@@ -1,13 +1,13 @@
 //! The scalars of a text, read from its bytes.
 
-ghost use Rattle.std.specs.Prelude.{◌≡◌, ◌<◌, length};
+ghost use Rattle.std.specs.Prelude.{◌≡◌, ◌+◌, ◌<◌, ◌≤◌, length, IfSome};
 ghost use Rattle.bstr.specs.Utf8.{decoded, or_replacement};
 ghost use Rattle.unicode_segmentation.specs.Word.{significant, value_at};
 ghost use Rattle.lbk_words.specs.Places.{IsReadAt};
 ghost use Rattle.lbk_words.specs.Rows.{answer_number};
 ghost use Rattle.lbk_words.specs.Words.{scalars_on};
 
-use crate::decoding::{Coded, scalar_of_few};
+use crate::decoding::{Coded, scalar_of_few, scalar_of_three};
 use crate::kinds::kind_of;
 use crate::step_table::ANSWERS;
 use bstr::decode_lossy;
@@ -47,6 +47,19 @@ pub(crate) fn scalar_at(text: &[u8], at: usize) -> Scalar
         code: scalar.code,
         end: at + scalar.size,
     }
+}
+
+/// The scalar at a byte of a text, where its first byte alone tells that it may take three.
+#[inline(always)]
+pub(crate) fn three_at(text: &[u8], at: usize) -> Option<Scalar>
+    requires { at + 3 ≤ length text.now }
+    ensures { IfSome result (λ scalar. IsReadAt text.now at scalar.code scalar.end) }
+{
+    let scalar = scalar_of_three(&text[at..])?;
+    Some(Scalar {
+        code: scalar.code,
+        end: at + scalar.size,
+    })
 }
 
 /// The scalar at the front of some bytes, by a call, which serves scalars of four bytes and ill-formed text.

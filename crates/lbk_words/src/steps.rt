@@ -1,6 +1,6 @@
 //! What one more scalar makes of a part of a text, by tables.
 
-ghost use Rattle.std.specs.Prelude.{◌≡◌, ◌<◌, false, length};
+ghost use Rattle.std.specs.Prelude.{◌≡◌, ◌+◌, ◌<◌, ◌≤◌, false, length, IfSome};
 ghost use Rattle.ucd_breaks.specs.declared.WordBreak.{WordBreak};
 ghost use Rattle.unicode_segmentation.specs.Word.{significant, value_at};
 ghost use Rattle.lbk_words.specs.Filling.{IsNextStep};
@@ -8,7 +8,7 @@ ghost use Rattle.lbk_words.specs.Rows.{IsFirstRow, IsStep, row_word, step_number
 ghost use Rattle.lbk_words.specs.Words.{scalars_on};
 
 use crate::kinds::kind_of;
-use crate::scalars::{Scalar, answer_ahead, scalar_at};
+use crate::scalars::{Scalar, answer_ahead, scalar_at, three_at};
 use crate::step_table::{ARE_WORDS, FIRST_ROWS, STEPS};
 
 /// How many rows there are. A row is what the rules ask of a part so far, and whether the part has a letter or a
@@ -65,6 +65,24 @@ pub(crate) fn next_step(row: usize, text: &[u8], at: usize) -> NextStep
     }
 }
 
+/// What the scalar at a byte makes of a part of this row, where its first byte tells that it takes three, and no step
+/// depends on what follows it.
+#[inline(always)]
+pub(crate) fn step_of_three(row: usize, text: &[u8], at: usize) -> Option<NextStep>
+    requires { (row < 43) × (at + 3 ≤ length text.now) }
+    ensures { IfSome result (IsNextStep text.now row at) }
+{
+    let next = three_at(text, at)?;
+    let step = step_unasked(row, next.code);
+    if step.asks {
+        return None;
+    }
+    Some(NextStep {
+        step,
+        end: next.end,
+    })
+}
+
 /// What the next scalar of a text makes of a part of this row.
 #[inline(always)]
 fn step_of(row: usize, next: Scalar, text: &[u8]) -> Step
@@ -85,7 +103,16 @@ pub(crate) fn step_of_byte(row: usize, byte: u8) -> Step
     requires { (row < 43) × (byte < 128) }
     ensures { result.asks ≡ false → (far : WordBreak) → IsStep row byte far result }
 {
-    step_at(0, row, kind_of(u32::from(byte)) as usize)
+    step_unasked(row, u32::from(byte))
+}
+
+/// What a scalar makes of a part of this row. It is right where the step does not ask.
+#[inline(always)]
+fn step_unasked(row: usize, code: u32) -> Step
+    requires { (row < 43) × (code < 0x11_0000) }
+    ensures { result.asks ≡ false → (far : WordBreak) → IsStep row code far result }
+{
+    step_at(0, row, kind_of(code) as usize)
 }
 
 /// The step that the table has for a row and a kind, and an answer to what is after the scalar.

@@ -1,13 +1,10 @@
-use Rattle.std.proofs.Common.{ℕ, List, ◌≡◌, ◌+◌, ◌<◌, length, true, refl, sym, subst, ap, ◌∙◌, arith}
+use Rattle.std.proofs.Common.{ℕ, ◌≡◌, true, refl, ap, ◌∙◌, arith}
 use Rattle.std.specs.Int.{from_bool}
 use Rattle.std.proofs.lemmas.Bool.{and_parts}
-use Rattle.std.proofs.Math.ListN.{length-set, set}
-use Rattle.lbk_words.specs.declared.steps.NextStep.{NextStep}
-use Rattle.lbk_words.specs.Ends.{IsReading}
-use Rattle.lbk_words.specs.Filling.{IsNextStep}
+use Rattle.std.proofs.Math.ListN.{length-set}
 use Rattle.lbk_words.specs.Rows.{row_word}
 use Rattle.lbk_words.proofs.FillLemmas.{from_bool-few}
-use Rattle.lbk_words.proofs.PartLemmas.{parts-written, reading-taken}
+use Rattle.lbk_words.proofs.PartLemmas.{parts-written, reading-on}
 use Rattle.lbk_words.proofs.StepLemmas.{first-in_row}
 use Rattle.lbk_words.proofs.WalkLemmas.{walk-end}
 use Rattle.lbk_words.proofs.ends.fill_ends.Goals as goal
@@ -27,17 +24,6 @@ scalars-init c =
       };
     }
 
--- one scalar more, where so many parts ended
-taken : {text : List ℕ} {from at row count n : ℕ} {out : List ℕ} {next : NextStep} → IsNextStep text row at next → count < length out
-    → n ≡ from_bool next.step.cuts → IsReading text from at row count out → IsReading text from next.end next.step.next (count + n) (set out count at)
-taken {text} {from} {at} {row} {count} {n} {out} {next} is some few r =
-    subst (λ n. IsReading text from next.end next.step.next (count + n) (set out count at)) (sym few)
-    (reading-taken text from at row count is.code next.end out next.step r some is.read is.step)
-
-pub returns-then-count-out-clause-parts : goal.returns-then-count-out-clause-parts
-returns-then-count-out-clause-parts c =
-    let r = taken c.next_step-next.ensures c.scalars.invariant.count c.from-count.ensures c.scalars.invariant.reads in (r.begin, r.parts)
-
 pub returns-then-ends_here-clause-some : goal.returns-then-ends_here-clause-some
 returns-then-ends_here-clause-some c =
     let cuts : c.next_step-next.result.step.cuts ≡ true = (and_parts _ _ c.if-ends_here.true).1 in λ _ _. omega (arith, c.from-count.ensures, ap from_bool cuts)
@@ -47,18 +33,23 @@ returns-then-ends_here-clause-within c = omega (arith, c.scalars.invariant.count
 
 pub returns-then-ends_here-clause-parts : goal.returns-then-ends_here-clause-parts
 returns-then-ends_here-clause-parts c =
-    let r = taken c.next_step-next.ensures c.scalars.invariant.count c.from-count.ensures c.scalars.invariant.reads in (r.begin, r.parts)
+    let r = reading-on c.next_step-next.ensures c.scalars.invariant.count c.from-count.ensures c.scalars.invariant.reads in (r.begin, r.parts)
+
+pub returns-then-count-out-clause-parts : goal.returns-then-count-out-clause-parts
+returns-then-count-out-clause-parts c =
+    let read = reading-on c.next_step-next.ensures c.scalars.invariant.count c.from-count.ensures c.scalars.invariant.reads in
+    let there = c.read_threes-there.ensures.reads c.args.start read in (there.begin, there.parts)
 
 pub scalars-preserved : goal.scalars-preserved
 scalars-preserved c =
     let l = c.scalars in
     let next = c.next_step-next.ensures in
     record {
-      few = next.step.next;
-      within = next.read.within;
-      count = omega (arith, l.invariant.count, length-set {A = ℕ}, c.from-count.ensures, from_bool-few);
-      len = length-set {A = ℕ} l.out l.count l.at ∙ l.invariant.len;
-      reads = taken next l.invariant.count c.from-count.ensures l.invariant.reads;
+      few = c.read_threes-there.ensures.row;
+      within = c.read_threes-there.ensures.within.0;
+      count = omega (arith, c.read_threes-there.ensures.within.1, length-set {A = ℕ});
+      len = c.read_threes-there.auto.out ∙ length-set {A = ℕ} l.out l.count l.at ∙ l.invariant.len;
+      reads = c.read_threes-there.ensures.reads c.args.start (reading-on next l.invariant.count c.from-count.ensures l.invariant.reads);
     }
 
 pub returns-clause-parts : goal.returns-clause-parts
