@@ -9,7 +9,7 @@ use crate::limits::TEXT_MAX;
 use simdutf8::compat;
 
 /// What follows a longest well-formed prefix.
-#[derive(Clone, Copy, Debug, PartialEq, Eq)]
+#[derive(Clone, Copy)]
 pub enum Stop {
     /// Nothing.
     Whole,
@@ -29,7 +29,7 @@ impl Stop {
 }
 
 /// How many bytes at the front are well-formed, and what follows them.
-#[derive(Clone, Copy, Debug)]
+#[derive(Clone, Copy)]
 pub struct Judgement {
     pub ready_len: usize,
     pub stop: Stop,

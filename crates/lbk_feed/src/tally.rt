@@ -6,7 +6,7 @@ ghost use Rattle.lbk_feed.specs.Devices.{failures_after};
 use super::traits::Failed;
 
 /// The counts of a device: reads, failures, the size of the last read, and whether the end was reached.
-#[derive(Clone, Copy, Debug)]
+#[derive(Clone, Copy)]
 pub struct Tally {
     pub reads: u64,
     pub gave: usize,
