@@ -79,21 +79,24 @@ Counted-cut form state place scalars marks bytes over within cannot was =
     sym (Counted-end form state place scalars marks bytes over was)
     ∙ cond-false (can_end state) (Ok (made was.held was.held')) (Err place) cannot ∙ ap Err there
 
+-- where one may
+pub Counted-made : (form : Form) (state : State) (place scalars marks : ℕ) (bytes : List ℕ) → length bytes ≤ place → can_end state ≡ true
+    → (was : Counted form state place scalars marks bytes) → run_line form bytes ≡ Ok (made was.held was.held')
+Counted-made form state place scalars marks bytes over can was =
+    sym (Counted-end form state place scalars marks bytes over was) ∙ cond-true (can_end state) (Ok (made was.held was.held')) (Err place) can
+
 -- where the marks are one more than the scalars
 pub Counted-line : (form : Form) (state : State) (place scalars marks : ℕ) (bytes : List ℕ) → length bytes ≤ place → can_end state ≡ true
     → marks ≡ scalars + 1 → Counted form state place scalars marks bytes → (line : Line) × (run_line form bytes ≡ Ok (Some line))
 Counted-line form state place scalars marks bytes over can one_more was = (
   record { scalars = was.held; marks = was.held' },
-  sym (Counted-end form state place scalars marks bytes over was)
-      ∙ cond-true (can_end state) (Ok (made was.held was.held')) (Err place) can
-      ∙ ap Ok (made-some was.held was.held' (was.many' ∙ one_more ∙ ap (λ n. n + 1) (sym was.many))),
+  Counted-made form state place scalars marks bytes over can was ∙ ap Ok (made-some was.held was.held' (was.many' ∙ one_more ∙ ap (λ n. n + 1) (sym was.many))),
 )
 
 -- where they are not
 pub Counted-nothing : (form : Form) (state : State) (place scalars marks : ℕ) (bytes : List ℕ) → length bytes ≤ place → can_end state ≡ true
     → marks ≢ scalars + 1 → Counted form state place scalars marks bytes → run_line form bytes ≡ Ok None
 Counted-nothing form state place scalars marks bytes over can other was =
-    sym (Counted-end form state place scalars marks bytes over was)
-    ∙ cond-true (can_end state) (Ok (made was.held was.held')) (Err place) can
+    Counted-made form state place scalars marks bytes over can was
     ∙ ap Ok (cond-false (nat_eq (length was.held') (length was.held + 1)) (Some (record { scalars = was.held; marks = was.held' })) None
     (ne_eqb _ _ (λ e. other (sym was.many' ∙ e ∙ ap (λ n. n + 1) was.many))))

@@ -24,7 +24,7 @@ pub enum Outcome {
 }
 
 /// The result of one line of a test file.
-#[derive(Clone, Copy, Debug, PartialEq, Eq)]
+#[derive(Clone, Copy)]
 pub enum Finding {
     /// It is blank, or a comment.
     NoLine,
