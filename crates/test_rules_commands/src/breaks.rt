@@ -1,9 +1,9 @@
-//! The breaks of texts in memory with the sample files, in both profiles, with pages and with tables, in blocks of all
-//! sizes.
+//! The breaks of texts in memory agree with the evaluator in both profiles: of texts with the sample files, with pages
+//! and with tables, in blocks of all sizes; and of every text of three scalars.
 
-use crate::calls::Setting;
+use crate::calls::{Setting, decided};
 use lbk_passage::{Break, Breaks};
-use lbk_rules::{CellSource, Kind, Profile, Rule, Verdict, decide_in};
+use lbk_rules::{CellSource, Kind, Profile, Rule, Verdict};
 use std::alloc::{AllocError, Global};
 use std::fmt::Write;
 use std::test::Fail;
@@ -12,12 +12,13 @@ use test_support::cells::cells_of;
 use test_support::checks::same;
 use test_support::property_files::SAMPLES;
 use test_support::texts::{FIRST, SECOND};
+use test_support::triples::{Scalar, pages_of_each_once, texts_of_three};
 
 /// A text, and the offset, the kind and the rule of each of its breaks.
 type Row = (&'static str, &'static str);
 
 /// In both profiles.
-const BOTH: [Row; 8] = [
+static BOTH: [Row; 8] = [
     ("", ""),
     ("ab cd", "3 May 18 5 Must 3 "),
     ("a\r\nb", "3 Must 5 4 Must 3 "),
@@ -32,13 +33,13 @@ const BOTH: [Row; 8] = [
 ];
 
 /// In the first profile.
-const IN_FIRST: [Row; 2] = [
+static IN_FIRST: [Row; 2] = [
     ("a \u{2019}\u{301},", "2 May 18 8 Must 3 "),
     ("\u{4E00} \u{2019} \u{4E00}", "4 May 18 8 May 18 11 Must 3 "),
 ];
 
 /// The same in the second profile, where a closing quotation mark stays closed.
-const IN_SECOND: [Row; 2] = [
+static IN_SECOND: [Row; 2] = [
     ("a \u{2019}\u{301},", "8 Must 3 "),
     ("\u{4E00} \u{2019} \u{4E00}", "8 May 18 11 Must 3 "),
 ];
@@ -70,7 +71,7 @@ fn by_blocks<C: CellSource>(
     let mut breaks = Breaks::new(setting.source, text, setting.profile);
     let mut block = vec![in setting.alloc; NO_BREAK; size]?;
     let mut found = Vec::new(setting.alloc);
-    for _ in 0..text.len() + 1 {
+    for _ in 0..=text.len() {
         found.extend_from_slice(next_block(&mut breaks, &mut block))?;
     }
     Ok(found)
@@ -81,17 +82,6 @@ fn one_by_one<C: CellSource>(
     text: &str,
 ) -> Result<Vec<Break>, AllocError> {
     Breaks::new(setting.source, text, setting.profile).collect(setting.alloc)
-}
-
-/// The bytes after each scalar of a text.
-fn lengths_left(alloc: Global, text: &str) -> Result<Vec<usize>, AllocError> {
-    let mut lengths = Vec::new(alloc);
-    let mut rest = text.chars();
-    for _ in text.chars() {
-        let _ = rest.next();
-        lengths.push(rest.as_str().len())?;
-    }
-    Ok(lengths)
 }
 
 /// Adds the break at this byte, unless the verdict is No.
@@ -108,13 +98,11 @@ fn by_rules<C: CellSource>(setting: &Setting<'_, C>, text: &str) -> Result<Vec<B
     let cells = cells_of(setting.alloc, setting.source, text)?;
     let mut found = Vec::new(setting.alloc);
     let mut k = 0usize;
-    for left in &lengths_left(setting.alloc, text)? {
+    let mut at = 0usize;
+    for c in text.chars() {
         k = k.saturating_add(1);
-        let at = text.len().saturating_sub(*left);
-        if k > cells.len() {
-            return Err(Fail::new("more scalars than cells"));
-        }
-        push_break(&mut found, at, decide_in(setting.profile, &cells, k))?;
+        at = at.saturating_add(c.len_utf8());
+        push_break(&mut found, at, decided(setting.profile, &cells, k)?)?;
     }
     Ok(found)
 }
@@ -128,28 +116,28 @@ fn shown(alloc: Global, breaks: &[Break]) -> Result<String, AllocError> {
     Ok(shown)
 }
 
-fn same_breaks(found: &[Break], want: &[Break], size: usize, text: &str) -> Result<(), Fail> {
-    same(&found, &want, &(size, text))
-}
-
-/// Compares the breaks of a text by the rules with those in blocks of all sizes, and with those one by one.
+/// Compares the breaks of a text by the rules with those one by one.
 fn agreed<C: CellSource>(setting: &Setting<'_, C>, text: &str) -> Result<Vec<Break>, Fail> {
     let want = by_rules(setting, text)?;
-    for size in SIZES {
-        let found = by_blocks(setting, text, size)?;
-        same_breaks(&found, &want, size, text)?;
-    }
     let found = one_by_one(setting, text)?;
-    same_breaks(&found, &want, 0, text)?;
+    same(&found.as_slice(), &want.as_slice(), &text)?;
     Ok(want)
 }
 
-/// Also compares them with those of each row.
+/// Also with those in blocks of all sizes, and returns them as text.
+fn agreed_in_blocks<C: CellSource>(setting: &Setting<'_, C>, text: &str) -> Result<String, Fail> {
+    let want = agreed(setting, text)?;
+    for size in &SIZES {
+        let found = by_blocks(setting, text, *size)?;
+        same(&found.as_slice(), &want.as_slice(), &(*size, text))?;
+    }
+    Ok(shown(setting.alloc, &want)?)
+}
+
+/// Compares the breaks of each text with its row.
 fn check<C: CellSource>(setting: &Setting<'_, C>, rows: &[Row]) -> Result<(), Fail> {
     for (text, want) in rows {
-        let found = agreed(setting, text)?;
-        let found = shown(setting.alloc, &found)?;
-        same(&found.as_str(), want, text)?;
+        same(&agreed_in_blocks(setting, text)?.as_str(), want, text)?;
     }
     Ok(())
 }
@@ -159,22 +147,22 @@ fn check_agreement<C: CellSource>(setting: &Setting<'_, C>, rows: &[Row]) -> Res
     let mut joined = String::new(setting.alloc);
     for (text, _) in rows {
         joined.push_str(text)?;
-        let _ = agreed(setting, text)?;
+        let _ = agreed_in_blocks(setting, text)?;
     }
-    let _ = agreed(setting, joined.as_str())?;
+    let _ = agreed_in_blocks(setting, joined.as_str())?;
     Ok(())
 }
 
 /// In each profile its own rows, and those of both.
 fn check_source<C: CellSource>(alloc: Global, source: &C) -> Result<(), Fail> {
-    for (profile, rows) in [(Profile::First, IN_FIRST), (Profile::Second, IN_SECOND)] {
+    for (profile, rows) in [(Profile::First, &IN_FIRST), (Profile::Second, &IN_SECOND)] {
         let setting = Setting {
             alloc,
             source,
             profile,
         };
         check(&setting, &BOTH)?;
-        check(&setting, &rows)?;
+        check(&setting, rows)?;
         check_agreement(&setting, &FIRST)?;
         check_agreement(&setting, &SECOND)?;
     }
@@ -185,4 +173,30 @@ fn check_source<C: CellSource>(alloc: Global, source: &C) -> Result<(), Fail> {
 fn breaks_of_texts(rt: HostRuntime) -> Result<(), Fail> {
     check_source(rt.alloc(), &pages_by(rt.alloc(), SAMPLES)?)?;
     check_source(rt.alloc(), &tables_of(rt.alloc(), SAMPLES)?)
+}
+
+/// The text of these scalars.
+fn text_of(alloc: Global, scalars: &[Scalar; 3]) -> Result<String, AllocError> {
+    let mut text = String::new(alloc);
+    for (c, _) in scalars {
+        text.push(*c)?;
+    }
+    Ok(text)
+}
+
+#[test]
+fn breaks_by_rows(rt: HostRuntime) -> Result<(), Fail> {
+    let pages = pages_of_each_once(rt.alloc())?;
+    let texts = texts_of_three(rt.alloc())?;
+    for profile in [Profile::First, Profile::Second] {
+        let setting = Setting {
+            alloc: rt.alloc(),
+            source: &pages,
+            profile,
+        };
+        for scalars in &texts {
+            let _ = agreed(&setting, &text_of(rt.alloc(), scalars)?)?;
+        }
+    }
+    Ok(())
 }

@@ -5,8 +5,8 @@ use lbk_rules::{
     Cell, CellSource, LateMachine, Machine, Out, Profile, Stepper, Verdict, decide, decide_in,
 };
 use std::alloc::Global;
-use std::fmt::Debug;
-use std::process::Abort;
+use std::test::Fail;
+use test_support::checks::same;
 
 /// How texts are decided.
 #[derive(Drop)]
@@ -16,14 +16,16 @@ pub struct Setting<'a, C> {
     pub profile: Profile,
 }
 
-pub fn decided(rt: &impl Abort, cells: &[Cell], k: usize) -> Verdict {
-    assert!(rt; k <= cells.len());
-    decide(cells, k)
-}
-
-pub fn decided_in(rt: &impl Abort, profile: Profile, cells: &[Cell], k: usize) -> Verdict {
-    assert!(rt; k <= cells.len());
-    decide_in(profile, cells, k)
+/// The verdict of the evaluator at a position. In the first profile the plain evaluator has to return the same.
+pub fn decided(profile: Profile, cells: &[Cell], k: usize) -> Result<Verdict, Fail> {
+    if k > cells.len() {
+        return Err(Fail::new("a position after the last one"));
+    }
+    let verdict = decide_in(profile, cells, k);
+    if profile == Profile::First {
+        same(&decide(cells, k), &verdict, &k)?;
+    }
+    Ok(verdict)
 }
 
 pub fn step(machine: &mut Machine, cell: Cell) -> Verdict {
@@ -35,9 +37,11 @@ pub fn start_late(profile: Profile) -> LateMachine {
 }
 
 /// Steps once more, after `taken` cells.
-pub fn late_step(rt: &impl Abort, machine: &mut LateMachine, taken: u64, cell: Cell) -> Out {
-    assert!(rt; machine.steps() == taken && taken < u64::MAX);
-    machine.step(cell)
+pub fn late_step(machine: &mut LateMachine, taken: u64, cell: Cell) -> Result<Out, Fail> {
+    if machine.steps() != taken || taken == u64::MAX {
+        return Err(Fail::new("a wrong number of steps"));
+    }
+    Ok(machine.step(cell))
 }
 
 pub fn stepper<C: CellSource>(source: &C, profile: Profile) -> Stepper<'_, C> {
@@ -46,19 +50,4 @@ pub fn stepper<C: CellSource>(source: &C, profile: Profile) -> Stepper<'_, C> {
 
 pub fn step_over<C: CellSource>(stepper: &mut Stepper<'_, C>, c: char) -> Out {
     stepper.step(c)
-}
-
-/// Compares the result for a text with the expected one.
-pub fn same(rt: &impl Abort, found: &str, want: &str, by: &str, text: &str) {
-    assert_eq!(rt; found, want, "{by}: {text:?}");
-}
-
-/// Compares the result for this with the expected one.
-pub fn same_value<T: Copy + PartialEq + Debug>(rt: &impl Abort, found: T, want: T, what: &str) {
-    assert_eq!(rt; found, want, "{what}");
-}
-
-/// Compares the result at a position with the expected one.
-pub fn same_at<T: Copy + PartialEq + Debug>(rt: &impl Abort, found: T, want: T, k: usize) {
-    assert_eq!(rt; found, want, "at {k}");
 }

@@ -6,14 +6,13 @@ use lbk_passage::PassageFault;
 use lbk_ucd::{UcdCause, UcdFault, Which};
 use std::alloc::Global;
 use std::fmt::Display;
-use std::process::Abort;
 use std::test::Fail;
+use test_support::checks::same;
 
 /// Compares the text of a fault with the expected one.
-fn check<T: Display>(rt: &impl Abort, alloc: Global, fault: &T, want: &str) -> Result<(), Fail> {
+fn check<T: Display>(alloc: Global, fault: &T, want: &str) -> Result<(), Fail> {
     let told = format!(in alloc; "{fault}")?;
-    assert_eq!(rt; told.as_str(), want);
-    Ok(())
+    same(&told.as_str(), &want, &"the text of a fault")
 }
 
 const ROW: UcdFault = UcdFault {
@@ -76,7 +75,7 @@ static OF_FILES: [(CellsFault, &str); 8] = [
 #[test]
 fn faults_of_files(rt: HostRuntime) -> Result<(), Fail> {
     for (fault, want) in &OF_FILES {
-        check(&rt, rt.alloc(), fault, want)?;
+        check(rt.alloc(), fault, want)?;
     }
     Ok(())
 }
@@ -138,8 +137,8 @@ static OF_RUNS: [(RunFault, &str); 15] = [
 #[test]
 fn faults_of_runs(rt: HostRuntime) -> Result<(), Fail> {
     for (fault, want) in &OF_RUNS {
-        check(&rt, rt.alloc(), fault, want)?;
-        check(&rt, rt.alloc(), &Message::of_call(*fault), want)?;
+        check(rt.alloc(), fault, want)?;
+        check(rt.alloc(), &Message::of_call(*fault), want)?;
     }
     Ok(())
 }
@@ -193,12 +192,12 @@ static OF_TEXTS: [(BreakFault, &str); 4] = [
 #[test]
 fn faults_of_calls(rt: HostRuntime) -> Result<(), Fail> {
     for (fault, want) in &OF_ENGINES {
-        check(&rt, rt.alloc(), fault, want)?;
+        check(rt.alloc(), fault, want)?;
         let message = Message::of_call(RunFault::Cmd(*fault));
-        check(&rt, rt.alloc(), &message, want)?;
+        check(rt.alloc(), &message, want)?;
     }
     for (fault, want) in &OF_TEXTS {
-        check(&rt, rt.alloc(), fault, want)?;
+        check(rt.alloc(), fault, want)?;
     }
     Ok(())
 }

@@ -11,8 +11,6 @@ mod broken;
 #[cfg(test)]
 mod broken_text;
 #[cfg(test)]
-mod by_rows;
-#[cfg(test)]
 mod calls;
 #[cfg(test)]
 mod claims;

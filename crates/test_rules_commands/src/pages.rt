@@ -1,104 +1,108 @@
 //! Pages have the cells of the tables that they are built from: at the edges of pages, and for equal and different
 //! pages.
 
-use lbk_rules::{Cell, CellPages, Class};
-use lbk_ucd::Tables;
+use lbk_rules::Class;
 use std::alloc::{AllocError, Global};
 use std::fmt::Write;
-use std::process::Abort;
 use std::test::Fail;
 use test_support::calls::{cell_of, pages_of, tables_of};
 use test_support::cells::plain;
+use test_support::checks::same;
 use test_support::property_files::line_break_alone;
 
-fn check_cell(rt: &impl Abort, pages: &CellPages, c: char, want: Cell) {
-    assert!(rt; cell_of(pages, c) == want, "{c:?}");
-}
+/// The first and the last of some scalars, and their class.
+type Range = (char, char, Class);
 
-/// Compares the cells of all scalars.
-fn check_all(rt: &impl Abort, pages: &CellPages, tables: &Tables) {
-    for c in '\0'..=char::MAX {
-        check_cell(rt, pages, c, cell_of(tables, c));
-    }
-}
-
-/// Compares the cells of these scalars, and of all scalars.
-fn check(
-    rt: &impl Abort,
-    alloc: Global,
-    line_break: &[u8],
-    rows: &[(char, Class)],
-) -> Result<(), Fail> {
+/// Compares the cells of these scalars, and of all scalars with those of the tables.
+fn check(alloc: Global, line_break: &[u8], ranges: &[Range]) -> Result<(), Fail> {
     let tables = tables_of(alloc, line_break_alone(line_break))?;
     let pages = pages_of(alloc, &tables)?;
-    for (c, class) in rows {
-        check_cell(rt, &pages, *c, plain(*class));
+    for (first, last, class) in ranges {
+        for c in (*first..=*last).into_iter() {
+            same(&cell_of(&pages, c), &plain(*class), &c)?;
+        }
     }
-    check_all(rt, &pages, &tables);
+    for c in '\0'..=char::MAX {
+        same(&cell_of(&pages, c), &cell_of(&tables, c), &c)?;
+    }
     Ok(())
 }
 
-/// A code point, and others with the same page, or the same index in a page.
-const EDGES: [(char, [char; 3]); 4] = [
-    ('\0', ['\u{1}', '\u{FF}', '\u{10FF00}']),
-    ('\u{FF}', ['\u{FE}', '\u{100}', '\u{1FF}']),
-    ('\u{100}', ['\u{FF}', '\u{101}', '\0']),
-    ('\u{10FFFF}', ['\u{10FFFE}', '\u{10FEFF}', '\u{FF}']),
+/// LineBreak files, and all scalars with their classes.
+static FILES: [(&[u8], &[Range]); 7] = [
+    // One code point is ideographic, at an edge of a page.
+    (
+        b"# @missing: 0000..10FFFF; CB\n0000;ID\n",
+        &[
+            ('\0', '\0', Class::Ideographic),
+            ('\u{1}', char::MAX, Class::ContingentBreak),
+        ],
+    ),
+    (
+        b"# @missing: 0000..10FFFF; CB\n00FF;ID\n",
+        &[
+            ('\0', '\u{FE}', Class::ContingentBreak),
+            ('\u{FF}', '\u{FF}', Class::Ideographic),
+            ('\u{100}', char::MAX, Class::ContingentBreak),
+        ],
+    ),
+    (
+        b"# @missing: 0000..10FFFF; CB\n0100;ID\n",
+        &[
+            ('\0', '\u{FF}', Class::ContingentBreak),
+            ('\u{100}', '\u{100}', Class::Ideographic),
+            ('\u{101}', char::MAX, Class::ContingentBreak),
+        ],
+    ),
+    (
+        b"# @missing: 0000..10FFFF; CB\n10FFFF;ID\n",
+        &[
+            ('\0', '\u{10FFFE}', Class::ContingentBreak),
+            (char::MAX, char::MAX, Class::Ideographic),
+        ],
+    ),
+    (
+        b"# @missing: 0000..10FFFF; CB",
+        &[('\0', char::MAX, Class::ContingentBreak)],
+    ),
+    (
+        b"00FF;ID\n0100;CL\n10FFFF;ID\n",
+        &[
+            ('\0', '\u{FE}', Class::Alphabetic),
+            ('\u{FF}', '\u{FF}', Class::Ideographic),
+            ('\u{100}', '\u{100}', Class::ClosePunctuation),
+            ('\u{101}', '\u{10FFFE}', Class::Alphabetic),
+            (char::MAX, char::MAX, Class::Ideographic),
+        ],
+    ),
+    // Pages 1, 3 and the last are equal, page 2 is not, and all others have only letters.
+    (
+        b"0141;ID\n0241;OP\n0341;ID\n10FF41;ID\n",
+        &[
+            ('\0', '\u{140}', Class::Alphabetic),
+            ('\u{141}', '\u{141}', Class::Ideographic),
+            ('\u{142}', '\u{240}', Class::Alphabetic),
+            ('\u{241}', '\u{241}', Class::OpenPunctuation),
+            ('\u{242}', '\u{340}', Class::Alphabetic),
+            ('\u{341}', '\u{341}', Class::Ideographic),
+            ('\u{342}', '\u{10FF40}', Class::Alphabetic),
+            ('\u{10FF41}', '\u{10FF41}', Class::Ideographic),
+            ('\u{10FF42}', char::MAX, Class::Alphabetic),
+        ],
+    ),
 ];
 
-/// A file with one ideographic code point; all others are contingent breaks.
-fn one_ideograph(alloc: Global, code: char) -> Result<String, AllocError> {
-    let mut file = String::new(alloc);
-    file.push_str("# @missing: 0000..10FFFF; CB\n")?;
-    writeln!(file, "{:04X};ID", u32::from(code))?;
-    Ok(file)
-}
-
-fn check_edge(rt: &impl Abort, alloc: Global, code: char, others: [char; 3]) -> Result<(), Fail> {
-    let file = one_ideograph(alloc, code)?;
-    let rows = [
-        (code, Class::Ideographic),
-        (others[0], Class::ContingentBreak),
-        (others[1], Class::ContingentBreak),
-        (others[2], Class::ContingentBreak),
-    ];
-    check(rt, alloc, file.as_bytes(), &rows)
-}
-
-// One code point is ideographic; all others are contingent breaks.
 #[test]
-fn page_edges(rt: HostRuntime) -> Result<(), Fail> {
-    for (code, others) in &EDGES {
-        check_edge(&rt, rt.alloc(), *code, *others)?;
+fn pages_of_files(rt: HostRuntime) -> Result<(), Fail> {
+    for (file, ranges) in &FILES {
+        check(rt.alloc(), file, ranges)?;
     }
     Ok(())
-}
-
-// Pages 1, 3 and the last are equal, page 2 is not, and all others have only letters.
-#[test]
-fn equal_pages(rt: HostRuntime) -> Result<(), Fail> {
-    let file = b"0141;ID\n0241;OP\n0341;ID\n10FF41;ID\n";
-    check(
-        &rt,
-        rt.alloc(),
-        file,
-        &[
-            ('\u{41}', Class::Alphabetic),
-            ('\u{140}', Class::Alphabetic),
-            ('\u{141}', Class::Ideographic),
-            ('\u{241}', Class::OpenPunctuation),
-            ('\u{242}', Class::Alphabetic),
-            ('\u{341}', Class::Ideographic),
-            ('\u{441}', Class::Alphabetic),
-            ('\u{10FF41}', Class::Ideographic),
-            ('\u{10FF42}', Class::Alphabetic),
-        ],
-    )
 }
 
 /// A file with two opening code points in each page: at the page's index among 256, and at the index of its 256 pages
 /// among all. So most pages differ from all others.
-pub fn striped(alloc: Global) -> Result<String, AllocError> {
+fn striped(alloc: Global) -> Result<String, AllocError> {
     let mut file = String::new(alloc);
     for page in 0..4352u32 {
         let low = page % 256;
@@ -111,28 +115,25 @@ pub fn striped(alloc: Global) -> Result<String, AllocError> {
     Ok(file)
 }
 
+static STRIPES: [Range; 14] = [
+    ('\0', '\0', Class::OpenPunctuation),
+    ('\u{1}', '\u{1}', Class::Alphabetic),
+    ('\u{100}', '\u{100}', Class::OpenPunctuation),
+    ('\u{101}', '\u{101}', Class::OpenPunctuation),
+    ('\u{FFFF}', '\u{FFFF}', Class::OpenPunctuation),
+    ('\u{10000}', '\u{10000}', Class::OpenPunctuation),
+    ('\u{1FF01}', '\u{1FF01}', Class::OpenPunctuation),
+    ('\u{1FF02}', '\u{1FF02}', Class::Alphabetic),
+    ('\u{3ABAB}', '\u{3ABAB}', Class::OpenPunctuation),
+    ('\u{3AB03}', '\u{3AB03}', Class::OpenPunctuation),
+    ('\u{3AB04}', '\u{3AB04}', Class::Alphabetic),
+    ('\u{10FFFE}', '\u{10FFFE}', Class::Alphabetic),
+    ('\u{10FF10}', '\u{10FF10}', Class::OpenPunctuation),
+    (char::MAX, char::MAX, Class::OpenPunctuation),
+];
+
 #[test]
 fn many_pages(rt: HostRuntime) -> Result<(), Fail> {
     let file = striped(rt.alloc())?;
-    check(
-        &rt,
-        rt.alloc(),
-        file.as_bytes(),
-        &[
-            ('\0', Class::OpenPunctuation),
-            ('\u{1}', Class::Alphabetic),
-            ('\u{100}', Class::OpenPunctuation),
-            ('\u{101}', Class::OpenPunctuation),
-            ('\u{FFFF}', Class::OpenPunctuation),
-            ('\u{10000}', Class::OpenPunctuation),
-            ('\u{1FF01}', Class::OpenPunctuation),
-            ('\u{1FF02}', Class::Alphabetic),
-            ('\u{3ABAB}', Class::OpenPunctuation),
-            ('\u{3AB03}', Class::OpenPunctuation),
-            ('\u{3AB04}', Class::Alphabetic),
-            ('\u{10FFFE}', Class::Alphabetic),
-            ('\u{10FF10}', Class::OpenPunctuation),
-            ('\u{10FFFF}', Class::OpenPunctuation),
-        ],
-    )
+    check(rt.alloc(), file.as_bytes(), &STRIPES)
 }

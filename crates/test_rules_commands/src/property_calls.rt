@@ -2,30 +2,29 @@
 //! them; without these facts a check takes a fraction of the time.
 
 use lbk_ucd::{Category, EastAsian, LineBreak, Places, Run, Tables};
-use std::fmt::Debug;
-use std::process::Abort;
+use std::test::Fail;
 
 pub const LAST_CODE: u32 = 0x10FFFF;
 
 /// The values of a code point: line break, width, category, and whether it is a pictograph.
 pub type Values = (LineBreak, EastAsian, Category, bool);
 
-pub fn values_of(rt: &impl Abort, tables: &Tables, code: u32) -> Values {
-    assert!(rt; code <= LAST_CODE);
-    (
+pub fn values_of(tables: &Tables, code: u32) -> Result<Values, Fail> {
+    if code > LAST_CODE {
+        return Err(Fail::new("no code point"));
+    }
+    Ok((
         tables.line_break(code),
         tables.east_asian(code),
         tables.category(code),
         tables.is_pictographic(code),
-    )
+    ))
 }
 
-pub fn run_of(rt: &impl Abort, tables: &Tables, code: u32, near: Places) -> Run {
-    assert!(rt; code <= LAST_CODE);
-    tables.run(code, near)
-}
-
-/// Compares the result for a code point with the expected one.
-pub fn same_at<T: Copy + PartialEq + Debug>(rt: &impl Abort, found: T, want: T, code: u32) {
-    assert_eq!(rt; found, want, "at {code:x}");
+/// The range of a code point, looked up near an earlier one.
+pub fn run_of(tables: &Tables, code: u32, near: Places) -> Result<Run, Fail> {
+    if code > LAST_CODE {
+        return Err(Fail::new("no code point"));
+    }
+    Ok(tables.run(code, near))
 }

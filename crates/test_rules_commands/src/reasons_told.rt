@@ -7,8 +7,8 @@ use lbk_passage::PassageFault;
 use lbk_ucd::Which;
 use std::alloc::Global;
 use std::io::ErrorKind;
-use std::process::Abort;
 use std::test::Fail;
+use test_support::checks::same;
 
 static KINDS: [ErrorKind; 18] = [
     ErrorKind::PermissionDenied,
@@ -96,8 +96,13 @@ static ROWS: [Row; 12] = [
     (LOAD_WIDTHS, Caller::Call, None, WIDTHS),
 ];
 
-fn check(rt: &impl Abort, alloc: Global, row: &Row, kind: ErrorKind) -> Result<(), Fail> {
-    let (fault, caller, text, front) = *row;
+/// Compares the message for a fault with this reason.
+fn check(
+    alloc: Global,
+    (fault, caller, text): (RunFault, Caller<'_>, Option<&str>),
+    kind: ErrorKind,
+    want: &str,
+) -> Result<(), Fail> {
     let message = Message {
         fault,
         caller,
@@ -106,9 +111,7 @@ fn check(rt: &impl Abort, alloc: Global, row: &Row, kind: ErrorKind) -> Result<(
         is_utf16: false,
     };
     let told = format!(in alloc; "{message}")?;
-    let want = format!(in alloc; "{front}: {kind}")?;
-    assert_eq!(rt; told.as_str(), want.as_str());
-    Ok(())
+    same(&told.as_str(), &want, &"the message")
 }
 
 /// A folder with unreadable files, and what to do.
@@ -127,35 +130,30 @@ static FOLDERS: [(&str, &str); 3] = [
 #[test]
 fn folders(rt: HostRuntime) -> Result<(), Fail> {
     for (folder, advice) in &FOLDERS {
-        let message = Message {
-            fault: RunFault::Load(Which::Emoji),
-            caller: Caller::Words {
-                engine: Engine::Replay { kinds: false },
-                files: FileNames {
-                    line_break: FileName::Given("L"),
-                    east_asian: FileName::InFolder(folder),
-                    category: FileName::InFolder(folder),
-                    emoji: FileName::InFolder(folder),
-                },
+        let caller = Caller::Words {
+            engine: Engine::Replay { kinds: false },
+            files: FileNames {
+                line_break: FileName::Given("L"),
+                east_asian: FileName::InFolder(folder),
+                category: FileName::InFolder(folder),
+                emoji: FileName::InFolder(folder),
             },
-            text: None,
-            reason: Some(Reason::System(ErrorKind::NotFound)),
-            is_utf16: false,
         };
-        let told = format!(in rt.alloc(); "{message}")?;
         let want = format!(in rt.alloc();
             "{folder}/emoji/emoji-data.txt: the file cannot be read: no such file{advice}"
         )?;
-        assert_eq!(&rt; told.as_str(), want.as_str());
+        let fault = (RunFault::Load(Which::Emoji), caller, None);
+        check(rt.alloc(), fault, ErrorKind::NotFound, &want)?;
     }
     Ok(())
 }
 
 #[test]
 fn reasons(rt: HostRuntime) -> Result<(), Fail> {
-    for row in &ROWS {
+    for (fault, caller, text, front) in &ROWS {
         for kind in &KINDS {
-            check(&rt, rt.alloc(), row, *kind)?;
+            let want = format!(in rt.alloc(); "{front}: {kind}")?;
+            check(rt.alloc(), (*fault, *caller, *text), *kind, &want)?;
         }
     }
     Ok(())

@@ -7,8 +7,8 @@ use lbk_notation::TestLine;
 use lbk_passage::LIMIT_MAX;
 use lbk_rules::Profile;
 use std::alloc::{AllocError, Global};
-use std::process::Abort;
 use std::test::Fail;
+use test_support::checks::same;
 
 /// How many passages of one letter follow the others.
 const SHORT: usize = 70_000;
@@ -70,45 +70,38 @@ fn counts(place: usize, sizes: &[u32]) -> (usize, usize, usize) {
     }
 }
 
-fn check_passages(rt: &impl Abort, passages: &[OwnedPassage], sizes: &[u32]) {
+fn check_passages(passages: &[OwnedPassage], sizes: &[u32]) -> Result<(), Fail> {
     for (place, passage) in passages.iter().enumerate() {
         let found = (
             passage.text().len(),
             passage.breaks().len(),
             passage.words().len(),
         );
-        assert!(rt;
-            found == counts(place, sizes),
-            "passage {place} has {found:?}"
-        );
+        same(&found, &counts(place, sizes), &place)?;
     }
+    Ok(())
 }
 
-fn check_lines(rt: &impl Abort, lines: &[TestLine], sizes: &[u32]) {
+fn check_lines(lines: &[TestLine], sizes: &[u32]) -> Result<(), Fail> {
     for (place, line) in lines.iter().enumerate() {
-        let found = (line.scalars().len(), line.marks().len());
         let (bytes, _, _) = counts(place, sizes);
-        assert!(rt;
-            found == (bytes, bytes.saturating_add(1)),
-            "line {place} has {found:?}"
-        );
+        let found = (line.scalars().len(), line.marks().len());
+        same(&found, &(bytes, bytes.saturating_add(1)), &place)?;
     }
+    Ok(())
 }
 
 #[test]
 fn passages_of_each_size(rt: HostRuntime) -> Result<(), Fail> {
     let sizes = sizes(rt.alloc())?;
     let text = text_of(rt.alloc(), &sizes)?;
+    let count = sizes.len().saturating_mul(2).saturating_add(SHORT);
     let passages = owned(rt.alloc(), &text, LIMIT_MAX)?;
-    assert_eq!(&rt;
-        passages.len(),
-        sizes.len().saturating_mul(2).saturating_add(SHORT)
-    );
-    check_passages(&rt, &passages, &sizes);
+    same(&passages.len(), &count, &"passages")?;
+    check_passages(&passages, &sizes)?;
     let lines = broken(rt.alloc(), &text, LIMIT_MAX)?;
-    assert_eq!(&rt; lines.len(), passages.len());
-    check_lines(&rt, &lines, &sizes);
-    Ok(())
+    same(&lines.len(), &count, &"lines")?;
+    check_lines(&lines, &sizes)
 }
 
 #[test]
@@ -116,7 +109,7 @@ fn limits_of_each_size(rt: HostRuntime) -> Result<(), Fail> {
     for limit in &drawn(rt.alloc(), 24)? {
         let passages = owned(rt.alloc(), "a", *limit)?.len();
         let lines = broken(rt.alloc(), "a", *limit)?.len();
-        assert!(&rt; (passages, lines) == (1, 1), "the limit {limit}");
+        same(&(passages, lines), &(1, 1), limit)?;
     }
     Ok(())
 }

@@ -8,40 +8,40 @@ use lbk_feed::{Sink, Source};
 use lbk_notation::{ReplayFault, Report};
 use lbk_passage::PassageFault;
 use lbk_rules::{CellPages, CellSource, Profile};
-use lbk_ucd::{UcdFault, Which};
+use lbk_ucd::{UcdCause, UcdFault, Which};
 use std::alloc::Global;
 use std::test::Fail;
 use test_support::calls::pages_by;
+use test_support::checks::same;
 
-/// That a value has this type.
-fn is<T: Copy>(_value: T) -> bool {
-    true
-}
-
-fn fault(fault: CmdFault) -> bool {
-    match fault {
-        CmdFault::Passage(fault) => is::<PassageFault>(fault),
-        CmdFault::Write | CmdFault::Memory => true,
+/// Each value: one more or less is an error here.
+fn values(cmd_fault: CmdFault, load_fault: LoadFault, run_fault: RunFault) {
+    match cmd_fault {
+        CmdFault::Passage(_) | CmdFault::Write | CmdFault::Memory => {}
+    }
+    match load_fault {
+        LoadFault::Unreadable | LoadFault::Memory => {}
+    }
+    match run_fault {
+        RunFault::Load(_)
+        | RunFault::Tables(_)
+        | RunFault::Cmd(_)
+        | RunFault::Replay(_)
+        | RunFault::Memory
+        | RunFault::Open
+        | RunFault::Claim(..) => {}
     }
 }
 
-fn run_fault(fault: RunFault) -> bool {
-    match fault {
-        RunFault::Load(which) => is::<Which>(which),
-        RunFault::Tables(fault) => is::<UcdFault>(fault),
-        RunFault::Cmd(fault) => is::<CmdFault>(fault),
-        RunFault::Replay(fault) => is::<ReplayFault>(fault),
-        RunFault::Memory => true,
-        // What only a run over texts, or with a folder, returns.
-        RunFault::Open | RunFault::Claim(..) => false,
-    }
-}
+const _: RunFault = RunFault::Tables(UcdFault {
+    file: Which::LineBreak,
+    line: 1,
+    cause: UcdCause::Range,
+});
 
-fn load_fault(fault: LoadFault) -> bool {
-    match fault {
-        LoadFault::Unreadable | LoadFault::Memory => true,
-    }
-}
+const _: RunFault = RunFault::Cmd(CmdFault::Write);
+
+const _: RunFault = RunFault::Replay(ReplayFault::Read);
 
 fn status(ending: Ending) -> u8 {
     let status: u8 = ending.status();
@@ -96,12 +96,8 @@ fn engines(rt: HostRuntime) -> Result<(), Fail> {
     for shows in [true, false] {
         let setting = (&cells, 4, Profile::First);
         let mut reader = MemorySource::new(b"ab");
-        let answer = written(shows, rt.alloc(), setting, &mut reader, &mut writer);
-        assert_eq!(&rt; answer, Ok(()));
+        written(shows, rt.alloc(), setting, &mut reader, &mut writer)?;
     }
-    assert!(&rt;
-        fault(CmdFault::Write) && run_fault(RunFault::Memory) && load_fault(LoadFault::Unreadable)
-    );
     Ok(())
 }
 
@@ -109,14 +105,11 @@ fn engines(rt: HostRuntime) -> Result<(), Fail> {
 fn runs(rt: HostRuntime) -> Result<(), Fail> {
     let files: &[(&str, &[u8])] = &[("name", b"bytes")];
     let mut store = MemoryStore::new(files);
-    let bytes = loaded(rt.alloc(), &mut store, "name");
-    assert!(&rt; bytes.is_ok());
+    let bytes: Vec<u8> = loaded(rt.alloc(), &mut store, "name")?;
+    same(&bytes.as_slice(), &b"bytes".as_slice(), &"a file")?;
     let mut reader = MemorySource::new(b"ab");
     let mut writer = MemorySink::new(rt.alloc(), 128)?;
     let words: &[&str] = &["bogus"];
-    assert_eq!(&rt;
-        status(ran(rt.alloc(), words, &mut store, &mut reader, &mut writer)),
-        2
-    );
-    Ok(())
+    let ending = ran(rt.alloc(), words, &mut store, &mut reader, &mut writer);
+    same(&status(ending), &2, &words)
 }

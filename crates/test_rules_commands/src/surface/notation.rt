@@ -4,35 +4,54 @@ use lbk_cmd::SAMPLE_FILES;
 use lbk_feed::devices::{MemorySink, MemorySource};
 use lbk_feed::{Sink, Source};
 use lbk_notation::{Form, LineFault, Mark, Outcome, ReplayFault, Report, TestLine, replay};
-use lbk_rules::{CellPages, CellSource, Profile, Verdict};
+use lbk_rules::{CellPages, CellSource, Kind, Profile, Rule, Verdict};
 use std::alloc::Global;
 use std::test::Fail;
 use test_support::calls::{mark_text, pages_by, read_line, replay_line, write_line};
+use test_support::checks::same;
 
-fn line_fault(fault: LineFault) -> u32 {
-    match fault {
-        LineFault::LineTooLong | LineFault::Memory => 0,
-        LineFault::Bad { at } => at,
+/// Each value: one more or less is an error here.
+fn values(
+    line_fault: LineFault,
+    replay_fault: ReplayFault,
+    mark: Mark,
+    form: Form,
+    outcome: Outcome,
+) {
+    match line_fault {
+        LineFault::LineTooLong | LineFault::Memory | LineFault::Bad { at: _ } => {}
     }
-}
-
-fn replay_fault(fault: ReplayFault) -> bool {
-    match fault {
+    match replay_fault {
         ReplayFault::Read | ReplayFault::Write | ReplayFault::Memory | ReplayFault::StreamTooLong =>
-            true,
+            {}
+    }
+    match mark {
+        Mark::No | Mark::May | Mark::Must => {}
+    }
+    match form {
+        Form::Plain | Form::Kinds => {}
+    }
+    match outcome {
+        Outcome::Agree
+        | Outcome::Differ {
+            position: _,
+            file: _,
+            rules: _,
+        } => {}
     }
 }
 
-fn outcome(outcome: Outcome) -> Option<(usize, Mark, Verdict)> {
-    match outcome {
-        Outcome::Agree => None,
-        Outcome::Differ {
-            position,
-            file,
-            rules,
-        } => Some((position, file, rules)),
-    }
-}
+/// An outcome of these types.
+const DIFFER: Outcome = Outcome::Differ {
+    position: POSITION,
+    file: Mark::May,
+    rules: Verdict {
+        kind: Kind::No,
+        rule: Rule::Lb2,
+    },
+};
+
+const POSITION: usize = 0;
 
 fn replayed<R: Source, W: Sink, C: CellSource>(
     alloc: Global,
@@ -53,19 +72,20 @@ fn lines(rt: HostRuntime) -> Result<(), Fail> {
     let line: TestLine = mark_text(rt.alloc(), &cells, "ab", Profile::First)?;
     let scalars: &[char] = line.scalars();
     let marks: &[Mark] = line.marks();
-    assert!(&rt; scalars.len() == 2 && marks.len() == 3);
-    match (Mark::Must, Form::Kinds) {
-        (Mark::No | Mark::May | Mark::Must, Form::Plain | Form::Kinds) => {}
-    }
+    same(&(scalars.len(), marks.len()), &(2, 3), &"a line")?;
     let text: Vec<u8> = write_line(rt.alloc(), &line, Form::Plain)?;
-    let again = read_line(rt.alloc(), text.as_slice(), Form::Plain);
-    assert!(&rt; again.is_ok());
-    let bad = read_line(rt.alloc(), "× D800 ÷".as_bytes(), Form::Plain);
-    assert_eq!(&rt; bad.map(|line| line.is_some()).map_err(line_fault), Err(7));
-    let same: Outcome = replay_line(&cells, &line, Form::Kinds, Profile::First);
-    assert!(&rt; outcome(same).is_none());
-    assert!(&rt; made(Vec::new(rt.alloc()), Vec::new(rt.alloc())).is_none());
-    Ok(())
+    let again: Option<TestLine> = read_line(rt.alloc(), text.as_slice(), Form::Plain)?;
+    same(&again.is_some(), &true, &"a line")?;
+    let bad = read_line(rt.alloc(), "× D800 ÷".as_bytes(), Form::Plain).err();
+    let at: u32 = 7;
+    same(&bad, &Some(LineFault::Bad { at }), &"a surrogate")?;
+    let outcome: Outcome = replay_line(&cells, &line, Form::Kinds, Profile::First);
+    same(&outcome, &Outcome::Agree, &"a line")?;
+    let differ = read_line(rt.alloc(), "÷ 0061 ÷".as_bytes(), Form::Plain)?.ok_or("a blank line")?;
+    let outcome = replay_line(&cells, &differ, Form::Plain, Profile::First);
+    same(&outcome, &DIFFER, &"a line")?;
+    let made = made(Vec::new(rt.alloc()), Vec::new(rt.alloc()));
+    same(&made.is_none(), &true, &"no line")
 }
 
 #[test]
@@ -74,24 +94,13 @@ fn files(rt: HostRuntime) -> Result<(), Fail> {
     let mut reader = MemorySource::new("÷ 0061 ÷\n".as_bytes());
     let mut writer = MemorySink::new(rt.alloc(), 64)?;
     let setting = (&cells, Form::Plain, Profile::First);
-    let found: Result<Report, ReplayFault> = replayed(
-        rt.alloc(),
-        setting,
-        &mut reader,
-        &mut writer,
-    );
-    assert!(&rt; found.is_ok() && replay_fault(ReplayFault::Read));
-    if let Ok(
-        Report {
-            lines,
-            agreed,
-            differed,
-            refused,
-        },
-    ) = found
-    {
-        let counts: [u32; 4] = [lines, agreed, differed, refused];
-        assert_eq!(&rt; counts, [1, 0, 1, 0]);
-    }
-    Ok(())
+    let found: Report = replayed(rt.alloc(), setting, &mut reader, &mut writer)?;
+    let [lines, agreed, differed, refused]: [u32; 4] = [1, 0, 1, 0];
+    let want = Report {
+        lines,
+        agreed,
+        differed,
+        refused,
+    };
+    same(&found, &want, &"a line that differs")
 }

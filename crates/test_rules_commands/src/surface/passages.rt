@@ -2,47 +2,48 @@
 
 use lbk_cmd::SAMPLE_FILES;
 use lbk_feed::devices::MemorySource;
-use lbk_passage::{Passage, PassageFault, Piece, Segment};
+use lbk_passage::{Passage, PassageFault, Piece, Segment, Segmenter};
 use lbk_rules::{CellPages, Kind, Profile, Rule, Verdict};
 use std::test::Fail;
 use test_support::calls::{next_passage, pages_by, segmenter_of};
+use test_support::checks::same;
 
-fn fault(fault: PassageFault) -> u64 {
-    match fault {
+/// Each value: one more or less is an error here.
+fn values(passage_fault: PassageFault) {
+    match passage_fault {
         PassageFault::Limit
         | PassageFault::Memory
         | PassageFault::Read
         | PassageFault::TextTooLong
-        | PassageFault::Spent => 0,
-        PassageFault::NotUtf8 { at } => at,
-        PassageFault::ParagraphTooLong { start } => start,
+        | PassageFault::Spent
+        | PassageFault::NotUtf8 { at: _ }
+        | PassageFault::ParagraphTooLong { start: _ } => {}
     }
 }
 
-fn segment(segment: Segment) -> (u32, u32, Kind, Rule) {
-    let Segment {
-        start,
-        end,
-        kind,
-        rule,
-    } = segment;
-    (start, end, kind, rule)
-}
+const LIMIT: u32 = 4;
 
-fn piece(piece: Piece) -> (u32, u32, bool) {
-    let Piece { start, end, word } = piece;
-    (start, end, word)
-}
+const AT: u64 = 4;
 
-fn passage(
-    passage: Passage<'_>,
-) -> (
-    u64,
-    usize,
-    Option<(u32, u32, Kind, Rule)>,
-    Option<(u32, u32, bool)>,
-    Verdict,
-) {
+const KIND: Kind = Kind::Must;
+
+const RULE: Rule = Rule::Lb5;
+
+/// The segment and the word of the first passage.
+const SEGMENT: Segment = Segment {
+    start: 0,
+    end: 3,
+    kind: KIND,
+    rule: RULE,
+};
+
+const WORD: Piece = Piece {
+    start: 0,
+    end: 2,
+    word: true,
+};
+
+fn check_passage(passage: Passage<'_>) -> Result<(), Fail> {
     let Passage {
         start,
         text,
@@ -50,39 +51,38 @@ fn passage(
         pieces,
         end,
     } = passage;
-    let text: &str = text;
+    let (start, text): (u64, &str) = (start, text);
+    same(&(start, text), &(0, "ab\n"), &"the text")?;
     let segments: &[Segment] = segments;
+    same(&segments, &[SEGMENT].as_slice(), &"the segments")?;
     let pieces: &[Piece] = pieces;
-    (
-        start,
-        text.len(),
-        segments.first().copied().map(segment),
-        pieces.first().copied().map(piece),
-        end,
-    )
+    same(&pieces.first(), &Some(&WORD), &"the first word")?;
+    let end: Verdict = end;
+    let want = Verdict {
+        kind: KIND,
+        rule: RULE,
+    };
+    same(&end, &want, &"the end")
 }
 
 #[test]
 fn passages(rt: HostRuntime) -> Result<(), Fail> {
     let cells: CellPages = pages_by(rt.alloc(), SAMPLE_FILES)?;
-    let refused = segmenter_of(rt.alloc(), &cells, 0, Profile::First);
-    assert!(&rt; matches!(refused, Err(PassageFault::Limit)));
-    let segmenter = segmenter_of(rt.alloc(), &cells, 4, Profile::First);
-    assert!(&rt; segmenter.is_ok());
-    if let Ok(mut segmenter) = segmenter {
-        let mut reader = MemorySource::new(b"ab\nc\xFF");
-        let lent = next_passage(&mut segmenter, &mut reader).map(|lent| lent.map(passage));
-        let (kind, rule) = (Kind::Must, Rule::Lb5);
-        let want = (
-            0,
-            3,
-            Some((0, 3, kind, rule)),
-            Some((0, 2, true)),
-            Verdict { kind, rule },
-        );
-        assert_eq!(&rt; lent, Ok(Some(want)));
-        let ended = next_passage(&mut segmenter, &mut reader).map(|lent| lent.is_some());
-        assert_eq!(&rt; ended.map_err(fault), Err(4));
-    }
-    Ok(())
+    let refused = segmenter_of(rt.alloc(), &cells, 0, Profile::First).err();
+    same(&refused, &Some(PassageFault::Limit), &"no limit")?;
+    let mut segmenter: Segmenter<'_, CellPages> = segmenter_of(
+        rt.alloc(),
+        &cells,
+        LIMIT,
+        Profile::First,
+    )?;
+    let mut reader = MemorySource::new(b"ab\nc\xFF");
+    let passage: Option<Passage<'_>> = next_passage(&mut segmenter, &mut reader)?;
+    check_passage(passage.ok_or("no passage")?)?;
+    let ended = next_passage(&mut segmenter, &mut reader).err();
+    same(
+        &ended,
+        &Some(PassageFault::NotUtf8 { at: AT }),
+        &"an ill-formed byte",
+    )
 }

@@ -7,116 +7,113 @@ use lbk_ucd::{
 };
 use std::alloc::Global;
 use std::test::Fail;
+use test_support::checks::same;
 
-fn line_break(value: LineBreak) -> bool {
-    use LineBreak::*;
-    match value {
-        Ambiguous
-        | Alphabetic
-        | BreakBoth
-        | BreakAfter
-        | BreakBefore
-        | MandatoryBreak
-        | ContingentBreak
-        | ConditionalJapaneseStarter
-        | ClosePunctuation
-        | CombiningMark
-        | CloseParenthesis
-        | CarriageReturn
-        | EBase
-        | EModifier
-        | Exclamation
-        | Glue
-        | H2
-        | H3
-        | HebrewLetter
-        | Hyphen
-        | Ideographic
-        | Inseparable
-        | InfixNumeric
-        | JL
-        | JT
-        | JV
-        | LineFeed
-        | NextLine
-        | Nonstarter
-        | Numeric
-        | OpenPunctuation
-        | PostfixNumeric
-        | PrefixNumeric
-        | Quotation
-        | RegionalIndicator
-        | ComplexContext
-        | Surrogate
-        | Space
-        | BreakSymbols
-        | WordJoiner
-        | Unknown
-        | ZWSpace
-        | ZWJ => true,
+/// Each value: one more or less is an error here.
+fn values(
+    line_break: LineBreak,
+    east_asian: EastAsian,
+    category: Category,
+    which: Which,
+    ucd_cause: UcdCause,
+) {
+    match line_break {
+        LineBreak::Ambiguous
+        | LineBreak::Alphabetic
+        | LineBreak::BreakBoth
+        | LineBreak::BreakAfter
+        | LineBreak::BreakBefore
+        | LineBreak::MandatoryBreak
+        | LineBreak::ContingentBreak
+        | LineBreak::ConditionalJapaneseStarter
+        | LineBreak::ClosePunctuation
+        | LineBreak::CombiningMark
+        | LineBreak::CloseParenthesis
+        | LineBreak::CarriageReturn
+        | LineBreak::EBase
+        | LineBreak::EModifier
+        | LineBreak::Exclamation
+        | LineBreak::Glue
+        | LineBreak::H2
+        | LineBreak::H3
+        | LineBreak::HebrewLetter
+        | LineBreak::Hyphen
+        | LineBreak::Ideographic
+        | LineBreak::Inseparable
+        | LineBreak::InfixNumeric
+        | LineBreak::JL
+        | LineBreak::JT
+        | LineBreak::JV
+        | LineBreak::LineFeed
+        | LineBreak::NextLine
+        | LineBreak::Nonstarter
+        | LineBreak::Numeric
+        | LineBreak::OpenPunctuation
+        | LineBreak::PostfixNumeric
+        | LineBreak::PrefixNumeric
+        | LineBreak::Quotation
+        | LineBreak::RegionalIndicator
+        | LineBreak::ComplexContext
+        | LineBreak::Surrogate
+        | LineBreak::Space
+        | LineBreak::BreakSymbols
+        | LineBreak::WordJoiner
+        | LineBreak::Unknown
+        | LineBreak::ZWSpace
+        | LineBreak::ZWJ => {}
     }
-}
-
-fn east_asian(value: EastAsian) -> bool {
-    use EastAsian::*;
-    match value {
-        Ambiguous | Fullwidth | Halfwidth | Neutral | Narrow | Wide => true,
+    match east_asian {
+        EastAsian::Ambiguous
+        | EastAsian::Fullwidth
+        | EastAsian::Halfwidth
+        | EastAsian::Neutral
+        | EastAsian::Narrow
+        | EastAsian::Wide => {}
     }
-}
-
-fn category(value: Category) -> bool {
-    use Category::*;
-    match value {
-        Lu
-        | Ll
-        | Lt
-        | Lm
-        | Lo
-        | Mn
-        | Mc
-        | Me
-        | Nd
-        | Nl
-        | No
-        | Pc
-        | Pd
-        | Ps
-        | Pe
-        | Pi
-        | Pf
-        | Po
-        | Sm
-        | Sc
-        | Sk
-        | So
-        | Zs
-        | Zl
-        | Zp
-        | Cc
-        | Cf
-        | Cs
-        | Co
-        | Cn => true,
+    match category {
+        Category::Lu
+        | Category::Ll
+        | Category::Lt
+        | Category::Lm
+        | Category::Lo
+        | Category::Mn
+        | Category::Mc
+        | Category::Me
+        | Category::Nd
+        | Category::Nl
+        | Category::No
+        | Category::Pc
+        | Category::Pd
+        | Category::Ps
+        | Category::Pe
+        | Category::Pi
+        | Category::Pf
+        | Category::Po
+        | Category::Sm
+        | Category::Sc
+        | Category::Sk
+        | Category::So
+        | Category::Zs
+        | Category::Zl
+        | Category::Zp
+        | Category::Cc
+        | Category::Cf
+        | Category::Cs
+        | Category::Co
+        | Category::Cn => {}
     }
-}
-
-fn which(file: Which) -> bool {
-    match file {
-        Which::LineBreak | Which::EastAsianWidth | Which::Category | Which::Emoji => true,
+    match which {
+        Which::LineBreak | Which::EastAsianWidth | Which::Category | Which::Emoji => {}
     }
-}
-
-fn cause(cause: UcdCause) -> bool {
-    use UcdCause::*;
-    match cause {
-        FileTooLong
-        | LineTooLong
-        | RowSyntax
-        | Range
-        | UnknownValue
-        | Overlap
-        | TooManyRows
-        | Memory => true,
+    match ucd_cause {
+        UcdCause::FileTooLong
+        | UcdCause::LineTooLong
+        | UcdCause::RowSyntax
+        | UcdCause::Range
+        | UcdCause::UnknownValue
+        | UcdCause::Overlap
+        | UcdCause::TooManyRows
+        | UcdCause::Memory => {}
     }
 }
 
@@ -138,26 +135,17 @@ fn read(alloc: Global, line_break: &[u8]) -> Result<Tables, UcdFault> {
 #[test]
 fn properties(rt: HostRuntime) -> Result<(), Fail> {
     let sample: &[u8] = SAMPLE_LINE_BREAK;
-    let tables: Result<Tables, UcdFault> = read(rt.alloc(), sample);
-    assert!(&rt; tables.is_ok());
-    if let Ok(tables) = &tables {
-        let code: u32 = 0x1F466;
-        let (its_line_break, width, its_category, pictographic) = values_of(&rt, tables, code);
-        assert!(&rt; line_break(its_line_break) && pictographic);
-        assert!(&rt; east_asian(width) && category(its_category));
-    }
+    let tables: Tables = read(rt.alloc(), sample)?;
+    let code: u32 = 0x1F466;
+    let values: (LineBreak, EastAsian, Category, bool) = values_of(&tables, code)?;
+    let want = (LineBreak::EBase, EastAsian::Wide, Category::So, true);
+    same(&values, &want, &code)?;
     let refused: Result<Tables, UcdFault> = read(rt.alloc(), b"\n0061;AK\n");
-    assert!(&rt; refused.is_err());
-    if let Err(
-        UcdFault {
-            file,
-            line,
-            cause: why,
-        },
-    ) = refused
-    {
-        let line: u32 = line;
-        assert!(&rt; which(file) && cause(why) && line == 2);
-    }
-    Ok(())
+    let line: u32 = 2;
+    let fault = UcdFault {
+        file: Which::LineBreak,
+        line,
+        cause: UcdCause::UnknownValue,
+    };
+    same(&refused.err(), &Some(fault), &"a bad row")
 }

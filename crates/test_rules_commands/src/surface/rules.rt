@@ -1,101 +1,106 @@
 //! What `lbk_rules` exports: cells and their sources, the evaluator, and the machines.
 
-use crate::calls::{decided, decided_in, late_step};
+use crate::calls::{decided, late_step, start_late, step};
 use lbk_cmd::SAMPLE_FILES;
 use lbk_rules::{
     Cell, CellPages, Class, End, Kind, LateMachine, Machine, Out, Profile, Quote, Rule, Verdict,
     resolve,
 };
 use lbk_ucd::{Category, EastAsian, LineBreak, Tables};
-use std::process::Abort;
 use std::test::Fail;
 use test_support::calls::{cell_of, pages_of, tables_of};
+use test_support::checks::same;
 
-/// The property value of the same name.
-fn class(value: Class) -> LineBreak {
-    match value {
-        Class::Alphabetic => LineBreak::Alphabetic,
-        Class::BreakBoth => LineBreak::BreakBoth,
-        Class::BreakAfter => LineBreak::BreakAfter,
-        Class::BreakBefore => LineBreak::BreakBefore,
-        Class::MandatoryBreak => LineBreak::MandatoryBreak,
-        Class::ContingentBreak => LineBreak::ContingentBreak,
-        Class::ClosePunctuation => LineBreak::ClosePunctuation,
-        Class::CombiningMark => LineBreak::CombiningMark,
-        Class::CloseParenthesis => LineBreak::CloseParenthesis,
-        Class::CarriageReturn => LineBreak::CarriageReturn,
-        Class::EBase => LineBreak::EBase,
-        Class::EModifier => LineBreak::EModifier,
-        Class::Exclamation => LineBreak::Exclamation,
-        Class::Glue => LineBreak::Glue,
-        Class::H2 => LineBreak::H2,
-        Class::H3 => LineBreak::H3,
-        Class::HebrewLetter => LineBreak::HebrewLetter,
-        Class::Hyphen => LineBreak::Hyphen,
-        Class::Ideographic => LineBreak::Ideographic,
-        Class::Inseparable => LineBreak::Inseparable,
-        Class::InfixNumeric => LineBreak::InfixNumeric,
-        Class::JL => LineBreak::JL,
-        Class::JT => LineBreak::JT,
-        Class::JV => LineBreak::JV,
-        Class::LineFeed => LineBreak::LineFeed,
-        Class::NextLine => LineBreak::NextLine,
-        Class::Nonstarter => LineBreak::Nonstarter,
-        Class::Numeric => LineBreak::Numeric,
-        Class::OpenPunctuation => LineBreak::OpenPunctuation,
-        Class::PostfixNumeric => LineBreak::PostfixNumeric,
-        Class::PrefixNumeric => LineBreak::PrefixNumeric,
-        Class::Quotation => LineBreak::Quotation,
-        Class::RegionalIndicator => LineBreak::RegionalIndicator,
-        Class::Space => LineBreak::Space,
-        Class::BreakSymbols => LineBreak::BreakSymbols,
-        Class::WordJoiner => LineBreak::WordJoiner,
-        Class::ZWSpace => LineBreak::ZWSpace,
-        Class::ZWJ => LineBreak::ZWJ,
+/// Each value: one more or less is an error here.
+fn values(class: Class, rule: Rule, quote: Quote, kind: Kind, profile: Profile) {
+    match class {
+        Class::Alphabetic
+        | Class::BreakBoth
+        | Class::BreakAfter
+        | Class::BreakBefore
+        | Class::MandatoryBreak
+        | Class::ContingentBreak
+        | Class::ClosePunctuation
+        | Class::CombiningMark
+        | Class::CloseParenthesis
+        | Class::CarriageReturn
+        | Class::EBase
+        | Class::EModifier
+        | Class::Exclamation
+        | Class::Glue
+        | Class::H2
+        | Class::H3
+        | Class::HebrewLetter
+        | Class::Hyphen
+        | Class::Ideographic
+        | Class::Inseparable
+        | Class::InfixNumeric
+        | Class::JL
+        | Class::JT
+        | Class::JV
+        | Class::LineFeed
+        | Class::NextLine
+        | Class::Nonstarter
+        | Class::Numeric
+        | Class::OpenPunctuation
+        | Class::PostfixNumeric
+        | Class::PrefixNumeric
+        | Class::Quotation
+        | Class::RegionalIndicator
+        | Class::Space
+        | Class::BreakSymbols
+        | Class::WordJoiner
+        | Class::ZWSpace
+        | Class::ZWJ => {}
     }
-}
-
-fn rule(value: Rule) -> bool {
-    use Rule::*;
-    match value {
-        Lb2
-        | Lb3
-        | Lb4
-        | Lb5
-        | Lb6
-        | Lb7
-        | Lb8
-        | Lb8a
-        | Lb9
-        | Lb11
-        | Lb12
-        | Lb12a
-        | Lb13
-        | Lb14
-        | Lb15
-        | Lb15a
-        | Lb15b
-        | Lb16
-        | Lb17
-        | Lb18
-        | Lb19
-        | Lb20
-        | Lb21
-        | Lb21a
-        | Lb21b
-        | Lb22
-        | Lb23
-        | Lb23a
-        | Lb24
-        | Lb25
-        | Lb26
-        | Lb27
-        | Lb28
-        | Lb29
-        | Lb30
-        | Lb30a
-        | Lb30b
-        | Lb31 => true,
+    match rule {
+        Rule::Lb2
+        | Rule::Lb3
+        | Rule::Lb4
+        | Rule::Lb5
+        | Rule::Lb6
+        | Rule::Lb7
+        | Rule::Lb8
+        | Rule::Lb8a
+        | Rule::Lb9
+        | Rule::Lb11
+        | Rule::Lb12
+        | Rule::Lb12a
+        | Rule::Lb13
+        | Rule::Lb14
+        | Rule::Lb15
+        | Rule::Lb15a
+        | Rule::Lb15b
+        | Rule::Lb16
+        | Rule::Lb17
+        | Rule::Lb18
+        | Rule::Lb19
+        | Rule::Lb20
+        | Rule::Lb21
+        | Rule::Lb21a
+        | Rule::Lb21b
+        | Rule::Lb22
+        | Rule::Lb23
+        | Rule::Lb23a
+        | Rule::Lb24
+        | Rule::Lb25
+        | Rule::Lb26
+        | Rule::Lb27
+        | Rule::Lb28
+        | Rule::Lb29
+        | Rule::Lb30
+        | Rule::Lb30a
+        | Rule::Lb30b
+        | Rule::Lb31 => {}
+    }
+    match quote {
+        Quote::Neither | Quote::Initial | Quote::Final => {}
+    }
+    match kind {
+        Kind::No | Kind::May | Kind::Must => {}
+    }
+    match profile {
+        Profile::First | Profile::Second => {}
     }
 }
 
@@ -112,27 +117,6 @@ fn letter() -> Cell {
     }
 }
 
-/// The verdicts of a text of one letter, by the machine of the first profile.
-fn by_machine(cell: Cell) -> (Verdict, Verdict) {
-    let mut machine: Machine = Machine::start();
-    let before: Verdict = machine.step(cell);
-    let after: Verdict = machine.finish();
-    (before, after)
-}
-
-/// The same by the machine of either profile.
-fn by_late_machine(rt: &impl Abort, profile: Profile, cell: Cell) -> (Option<Verdict>, Verdict) {
-    let mut machine: LateMachine = LateMachine::start(profile);
-    let Out { now, late } = late_step(rt, &mut machine, 0, cell);
-    let now: Option<Verdict> = now;
-    let late: Option<(u64, Verdict)> = late;
-    let steps: u64 = machine.steps();
-    let End { late: last, end } = machine.finish();
-    let last: Option<(u64, Verdict)> = last;
-    assert!(rt; late.is_none() && last.is_none() && steps == 1);
-    (now, end)
-}
-
 #[test]
 fn cells(rt: HostRuntime) -> Result<(), Fail> {
     let resolved: Cell = resolve(
@@ -141,42 +125,50 @@ fn cells(rt: HostRuntime) -> Result<(), Fail> {
         Category::Ll,
         false,
     );
-    let Cell {
-        class: its_class,
-        wide,
-        pict_cn,
-        quote: its_quote,
-        letter,
-    } = resolved;
-    assert_eq!(&rt; class(its_class), LineBreak::Alphabetic);
-    assert!(&rt; !wide && !pict_cn && letter);
-    match its_quote {
-        Quote::Neither | Quote::Initial | Quote::Final => {}
-    }
+    same(&resolved, &letter(), &"a letter")?;
     let tables: Tables = tables_of(rt.alloc(), SAMPLE_FILES)?;
     let pages: CellPages = pages_of(rt.alloc(), &tables)?;
-    assert_eq!(&rt; cell_of(&tables, 'a'), cell_of(&pages, 'a'));
-    Ok(())
+    same(&cell_of(&tables, 'a'), &cell_of(&pages, 'a'), &'a')
 }
 
+/// The verdicts of a text of one letter: before it, and at its end.
+const VERDICTS: [Verdict; 2] = [
+    Verdict {
+        kind: Kind::No,
+        rule: Rule::Lb2,
+    },
+    Verdict {
+        kind: Kind::Must,
+        rule: Rule::Lb3,
+    },
+];
+
+/// By the evaluator of both profiles, and by the machine of the first.
 #[test]
-fn verdicts(rt: HostRuntime) -> Result<(), Fail> {
+fn verdicts(_rt: HostRuntime) -> Result<(), Fail> {
     let cells: &[Cell] = &[letter()];
-    let Verdict {
-        kind: its_kind,
-        rule: its_rule,
-    } = decided(&rt, cells, 1);
-    let label: &'static str = its_rule.label();
-    match (its_kind, Profile::Second) {
-        (Kind::No | Kind::May | Kind::Must, Profile::First | Profile::Second) => {}
+    let label: &'static str = VERDICTS[1].rule.label();
+    same(&label, &"3", &"a label")?;
+    for profile in [Profile::First, Profile::Second] {
+        same(&decided(profile, cells, 0)?, &VERDICTS[0], &profile)?;
+        same(&decided(profile, cells, 1)?, &VERDICTS[1], &profile)?;
     }
-    assert!(&rt; rule(its_rule));
-    assert_eq!(&rt; label, "3");
-    let first: Verdict = decided_in(&rt, Profile::First, cells, 1);
-    assert_eq!(&rt; first, decided(&rt, cells, 1));
-    let second: Verdict = decided_in(&rt, Profile::Second, cells, 1);
-    let (before, after) = by_machine(letter());
-    let (late_before, late_after) = by_late_machine(&rt, Profile::Second, letter());
-    assert!(&rt; second == after && late_before == Some(before) && late_after == after);
-    Ok(())
+    let mut machine: Machine = Machine::start();
+    let before: Verdict = step(&mut machine, letter());
+    let after: Verdict = machine.finish();
+    same(&[before, after], &VERDICTS, &"the machine")
+}
+
+/// The same by the machine of either profile.
+#[test]
+fn late_verdicts(_rt: HostRuntime) -> Result<(), Fail> {
+    let mut machine: LateMachine = start_late(Profile::Second);
+    let out: Out = late_step(&mut machine, 0, letter())?;
+    let now: Option<Verdict> = Some(VERDICTS[0]);
+    let late: Option<(u64, Verdict)> = None;
+    same(&out, &Out { now, late }, &"a step")?;
+    let steps: u64 = machine.steps();
+    same(&steps, &1, &"steps")?;
+    let end: Verdict = VERDICTS[1];
+    same(&machine.finish(), &End { late, end }, &"the end")
 }
