@@ -5,7 +5,7 @@ ghost use Rattle.lbk_masks.specs.Sets.{is_set};
 ghost use Rattle.lbk_words.specs.Ends.{AreEnds, AreParts, AreTold, IsReading, is_pair};
 
 use crate::blocks::{BLOCK, marks_of, wides_of};
-use crate::scalars::scalar_at;
+use crate::scalars::{WIDE, scalar_at};
 use crate::steps::{first_row, next_step, step_of_three};
 use lbk_masks::{HalfSets, first_set, kept_below, kept_from};
 
@@ -14,9 +14,6 @@ const FEW: usize = 16;
 
 /// The first byte value with which few letters of two bytes begin, or longer ones do.
 const LONG: u8 = 0xDC;
-
-/// The first byte value with which scalars of three bytes or more begin.
-const WIDE: u8 = 0xE0;
 
 /// How far the parts of a text were read.
 #[derive(Clone, Copy)]

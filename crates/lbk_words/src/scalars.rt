@@ -12,6 +12,9 @@ use crate::kinds::kind_of;
 use crate::step_table::ANSWERS;
 use bstr::decode_lossy;
 
+/// The first byte value with which scalars of three bytes or more begin.
+pub(crate) const WIDE: u8 = 0xE0;
+
 /// A scalar of a text.
 #[derive(Clone, Copy)]
 pub(crate) struct Scalar {
@@ -81,6 +84,7 @@ const PASSED_OVER: u8 = 4;
 
 /// What the rules ask of the first scalar from a byte on that rule WB4 does not pass over: 1 for an ALetter, 2 for a
 /// Hebrew_Letter, 3 for a Numeric, and 0 for any other or where none is left.
+#[inline(never)]
 pub(crate) fn answer_ahead(text: &[u8], start: usize) -> usize
     ensures number { result ≡ answer_number (value_at (significant (scalars_on text.now start)) 0) }
     ensures few { result < 4 }

@@ -20,13 +20,22 @@ scalars-init c =
       };
     }
 
+pub threes_taken-part-requires : goal.threes_taken-part-requires
+threes_taken-part-requires c =
+    let next = c.next_step-next.ensures in (
+      c.args.here,
+      c.args.out.now,
+      c.taken-part.ensures.fills c.args.text.now c.args.here c.args.out.now next.code c.scalars.invariant next.read next.step,
+    )
+
 pub bytes-init : goal.bytes-init
 bytes-init c =
     let next = c.next_step-next.ensures in
     let taken = c.taken-part in
     record {
-      onward = omega (arith, taken.ensures.at, next.read.grows);
-      fills = taken.ensures.fills c.args.text.now c.args.here c.args.out.now next.code c.scalars.invariant next.read next.step;
+      onward = omega (arith, taken.ensures.at, next.read.grows, c.threes_taken-part.ensures.onward);
+      fills = c.threes_taken-part.ensures.fills c.args.here c.args.out.now
+          (taken.ensures.fills c.args.text.now c.args.here c.args.out.now next.code c.scalars.invariant next.read next.step);
     }
 
 pub bytes-preserved : goal.bytes-preserved
