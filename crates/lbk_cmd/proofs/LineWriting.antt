@@ -20,11 +20,11 @@ pub record Writes (verdicts : List Verdict) (k : ℕ) (rest out all : List ℕ) 
   pub place : k + length (chars rest) ≡ length verdicts
   pub joined : out ++ written_after Kinds (chars rest) (map (λ (v : Verdict). mark_of v.kind) (drop k verdicts)) ≡ all
 
-pub Writes-start : (text : List ℕ) (verdicts : List Verdict) (v : Verdict) (rest old out : List ℕ) → IsUtf8 text → rest ≡ text
-    → length verdicts ≡ length (chars text) + 1 → v ≡ get_or verdicts 0 v → out ≡ old ++ mark_bytes (shown Kinds (mark_of v.kind))
+pub Writes-start : (text : List ℕ) (verdicts : List Verdict) (v d : Verdict) (rest old out : List ℕ) → IsUtf8 text → rest ≡ text
+    → length verdicts ≡ length (chars text) + 1 → v ≡ get_or verdicts 0 d → out ≡ old ++ mark_bytes (shown Kinds (mark_of v.kind))
     → Writes verdicts 1 rest out (old ++ written_marks Kinds (chars text) (map (λ (w : Verdict). mark_of w.kind) verdicts))
-Writes-start text [] v rest old out utf8 whole many first pushed = absurd (omega (arith, many))
-Writes-start text (w ∷ ws) v rest old out utf8 whole many first pushed = record {
+Writes-start text [] v d rest old out utf8 whole many first pushed = absurd (omega (arith, many))
+Writes-start text (w ∷ ws) v d rest old out utf8 whole many first pushed = record {
   utf8 = subst IsUtf8 (sym whole) utf8;
   place = omega (arith, many, ap (λ l. length (chars l)) whole);
   joined =
