@@ -23,7 +23,7 @@ BOUNDS = [
     ("Breaks, profile 2", "Breaks, profile 1", (0.5, 0.5, 0.5)),
     ("Stepper, profile 1", "LateMachine, profile 1", (5.0, 4.0, 3.0)),
     ("Stepper, profile 2", "LateMachine, profile 2", (5.0, 4.0, 3.0)),
-    ("segments of passages", "Breaks, profile 1", (0.3, 0.3, 0.3)),
+    ("segments of lines", "Breaks, profile 1", (0.3, 0.3, 0.3)),
     ("next", "words", (0.2, 0.2, 0.2)),
     ("mark", "show", (1.1, 0.9, 0.7)),
     # Time that grew as the square of the text would leave less than 0.2. These are two runs, which other load sets

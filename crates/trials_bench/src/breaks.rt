@@ -2,37 +2,40 @@
 
 use crate::counting::{begin, end};
 use crate::digest::Digest;
-use crate::inputs::{Input, tables_of};
+use crate::inputs::Input;
+use crate::told::fault_told;
 use crate::verdicts::{add_late, add_out, add_verdict};
-use anyhow::Result;
 use lbk_files::SAMPLE_FILES;
 use lbk_passage::{Break, Breaks};
-use lbk_rules::{CellPages, CellSource, Kind, Profile, Rule, Stepper};
+use lbk_rules::{CellSource, Kind, Profile, Rule, Stepper};
 use lbk_ucd::Tables;
-use std::alloc::Global;
+use std::alloc::{AllocError, Global};
+use test_support::calls::tables_of;
+use test_support::engines::Setting;
 
-pub fn breaks(alloc: Global, input: &Input, profile: Profile) -> Result<String> {
-    let text = input.text()?;
-    let tables = tables_of(alloc, SAMPLE_FILES)?;
-    breaks_told(alloc, &input.cells, &tables, text, profile)
+pub fn breaks(alloc: Global, input: &Input<'_>) -> Result<String, AllocError> {
+    match tables_of(alloc, SAMPLE_FILES) {
+        Ok(tables) => breaks_told(input.setting(alloc), &tables, input.text()),
+        Err(fault) => fault_told(alloc, &fault),
+    }
 }
 
-fn breaks_told(
-    alloc: Global,
-    pages: &CellPages,
-    tables: &Tables,
-    text: &str,
-    profile: Profile,
-) -> Result<String> {
+fn breaks_told(setting: Setting<'_>, tables: &Tables, text: &str) -> Result<String, AllocError> {
+    let Setting {
+        alloc,
+        cells,
+        profile,
+        ..
+    } = setting;
     let mut digest = Digest::new();
     begin(alloc);
-    let in_pages = add_breaks(&mut digest, pages, text, profile);
+    let in_pages = add_breaks(&mut digest, cells, text, profile);
     let in_tables = add_breaks(&mut digest, tables, text, profile);
-    step_stepper(&mut digest, pages, text, profile);
+    step_stepper(&mut digest, cells, text, profile);
     step_stepper(&mut digest, tables, text, profile);
     end(alloc);
     let digest = digest.value();
-    Ok(format!(in alloc; "{in_pages} and {in_tables} breaks, digest {digest:016x}\n")?)
+    format!(in alloc; "{in_pages} and {in_tables} breaks, digest {digest:016x}\n")
 }
 
 const NO_BREAK: Break = Break {

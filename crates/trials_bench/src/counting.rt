@@ -18,14 +18,3 @@ pub fn begin(alloc: Global) {
 pub fn end(alloc: Global) {
     let _ = Vec::<u8>::with_capacity(alloc, END);
 }
-
-/// The answer of a call, with its allocations counted and without its contract: a trial only proves that it is safe
-/// and returns, so it needs no facts about it; without these facts a check takes a fraction of the time.
-pub fn counted<T, F: FnOnce() -> T>(alloc: Global, call: F) -> T
-    requires { F.IsAlwaysCallable call }
-{
-    begin(alloc);
-    let answer = call();
-    end(alloc);
-    answer
-}

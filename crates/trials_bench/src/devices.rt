@@ -3,7 +3,6 @@
 use crate::counting::{begin, end};
 use crate::digest::Digest;
 use crate::inputs::Input;
-use anyhow::Result;
 use lbk_feed::devices::MemorySource;
 use lbk_feed::{Device, Failed, Feed, FeedFault, Sink, Source, write_all};
 use std::alloc::{AllocError, Global};
@@ -13,8 +12,8 @@ use std::fmt::Write;
 const PIECES: usize = 100_000;
 
 /// `Feed::new`, `ready`, `piece`, `settle`, `advance`, `given`.
-pub fn feed(alloc: Global, input: &Input) -> Result<String> {
-    let mut source = MemorySource::cut(&input.bytes, &[1, 2, 3, 4096]);
+pub fn feed(alloc: Global, input: &Input<'_>) -> Result<String, AllocError> {
+    let mut source = MemorySource::cut(input.bytes, &[1, 2, 3, 4096]);
     let mut digest = Digest::new();
     begin(alloc);
     let mut feed = Feed::new();
@@ -23,20 +22,10 @@ pub fn feed(alloc: Global, input: &Input) -> Result<String> {
     let given = feed.given();
     end(alloc);
     let reads = source.reads();
-    feed_told(alloc, (given, reads), fault, settled, digest)
-}
-
-fn feed_told(
-    alloc: Global,
-    (given, reads): (u64, u64),
-    fault: Option<FeedFault>,
-    settled: Result<bool, FeedFault>,
-    digest: Digest,
-) -> Result<String> {
     let digest = digest.value();
-    Ok(format!(in alloc;
+    format!(in alloc;
         "{given} bytes, {reads} reads, {fault:?}, {settled:?}, digest {digest:016x}\n"
-    )?)
+    )
 }
 
 fn add_pieces(
@@ -72,7 +61,7 @@ fn settle(feed: &mut Feed, source: &mut MemorySource<'_>) -> Result<bool, FeedFa
 }
 
 /// `Device::new`, its `read` and `write`, `reads`, `failures`, `ended`; `write_all`.
-pub fn device(alloc: Global) -> Result<String> {
+pub fn device(alloc: Global) -> Result<String, AllocError> {
     let room: Vec<u8> = Vec::with_capacity(alloc, 64)?;
     begin(alloc);
     let read = Reads::make();

@@ -1,65 +1,91 @@
 //! The engines of the program: their results and outputs; the sink of the output; and `break_text`.
 
-use crate::counting::counted;
+use crate::counting::{begin, end};
 use crate::inputs::{Input, sink_of, source_of};
 use crate::told::{answer_told, fault_told, line_told};
-use anyhow::Result;
-use lbk_feed::devices::MemorySink;
+use lbk_cmd::BreakFault;
+use lbk_feed::devices::{MemorySink, MemorySource};
 use lbk_files::SAMPLE_FILES;
-use lbk_notation::TestLine;
-use lbk_rules::Profile;
-use std::alloc::Global;
-use test_support::engines::Engine;
+use lbk_notation::{Form, ReplayFault, Report, TestLine};
+use std::alloc::{AllocError, Global};
+use test_support::engines::{Engine, Setting};
 
-pub fn write(alloc: Global, engine: Engine, input: &Input, profile: Profile) -> Result<String> {
-    let mut source = source_of(&input.bytes);
+pub fn write(alloc: Global, engine: Engine, input: &Input<'_>) -> Result<String, AllocError> {
     let mut sink = sink_of(alloc)?;
-    let setting = input.setting(alloc, profile);
-    let answer = counted(alloc, || engine.write(setting, &mut source, &mut sink));
+    let mut source = source_of(input.bytes);
+    begin(alloc);
+    let answer = engine.write(input.setting(alloc), &mut source, &mut sink);
+    end(alloc);
     answer_told(alloc, &answer, sink.bytes())
 }
 
-pub fn replay(alloc: Global, input: &Input, profile: Profile) -> Result<String> {
-    let mut source = source_of(&input.bytes);
+pub fn replay(alloc: Global, input: &Input<'_>) -> Result<String, AllocError> {
     let mut sink = sink_of(alloc)?;
-    let answer = counted(alloc, || {
-        lbk_notation::replay(
-            alloc,
-            &mut source,
-            &mut sink,
-            &input.cells,
-            input.form,
-            profile,
-        )
-    });
+    let mut source = source_of(input.bytes);
+    begin(alloc);
+    let answer = replayed(input.setting(alloc), input.form, &mut source, &mut sink);
+    end(alloc);
     answer_told(alloc, &answer, sink.bytes())
 }
 
-pub fn break_text(alloc: Global, input: &Input, profile: Profile) -> Result<String> {
-    let mut source = source_of(&input.bytes);
-    match counted(alloc, || {
-        lbk_cmd::break_text(alloc, SAMPLE_FILES, &mut source, input.limit, profile)
-    }) {
+/// `replay`, without its contract.
+fn replayed(
+    setting: Setting<'_>,
+    form: Form,
+    source: &mut MemorySource<'_>,
+    sink: &mut MemorySink,
+) -> Result<Report, ReplayFault> {
+    let Setting { alloc, cells, .. } = setting;
+    lbk_notation::replay(alloc, source, sink, cells, form, setting.profile)
+}
+
+pub fn break_text(alloc: Global, input: &Input<'_>) -> Result<String, AllocError> {
+    let mut source = source_of(input.bytes);
+    begin(alloc);
+    let answer = broken(input.setting(alloc), &mut source);
+    end(alloc);
+    match answer {
         Ok(lines) => lines_told(alloc, &lines),
         Err(fault) => fault_told(alloc, &fault),
     }
 }
 
-fn lines_told(alloc: Global, lines: &[TestLine]) -> Result<String> {
+/// `break_text`, without its contract.
+fn broken(
+    setting: Setting<'_>,
+    source: &mut MemorySource<'_>,
+) -> Result<Vec<TestLine>, BreakFault> {
+    lbk_cmd::break_text(
+        setting.alloc,
+        SAMPLE_FILES,
+        source,
+        setting.limit,
+        setting.profile,
+    )
+}
+
+fn lines_told(alloc: Global, lines: &[TestLine]) -> Result<String, AllocError> {
     let count = lines.len();
     let mut text = format!(in alloc; "Ok: {count} lines\n")?;
     for line in lines {
-        let line = line_told(alloc, line)?;
-        text.push_str(&line)?;
+        push_line(alloc, &mut text, line)?;
     }
     Ok(text)
 }
 
-pub fn sink(alloc: Global, room: u16) -> Result<String> {
-    match counted(alloc, || MemorySink::new(alloc, usize::from(room))) {
+fn push_line(alloc: Global, text: &mut String, line: &TestLine) -> Result<(), AllocError> {
+    let line = line_told(alloc, line)?;
+    text.push_str(&line)
+}
+
+pub fn sink(alloc: Global, room: u16) -> Result<String, AllocError> {
+    begin(alloc);
+    let answer = MemorySink::new(alloc, usize::from(room));
+    end(alloc);
+    match answer {
         Ok(sink) => {
             let written = sink.bytes();
-            Ok(format!(in alloc; "Ok: {written:?}\n")?)
+            format!(in alloc; "Ok: {written:?}\n")
         }
         Err(fault) => fault_told(alloc, &fault),
     }

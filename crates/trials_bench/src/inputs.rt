@@ -1,13 +1,12 @@
 //! Texts, test files, and inputs that are made before allocations are counted.
 
-use crate::samples::Sample;
-use anyhow::{Result, anyhow};
 use lbk_feed::devices::{MemorySink, MemorySource};
-use lbk_files::{SAMPLE_FILES, read_cells};
-use lbk_notation::{Form, TestLine, mark_text};
-use lbk_rules::{Cell, CellPages, CellSource, Kind, Profile, Rule, Verdict, decide_all_in};
-use lbk_ucd::{Files, Tables};
+use lbk_files::sample_cells;
+use lbk_notation::{Form, TestLine};
+use lbk_rules::{Cell, CellPages, Kind, Profile, Rule, Verdict, decide_all_in};
 use std::alloc::{AllocError, Global};
+use test_support::calls::mark_text;
+use test_support::cells::cells_of;
 use test_support::engines::Setting;
 
 /// The bytes of a text or of a file.
@@ -22,72 +21,57 @@ pub enum Text {
 
 impl Text {
     pub fn bytes(self, alloc: Global) -> Result<Vec<u8>, AllocError> {
-        let mut bytes = Vec::new(alloc);
         match self {
-            Text::Of(text) => bytes.extend_from_slice(text.as_bytes())?,
-            Text::Bytes(given) => bytes.extend_from_slice(given)?,
-            Text::Repeated(text, times) => {
-                for _ in 0..times {
-                    bytes.extend_from_slice(text.as_bytes())?;
-                }
-            }
+            Text::Of(text) => Vec::from_slice(alloc, text.as_bytes()),
+            Text::Bytes(given) => Vec::from_slice(alloc, given),
+            Text::Repeated(text, times) => repeated(alloc, text.as_bytes(), times),
         }
-        Ok(bytes)
     }
 }
 
-/// A text's bytes, the cells by the sample files, the limit of a paragraph and the form of lines.
-#[derive(Drop)]
-pub struct Input {
-    pub bytes: Vec<u8>,
-    pub cells: CellPages,
+fn repeated(alloc: Global, text: &[u8], times: usize) -> Result<Vec<u8>, AllocError> {
+    let mut bytes = Vec::new(alloc);
+    for _ in 0..times {
+        bytes.extend_from_slice(text)?;
+    }
+    Ok(bytes)
+}
+
+/// A text's bytes, the cells by the sample files, the limit of a paragraph, the profile and the form of lines. It owns
+/// nothing, because a function that owns much takes long to check.
+#[derive(Clone, Copy)]
+pub struct Input<'a> {
+    pub bytes: &'a [u8],
+    pub cells: &'a CellPages,
     pub limit: u32,
+    pub profile: Profile,
     pub form: Form,
 }
 
-impl Input {
-    pub fn new(alloc: Global, (text, limit, form): Sample) -> Result<Input> {
-        Ok(Input {
-            bytes: text.bytes(alloc)?,
-            cells: cells(alloc)?,
-            limit,
-            form,
-        })
-    }
-
-    pub fn setting(&self, alloc: Global, profile: Profile) -> Setting<'_> {
+impl Input<'_> {
+    pub fn setting(&self, alloc: Global) -> Setting<'_> {
         Setting {
             alloc,
-            cells: &self.cells,
+            cells: self.cells,
             limit: self.limit,
-            profile,
+            profile: self.profile,
         }
     }
 
     /// The text of the bytes.
-    pub fn text(&self) -> Result<&str> {
-        text_of(&self.bytes)
+    pub fn text(&self) -> &str {
+        text_of(self.bytes)
     }
 
     /// The cells of the text's scalars.
-    pub fn cell_list(&self, alloc: Global) -> Result<Vec<Cell>> {
-        let mut list = Vec::new(alloc);
-        push_cells(&mut list, &self.cells, self.text()?)?;
-        Ok(list)
+    pub fn cell_list(&self, alloc: Global) -> Result<Vec<Cell>, AllocError> {
+        cells_of(alloc, self.cells, self.text())
     }
 
     /// The text's line: its scalars and the marks of its positions.
-    pub fn line(&self, alloc: Global, profile: Profile) -> Result<TestLine> {
-        let text = self.text()?;
-        Ok(mark_text(alloc, &self.cells, text, profile)?)
+    pub fn line(&self, alloc: Global) -> Result<TestLine, AllocError> {
+        mark_text(alloc, self.cells, self.text(), self.profile)
     }
-}
-
-fn push_cells(list: &mut Vec<Cell>, cells: &CellPages, text: &str) -> Result<(), AllocError> {
-    for c in text.chars() {
-        list.push(cells.cell(c))?;
-    }
-    Ok(())
 }
 
 /// A source of these bytes, three in a read.
@@ -102,25 +86,17 @@ pub fn sink_of(alloc: Global) -> Result<MemorySink, AllocError> {
     MemorySink::new(alloc, ROOM)
 }
 
-/// The tables of well-formed files.
-pub fn tables_of(alloc: Global, files: Files<'_>) -> Result<Tables> {
-    match Tables::read(alloc, files) {
-        Ok(tables) => Ok(tables),
-        Err(_) => Err(anyhow!("a property file is refused")),
+/// The cells by the sample files, which are well-formed.
+pub fn cells(alloc: Global) -> Result<CellPages, AllocError> {
+    match sample_cells(alloc) {
+        Ok(cells) => Ok(cells),
+        Err(_) => Err(AllocError),
     }
-}
-
-/// The cells by the sample files.
-pub fn cells(alloc: Global) -> Result<CellPages> {
-    Ok(read_cells(alloc, SAMPLE_FILES)?)
 }
 
 /// The text of these bytes, which are well-formed.
-pub fn text_of(bytes: &[u8]) -> Result<&str> {
-    match str::from_utf8(bytes) {
-        Ok(text) => Ok(text),
-        Err(_) => Err(anyhow!("the text of this row is not UTF-8")),
-    }
+pub fn text_of(bytes: &[u8]) -> &str {
+    str::from_utf8(bytes).unwrap_or("the text of this row is not UTF-8")
 }
 
 const BLANK: Verdict = Verdict {

@@ -25,7 +25,6 @@ mod pushes;
 mod quiet;
 mod rows;
 mod samples;
-mod stepless;
 mod tables;
 mod timing;
 mod told;
@@ -34,7 +33,9 @@ mod verdicts;
 
 use anyhow::{Result, bail};
 use lbk_rules::Profile;
+use on_text::OnText;
 use rows::{calls, others, trial_of};
+use samples::sample_of;
 use std::env;
 use std::process::ExitCode;
 use trial::Trial;
@@ -49,11 +50,17 @@ fn main(rt: HostRuntime) -> Result<ExitCode> {
     match words.as_slice() {
         [] => run_all(&rt),
         [name] => run_one(&rt, name.as_str(), Profile::First),
-        [mode, name] if mode.as_str() == "layers" => measure(&rt, name.as_str()),
-        [name, profile] if profile.as_str() == "2" => {
-            run_one(&rt, name.as_str(), Profile::Second)
-        }
+        [first, second] => run_two(&rt, first.as_str(), second.as_str()),
         _ => usage(&rt),
+    }
+}
+
+/// By two arguments.
+fn run_two(rt: &HostRuntime, first: &str, second: &str) -> Result<ExitCode> {
+    match (first, second) {
+        ("layers", name) => measure(rt, name),
+        (name, "2") => run_one(rt, name, Profile::Second),
+        _ => usage(rt),
     }
 }
 
@@ -83,38 +90,36 @@ fn run_all(rt: &HostRuntime) -> Result<ExitCode> {
     for (name, trial) in others() {
         run_row(rt, name, *trial)?;
     }
-    for (call, _, texts) in calls() {
-        run_call(rt, call, texts)?;
+    for (call, on_text, texts) in calls() {
+        run_call(rt, call, *on_text, texts)?;
     }
     Ok(ExitCode::SUCCESS)
 }
 
 /// Runs a call on these texts.
-fn run_call(rt: &HostRuntime, call: &str, texts: &str) -> Result<()> {
+fn run_call(rt: &HostRuntime, call: &str, on_text: OnText, texts: &str) -> Result<()> {
     for text in texts.split(' ') {
-        let name = format!(in rt.alloc(); "{call}/{text}")?;
-        let Some(trial) = trial_of(name.as_str()) else {
+        let Some(sample) = sample_of(text) else {
             bail!("there is no text {text}");
         };
-        run_row(rt, name.as_str(), trial)?;
+        let name = format!(in rt.alloc(); "{call}/{text}")?;
+        run_row(rt, name.as_str(), Trial::OnText(on_text, sample))?;
     }
     Ok(())
 }
 
 fn run_row(rt: &HostRuntime, name: &str, trial: Trial) -> Result<()> {
-    run_shortly(rt, name, trial, Profile::First)?;
+    println!(rt; "row {name}")?;
+    run_shortly(rt, trial, Profile::First)?;
     if trial.has_profile() {
-        run_shortly(rt, name, trial, Profile::Second)?;
+        println!(rt; "row {name} 2")?;
+        run_shortly(rt, trial, Profile::Second)?;
     }
     Ok(())
 }
 
-fn run_shortly(rt: &HostRuntime, name: &str, trial: Trial, profile: Profile) -> Result<()> {
+fn run_shortly(rt: &HostRuntime, trial: Trial, profile: Profile) -> Result<()> {
     let told = trial.run(rt.alloc(), profile)?;
-    match profile {
-        Profile::First => println!(rt; "row {name}")?,
-        Profile::Second => println!(rt; "row {name} 2")?,
-    }
     show(rt, told.as_str())
 }
 
@@ -122,10 +127,10 @@ fn run_shortly(rt: &HostRuntime, name: &str, trial: Trial, profile: Profile) -> 
 fn show(rt: &HostRuntime, told: &str) -> Result<()> {
     if told.len() <= SHOWN {
         println!(rt; "{}", told.strip_suffix('\n').unwrap_or(told))?;
-    } else {
-        let digest = digest::of(told.as_bytes());
-        let count = told.len();
-        println!(rt; "{count} bytes, digest {digest:016x}")?;
+        return Ok(());
     }
+    let digest = digest::of(told.as_bytes());
+    let count = told.len();
+    println!(rt; "{count} bytes, digest {digest:016x}")?;
     Ok(())
 }

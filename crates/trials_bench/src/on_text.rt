@@ -1,11 +1,11 @@
 //! Calls on a text.
 
-use crate::inputs::Input;
+use crate::inputs::{Input, cells};
 use crate::samples::Sample;
 use crate::{breaks, devices, engines, lines, passages, pushes, verdicts};
-use anyhow::Result;
+use lbk_notation::Form;
 use lbk_rules::Profile;
-use std::alloc::Global;
+use std::alloc::{AllocError, Global};
 use test_support::engines::Engine;
 
 /// A call on a text, with the cells of the sample files.
@@ -55,29 +55,51 @@ impl OnText {
     }
 
     /// Makes what the call needs, makes the call, and returns its result as text.
-    pub fn run(self, alloc: Global, sample: Sample, profile: Profile) -> Result<String> {
-        let input = Input::new(alloc, sample)?;
-        self.run_on(alloc, &input, profile)
+    pub fn run(
+        self,
+        alloc: Global,
+        (text, limit, form): Sample,
+        profile: Profile,
+    ) -> Result<String, AllocError> {
+        let bytes = text.bytes(alloc)?;
+        self.run_on_bytes(alloc, &bytes, (limit, form, profile))
     }
 
-    fn run_on(self, alloc: Global, input: &Input, profile: Profile) -> Result<String> {
+    fn run_on_bytes(
+        self,
+        alloc: Global,
+        bytes: &[u8],
+        (limit, form, profile): (u32, Form, Profile),
+    ) -> Result<String, AllocError> {
+        let cells = cells(alloc)?;
+        let input = Input {
+            bytes,
+            cells: &cells,
+            limit,
+            profile,
+            form,
+        };
+        self.run_on(alloc, &input)
+    }
+
+    fn run_on(self, alloc: Global, input: &Input<'_>) -> Result<String, AllocError> {
         match self {
-            OnText::Next => passages::next(alloc, input, profile),
+            OnText::Next => passages::next(alloc, input),
             OnText::ReadLine => lines::read(alloc, input),
             OnText::ReadPassageLine => lines::read_passage(alloc, input),
-            OnText::ReadBack => lines::again(alloc, input, profile),
-            OnText::WriteLine => lines::write(alloc, input, profile),
-            OnText::MarkText => lines::mark(alloc, input, profile),
-            OnText::PushLine => pushes::line(alloc, input, profile),
-            OnText::PushPassageLine => pushes::passage_line(alloc, input, profile),
-            OnText::Write(engine) => engines::write(alloc, engine, input, profile),
-            OnText::BreakText => engines::break_text(alloc, input, profile),
-            OnText::Replay => engines::replay(alloc, input, profile),
+            OnText::ReadBack => lines::again(alloc, input),
+            OnText::WriteLine => lines::write(alloc, input),
+            OnText::MarkText => lines::mark(alloc, input),
+            OnText::PushLine => pushes::line(alloc, input),
+            OnText::PushPassageLine => pushes::passage_line(alloc, input),
+            OnText::Write(engine) => engines::write(alloc, engine, input),
+            OnText::BreakText => engines::break_text(alloc, input),
+            OnText::Replay => engines::replay(alloc, input),
             OnText::Feed => devices::feed(alloc, input),
-            OnText::Decide => verdicts::decided(alloc, input, profile),
-            OnText::Machines => verdicts::machines(alloc, input, profile),
-            OnText::Breaks => breaks::breaks(alloc, input, profile),
-            OnText::ReplayLine => lines::replay(alloc, input, profile),
+            OnText::Decide => verdicts::decided(alloc, input),
+            OnText::Machines => verdicts::machines(alloc, input),
+            OnText::Breaks => breaks::breaks(alloc, input),
+            OnText::ReplayLine => lines::replay(alloc, input),
         }
     }
 }

@@ -1,49 +1,45 @@
 //! `Segmenter::new` and `next`.
 
-use crate::counting::{begin, counted, end};
+use crate::counting::{begin, end};
 use crate::digest::Digest;
 use crate::inputs::{Input, cells, source_of};
 use crate::told::fault_told;
-use anyhow::{Result, anyhow};
 use lbk_feed::Source;
 use lbk_feed::devices::MemorySource;
 use lbk_passage::{Passage, PassageFault, Piece, Segment, Segmenter};
 use lbk_rules::{CellPages, Profile};
 use std::alloc::{AllocError, Global};
 use std::fmt::Write;
-use test_support::calls::{self, next_passage};
+use test_support::calls::{next_passage, segmenter_of};
 
 /// More calls of `next` than any row needs.
 const CALLS: usize = 10_000;
 
-pub fn new(alloc: Global, limit: u32, profile: Profile) -> Result<String> {
+pub fn new(alloc: Global, limit: u32, profile: Profile) -> Result<String, AllocError> {
     let cells = cells(alloc)?;
     new_told(alloc, &cells, limit, profile)
 }
 
-fn new_told(alloc: Global, cells: &CellPages, limit: u32, profile: Profile) -> Result<String> {
-    match counted(alloc, || Segmenter::new(alloc, cells, limit, profile)) {
-        Ok(_segmenter) => Ok(String::from_str(alloc, "Ok\n")?),
+fn new_told(
+    alloc: Global,
+    cells: &CellPages,
+    limit: u32,
+    profile: Profile,
+) -> Result<String, AllocError> {
+    begin(alloc);
+    let answer = segmenter_of(alloc, cells, limit, profile);
+    end(alloc);
+    match answer {
+        Ok(_segmenter) => String::from_str(alloc, "Ok\n"),
         Err(fault) => fault_told(alloc, &fault),
     }
 }
 
 /// All passages of a text, and the result after them, with the number of reads so far.
-pub fn next(alloc: Global, input: &Input, profile: Profile) -> Result<String> {
-    let mut segmenter = segmenter_of(alloc, &input.cells, input.limit, profile)?;
-    all_told(alloc, &mut segmenter, &input.bytes)
-}
-
-/// A segmenter that is made without being counted.
-pub fn segmenter_of(
-    alloc: Global,
-    cells: &CellPages,
-    limit: u32,
-    profile: Profile,
-) -> Result<Segmenter<'_, CellPages>> {
-    match calls::segmenter_of(alloc, cells, limit, profile) {
-        Ok(segmenter) => Ok(segmenter),
-        Err(_) => Err(anyhow!("the limit of this row is refused")),
+pub fn next(alloc: Global, input: &Input<'_>) -> Result<String, AllocError> {
+    match input.setting(alloc).segmenter() {
+        Ok(mut segmenter) => all_told(alloc, &mut segmenter, input.bytes),
+        Err(fault) => fault_told(alloc, &fault),
     }
 }
 
@@ -51,15 +47,24 @@ fn all_told(
     alloc: Global,
     segmenter: &mut Segmenter<'_, CellPages>,
     bytes: &[u8],
-) -> Result<String> {
-    let mut source = source_of(bytes);
+) -> Result<String, AllocError> {
     let mut told = String::new(alloc);
+    tell_all(alloc, &mut told, segmenter, &mut source_of(bytes))?;
+    Ok(told)
+}
+
+fn tell_all(
+    alloc: Global,
+    told: &mut String,
+    segmenter: &mut Segmenter<'_, CellPages>,
+    source: &mut MemorySource<'_>,
+) -> Result<(), AllocError> {
     for _ in 0..CALLS {
-        if !tell_call(alloc, &mut told, segmenter, &mut source)? {
+        if !tell_call(alloc, told, segmenter, source)? {
             break;
         }
     }
-    Ok(told)
+    Ok(())
 }
 
 /// Makes one call, and writes its result. Returns whether to make another: also after `Memory`, which repeats the call.
@@ -121,14 +126,10 @@ fn digest_of(passage: &Passage<'_>) -> u64 {
 
 fn add_segments(digest: &mut Digest, segments: &[Segment]) {
     for segment in segments {
-        add_segment(digest, segment);
+        digest.add(u64::from(segment.start));
+        digest.add(u64::from(segment.end));
+        digest.add_verdict(segment.kind, segment.rule);
     }
-}
-
-fn add_segment(digest: &mut Digest, segment: &Segment) {
-    digest.add(u64::from(segment.start));
-    digest.add(u64::from(segment.end));
-    digest.add_verdict(segment.kind, segment.rule);
 }
 
 fn add_pieces(digest: &mut Digest, pieces: &[Piece]) {

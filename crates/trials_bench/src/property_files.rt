@@ -1,18 +1,17 @@
-//! The property files of the rows, small and large.
+//! The property files of the rows, small and large, as one text.
 
-use lbk_files::SAMPLE_FILES;
-use lbk_ucd::Files;
+use crate::inputs::text_of;
+use lbk_ucd::{Files, SAMPLE_CATEGORY, SAMPLE_EAST_ASIAN, SAMPLE_EMOJI, SAMPLE_LINE_BREAK};
 use std::alloc::{AllocError, Global};
+use std::fmt::Write;
 
 /// The property files that a row reads.
 #[derive(Clone, Copy)]
 pub enum PropertyFiles {
     /// The sample files.
     Samples,
-    /// A row that shares a code point with the row before it.
-    Overlap,
-    /// An unknown value after rows and defaults.
-    UnknownValue,
+    /// Only the first file.
+    LineBreak(&'static str),
     /// Forty overlapping defaults in each file that has defaults.
     ManyDefaults,
     /// Three thousand rows in each file.
@@ -21,141 +20,117 @@ pub enum PropertyFiles {
     ManyPages,
 }
 
-/// The bytes of four property files.
-#[derive(Drop)]
-pub struct Made {
-    line_break: Vec<u8>,
-    east_asian: Vec<u8>,
-    category: Vec<u8>,
-    emoji: Vec<u8>,
-}
-
-impl Made {
-    /// The files, lent.
-    pub fn files(&self) -> Files<'_> {
-        Files {
-            line_break: &self.line_break,
-            east_asian: &self.east_asian,
-            category: &self.category,
-            emoji: &self.emoji,
-        }
-    }
-
-    fn of(alloc: Global, files: Files<'_>) -> Result<Made, AllocError> {
-        let mut made = Made::of_line_break(alloc, Vec::new(alloc));
-        made.add(files)?;
-        Ok(made)
-    }
-
-    /// Appends these files to its own.
-    fn add(&mut self, files: Files<'_>) -> Result<(), AllocError> {
-        self.line_break.extend_from_slice(files.line_break)?;
-        self.east_asian.extend_from_slice(files.east_asian)?;
-        self.category.extend_from_slice(files.category)?;
-        self.emoji.extend_from_slice(files.emoji)
-    }
-
-    fn of_line_break(alloc: Global, line_break: Vec<u8>) -> Made {
-        Made {
-            line_break,
-            east_asian: Vec::new(alloc),
-            category: Vec::new(alloc),
-            emoji: Vec::new(alloc),
-        }
-    }
-}
-
 impl PropertyFiles {
-    pub fn make(self, alloc: Global) -> Result<Made, AllocError> {
+    /// The files, each followed by a zero byte if another one follows.
+    pub fn text(self, alloc: Global) -> Result<String, AllocError> {
+        let mut text = String::new(alloc);
+        self.push(&mut text)?;
+        Ok(text)
+    }
+
+    fn push(self, text: &mut String) -> Result<(), AllocError> {
         match self {
-            PropertyFiles::Samples => Made::of(alloc, SAMPLE_FILES),
-            PropertyFiles::Overlap => Ok(Made::of_line_break(
-                alloc,
-                Vec::from_slice(alloc, b"0041;AL\n0041..0042;ID\n")?,
-            )),
-            PropertyFiles::UnknownValue => Ok(Made::of_line_break(
-                alloc,
-                Vec::from_slice(
-                    alloc,
-                    b"# @missing: 0000..10FFFF; ID\n0041;AL\n0043;AL\n0045;AK\n",
-                )?,
-            )),
-            PropertyFiles::ManyDefaults => many_defaults(alloc),
-            PropertyFiles::ManyRows => many_rows(alloc),
-            PropertyFiles::ManyPages => Ok(Made::of_line_break(alloc, many_pages(alloc)?)),
+            PropertyFiles::Samples => push_samples(text),
+            PropertyFiles::LineBreak(file) => text.push_str(file),
+            PropertyFiles::ManyDefaults => push_many_defaults(text),
+            PropertyFiles::ManyRows => push_many_rows(text),
+            PropertyFiles::ManyPages => push_many_pages(text),
         }
     }
 }
 
-const DEFAULTS: u32 = 40;
-
-const ROWS: u32 = 3000;
-
-const PAGES: u32 = 1100;
-
-fn many_defaults(alloc: Global) -> Result<Made, AllocError> {
-    Ok(Made {
-        line_break: defaults(alloc, ["ID", "AL", "CB", "XX"])?,
-        east_asian: defaults(alloc, ["W", "N", "F", "A"])?,
-        category: Vec::new(alloc),
-        emoji: Vec::new(alloc),
-    })
+/// Four property files and what follows them: the parts of a text, each except the last followed by a zero byte.
+pub fn files_of(text: &str) -> (Files<'_>, &str) {
+    let (line_break, rest) = cut(text);
+    let (east_asian, rest) = cut(rest);
+    let (category, rest) = cut(rest);
+    let (emoji, rest) = cut(rest);
+    let files = Files {
+        line_break: line_break.as_bytes(),
+        east_asian: east_asian.as_bytes(),
+        category: category.as_bytes(),
+        emoji: emoji.as_bytes(),
+    };
+    (files, rest)
 }
+
+/// A text up to its first zero byte, and after it.
+fn cut(text: &str) -> (&str, &str) {
+    text.split_once('\0').unwrap_or((text, ""))
+}
+
+const SAMPLES: [&[u8]; 4] = [
+    SAMPLE_LINE_BREAK,
+    SAMPLE_EAST_ASIAN,
+    SAMPLE_CATEGORY,
+    SAMPLE_EMOJI,
+];
+
+fn push_samples(text: &mut String) -> Result<(), AllocError> {
+    for file in SAMPLES {
+        text.push_str(text_of(file))?;
+        text.push('\0')?;
+    }
+    Ok(())
+}
+
+const MANY_DEFAULTS: u32 = 40;
+
+const MANY_ROWS: u32 = 3000;
+
+const MANY_PAGES: u32 = 1100;
+
+/// The values of the defaults in each file that has defaults.
+const DEFAULTS: [[&str; 4]; 2] = [["ID", "AL", "CB", "XX"], ["W", "N", "F", "A"]];
 
 /// Defaults, each inside the previous one except every fourth, with the values in turn.
-fn defaults(alloc: Global, values: [&str; 4]) -> Result<Vec<u8>, AllocError> {
-    let mut file = Vec::new(alloc);
-    for k in 0..DEFAULTS {
-        let first = 100 * (k % 4) + 1000 * (k / 4);
-        let last = 50_000 - 300 * k;
-        let value = values[k as usize % 4];
-        push_default(alloc, &mut file, (first, last), value)?;
+fn push_many_defaults(text: &mut String) -> Result<(), AllocError> {
+    for values in DEFAULTS {
+        for k in 0..MANY_DEFAULTS {
+            let first = 100 * (k % 4) + 1000 * (k / 4);
+            let last = 50_000 - 300 * k;
+            push_default(text, first, last, values[k as usize % 4])?;
+        }
+        text.push('\0')?;
     }
-    Ok(file)
+    Ok(())
 }
 
-fn push_default(
-    alloc: Global,
-    file: &mut Vec<u8>,
-    (first, last): (u32, u32),
-    value: &str,
-) -> Result<(), AllocError> {
-    let line = format!(in alloc; "# @missing: {first:04X}..{last:04X}; {value}\n")?;
-    file.extend_from_slice(line.as_bytes())
+fn push_default(text: &mut String, first: u32, last: u32, value: &str) -> Result<(), AllocError> {
+    writeln!(text, "# @missing: {first:04X}..{last:04X}; {value}")
 }
 
-fn many_rows(alloc: Global) -> Result<Made, AllocError> {
-    Ok(Made {
-        line_break: rows(alloc, ["AL", "ID"])?,
-        east_asian: rows(alloc, ["W", "Na"])?,
-        category: rows(alloc, ["Ll", "Pi"])?,
-        emoji: rows(alloc, ["Extended_Pictographic", "Emoji"])?,
-    })
-}
+/// The values of the rows in each file.
+const ROWS: [[&str; 2]; 4] = [
+    ["AL", "ID"],
+    ["W", "Na"],
+    ["Ll", "Pi"],
+    ["Extended_Pictographic", "Emoji"],
+];
 
 /// A row for every third code point, with the values in turn.
-fn rows(alloc: Global, values: [&str; 2]) -> Result<Vec<u8>, AllocError> {
-    let mut file = Vec::new(alloc);
-    for k in 0..ROWS {
-        push_row(alloc, &mut file, 3 * k, values[k as usize % 2])?;
+fn push_many_rows(text: &mut String) -> Result<(), AllocError> {
+    for values in ROWS {
+        for k in 0..MANY_ROWS {
+            push_row(text, 3 * k, values[k as usize % 2])?;
+        }
+        text.push('\0')?;
     }
-    Ok(file)
-}
-
-fn push_row(alloc: Global, file: &mut Vec<u8>, code: u32, value: &str) -> Result<(), AllocError> {
-    let line = format!(in alloc; "{code:04X};{value}\n")?;
-    file.extend_from_slice(line.as_bytes())
+    Ok(())
 }
 
 /// A row for each bit of a page's number, so that no two pages are equal.
-fn many_pages(alloc: Global) -> Result<Vec<u8>, AllocError> {
-    let mut file = Vec::new(alloc);
-    for page in 0..PAGES {
+fn push_many_pages(text: &mut String) -> Result<(), AllocError> {
+    for page in 0..MANY_PAGES {
         for bit in 0..11 {
             if page >> bit & 1 == 1 {
-                push_row(alloc, &mut file, 256 * page + bit, "ID")?;
+                push_row(text, 256 * page + bit, "ID")?;
             }
         }
     }
-    Ok(file)
+    Ok(())
+}
+
+fn push_row(text: &mut String, code: u32, value: &str) -> Result<(), AllocError> {
+    writeln!(text, "{code:04X};{value}")
 }

@@ -1,12 +1,11 @@
 //! The calls of the notation that append to a text: `push_line`, `push_scalar`, `push_mark` and `push_passage_line`.
 //! The earlier text stays, and after a refusal a prefix of the addition follows.
 
-use crate::counting::counted;
+use crate::counting::{begin, end};
 use crate::inputs::{Input, verdicts_of};
 use crate::told::answer_told;
-use anyhow::{Result, ensure};
-use lbk_notation::{Form, Mark, push_line, push_mark, push_passage_line, push_scalar};
-use lbk_rules::{Profile, Verdict};
+use lbk_notation::{Form, Mark, TestLine, push_line, push_mark, push_passage_line, push_scalar};
+use lbk_rules::Verdict;
 use std::alloc::{AllocError, Global};
 
 /// A text without room for more.
@@ -14,40 +13,54 @@ fn before(alloc: Global) -> Result<Vec<u8>, AllocError> {
     Vec::from_slice(alloc, b"before ")
 }
 
-pub fn line(alloc: Global, input: &Input, profile: Profile) -> Result<String> {
-    let line = input.line(alloc, profile)?;
+pub fn line(alloc: Global, input: &Input<'_>) -> Result<String, AllocError> {
+    let line = input.line(alloc)?;
+    line_of(alloc, &line, input.form)
+}
+
+fn line_of(alloc: Global, line: &TestLine, form: Form) -> Result<String, AllocError> {
     let mut out = before(alloc)?;
-    let answer = counted(
-        alloc,
-        || push_line(&mut out, line.scalars(), line.marks(), input.form),
-    );
+    begin(alloc);
+    let answer = push_line(&mut out, line.scalars(), line.marks(), form);
+    end(alloc);
     answer_told(alloc, &answer, &out)
 }
 
-pub fn passage_line(alloc: Global, input: &Input, profile: Profile) -> Result<String> {
-    let line = input.line(alloc, profile)?;
-    let verdicts = verdicts_of(alloc, &input.cell_list(alloc)?, profile)?;
+pub fn passage_line(alloc: Global, input: &Input<'_>) -> Result<String, AllocError> {
+    let line = input.line(alloc)?;
+    let cells = input.cell_list(alloc)?;
+    let verdicts = verdicts_of(alloc, &cells, input.profile)?;
     passage_line_of(alloc, line.scalars(), &verdicts)
 }
 
-fn passage_line_of(alloc: Global, scalars: &[char], verdicts: &[Verdict]) -> Result<String> {
-    ensure!(
-        !verdicts.is_empty() && verdicts.len() - 1 == scalars.len(),
-        "a verdict at each position"
-    );
+fn passage_line_of(
+    alloc: Global,
+    scalars: &[char],
+    verdicts: &[Verdict],
+) -> Result<String, AllocError> {
     let mut out = before(alloc)?;
-    let answer = counted(alloc, || push_passage_line(&mut out, scalars, verdicts));
+    begin(alloc);
+    let answer = if !verdicts.is_empty() && verdicts.len() - 1 == scalars.len() {
+        push_passage_line(&mut out, scalars, verdicts)
+    } else {
+        Ok(())
+    };
+    end(alloc);
     answer_told(alloc, &answer, &out)
 }
 
-pub fn scalar(alloc: Global, c: char, form: Form) -> Result<String> {
+pub fn scalar(alloc: Global, c: char, form: Form) -> Result<String, AllocError> {
     let mut out = before(alloc)?;
-    let answer = counted(alloc, || push_scalar(&mut out, c, Mark::Must, form));
+    begin(alloc);
+    let answer = push_scalar(&mut out, c, Mark::Must, form);
+    end(alloc);
     answer_told(alloc, &answer, &out)
 }
 
-pub fn mark(alloc: Global, mark: Mark, form: Form) -> Result<String> {
+pub fn mark(alloc: Global, mark: Mark, form: Form) -> Result<String, AllocError> {
     let mut out = before(alloc)?;
-    let answer = counted(alloc, || push_mark(&mut out, mark, form));
+    begin(alloc);
+    let answer = push_mark(&mut out, mark, form);
+    end(alloc);
     answer_told(alloc, &answer, &out)
 }

@@ -3,16 +3,16 @@
 
 use crate::counting::{begin, end};
 use crate::digest::Digest;
-use crate::inputs::{cells, tables_of};
-use crate::told::{digest_told, told};
+use crate::inputs::cells;
+use crate::told::{digest_told, fault_told, told};
 use crate::{devices, lines};
-use anyhow::Result;
 use lbk_cmd::Ending;
 use lbk_files::SAMPLE_FILES;
 use lbk_notation::Report;
 use lbk_rules::{Cell, CellPages, CellSource, resolve};
 use lbk_ucd::{Places, Tables};
-use std::alloc::Global;
+use std::alloc::{AllocError, Global};
+use test_support::calls::tables_of;
 
 /// The calls.
 #[derive(Clone, Copy)]
@@ -30,24 +30,31 @@ pub enum Quiet {
 }
 
 impl Quiet {
-    pub fn run(self, alloc: Global) -> Result<String> {
+    pub fn run(self, alloc: Global) -> Result<String, AllocError> {
         match self {
             Quiet::Device => devices::device(alloc),
-            Quiet::LookUps => look_ups(alloc),
-            Quiet::Cells => both_cells(alloc),
+            Quiet::LookUps | Quiet::Cells => self.run_on_tables(alloc),
             Quiet::TestLine => lines::test_line(alloc),
             Quiet::Status => status(alloc),
+        }
+    }
+
+    /// Calls of the tables of the sample files.
+    fn run_on_tables(self, alloc: Global) -> Result<String, AllocError> {
+        match (tables_of(alloc, SAMPLE_FILES), self) {
+            (Ok(tables), Quiet::LookUps) => look_ups(alloc, &tables),
+            (Ok(tables), _) => both_cells(alloc, &tables),
+            (Err(fault), _) => fault_told(alloc, &fault),
         }
     }
 }
 
 const LAST_CODE: u32 = 0x10FFFF;
 
-fn look_ups(alloc: Global) -> Result<String> {
-    let tables = tables_of(alloc, SAMPLE_FILES)?;
+fn look_ups(alloc: Global, tables: &Tables) -> Result<String, AllocError> {
     let mut digest = Digest::new();
     begin(alloc);
-    add_look_ups(&mut digest, &tables);
+    add_look_ups(&mut digest, tables);
     end(alloc);
     digest_told(alloc, digest)
 }
@@ -65,12 +72,7 @@ fn add_look_ups(digest: &mut Digest, tables: &Tables) {
 }
 
 /// How many scalar values have the same cell by properties, tables and pages.
-fn both_cells(alloc: Global) -> Result<String> {
-    let tables = tables_of(alloc, SAMPLE_FILES)?;
-    same_told(alloc, &tables)
-}
-
-fn same_told(alloc: Global, tables: &Tables) -> Result<String> {
+fn both_cells(alloc: Global, tables: &Tables) -> Result<String, AllocError> {
     let pages = cells(alloc)?;
     begin(alloc);
     let same = count_same(tables, &pages);
@@ -103,7 +105,7 @@ fn resolved(tables: &Tables, c: char) -> Cell {
     )
 }
 
-fn status(alloc: Global) -> Result<String> {
+fn status(alloc: Global) -> Result<String, AllocError> {
     let report = Report {
         lines: 1,
         agreed: 0,

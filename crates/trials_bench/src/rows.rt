@@ -9,6 +9,7 @@ use crate::quiet::Quiet;
 use crate::samples::{
     HUGE, KINDS_LINE, KINDS_LINE_DIFFERS, LONG, QUOTED, TEST_LINES, TWO_WORDS, sample_of,
 };
+use crate::tables::OfFiles;
 use crate::trial::Trial;
 use lbk_notation::{Form, Mark};
 use test_support::engines::Engine;
@@ -84,55 +85,107 @@ pub fn calls() -> &'static [Call] {
 /// Any other call: its name with that of its input, and what it tries.
 pub type Other = (&'static str, Trial);
 
-const SHOW: Words = Words::OnFiles("show", "L", "E", &[]);
+/// The arguments of a subcommand over named files: the names of the first two, and what follows.
+macro_rules! on_files {
+    ($subcommand:literal, $line_break:literal, $east_asian:literal $(, $more:literal)*) => {
+        &[
+            $subcommand,
+            "--line-break",
+            $line_break,
+            "--east-asian",
+            $east_asian,
+            "--category",
+            "C",
+            "--emoji",
+            "M",
+            $($more),*
+        ]
+    };
+}
 
-const SHOW_SECOND: Words = Words::OnFiles("show", "L", "E", &["--profile", "2"]);
+const SHOW: Words = on_files!("show", "L", "E");
 
-const SHOW_LIMIT: Words = Words::OnFiles("show", "L", "E", &["--limit", "4"]);
+const SHOW_SECOND: Words = on_files!("show", "L", "E", "--profile", "2");
 
-const SHOW_MISSING: Words = Words::OnFiles("show", "L", "none", &[]);
+const SHOW_LIMIT: Words = on_files!("show", "L", "E", "--limit", "4");
 
-const SHOW_BAD: Words = Words::OnFiles("show", "B", "E", &[]);
+const SHOW_NO_LIMIT: Words = on_files!("show", "L", "E", "--limit", "0");
 
-const SEGMENT: Words = Words::OnFiles("segment", "L", "E", &[]);
+const SHOW_MISSING: Words = on_files!("show", "L", "none");
 
-const REPLAY: Words = Words::OnFiles("replay", "L", "E", &[]);
+const SHOW_BAD: Words = on_files!("show", "B", "E");
 
-const REPLAY_KINDS: Words = Words::OnFiles("replay", "L", "E", &["--kinds"]);
+const SEGMENT: Words = on_files!("segment", "L", "E");
 
-const NONE: Words = Words::Plain(&[]);
+const REPLAY: Words = on_files!("replay", "L", "E");
 
-const HELP: Words = Words::Plain(&["--help"]);
+const REPLAY_KINDS: Words = on_files!("replay", "L", "E", "--kinds");
 
-const WRONG: Words = Words::Plain(&["bogus"]);
+const NONE: Words = &[];
+
+const HELP: Words = &["--help"];
+
+const WRONG: Words = &["bogus"];
+
+/// A row that shares a code point with the row before it.
+const OVERLAP: PropertyFiles = PropertyFiles::LineBreak("0041;AL\n0041..0042;ID\n");
+
+/// An unknown value after rows and defaults.
+const UNKNOWN_VALUE: PropertyFiles = PropertyFiles::LineBreak(
+    "# @missing: 0000..10FFFF; ID\n0041;AL\n0043;AL\n0045;AK\n",
+);
 
 static OTHERS: [Other; 58] = [
     ("sink/64", Trial::Sink(64)),
-    ("tables/samples", Trial::Tables(PropertyFiles::Samples)),
-    ("tables/overlap", Trial::Tables(PropertyFiles::Overlap)),
+    (
+        "tables/samples",
+        Trial::OfFiles(OfFiles::Tables, PropertyFiles::Samples),
+    ),
+    ("tables/overlap", Trial::OfFiles(OfFiles::Tables, OVERLAP)),
     (
         "tables/unknown-value",
-        Trial::Tables(PropertyFiles::UnknownValue),
+        Trial::OfFiles(OfFiles::Tables, UNKNOWN_VALUE),
     ),
     (
         "tables/many-defaults",
-        Trial::Tables(PropertyFiles::ManyDefaults),
+        Trial::OfFiles(OfFiles::Tables, PropertyFiles::ManyDefaults),
     ),
-    ("tables/many-rows", Trial::Tables(PropertyFiles::ManyRows)),
-    ("tables/many-pages", Trial::Tables(PropertyFiles::ManyPages)),
-    ("pages/samples", Trial::Pages(PropertyFiles::Samples)),
+    (
+        "tables/many-rows",
+        Trial::OfFiles(OfFiles::Tables, PropertyFiles::ManyRows),
+    ),
+    (
+        "tables/many-pages",
+        Trial::OfFiles(OfFiles::Tables, PropertyFiles::ManyPages),
+    ),
+    (
+        "pages/samples",
+        Trial::OfFiles(OfFiles::Pages, PropertyFiles::Samples),
+    ),
     (
         "pages/many-defaults",
-        Trial::Pages(PropertyFiles::ManyDefaults),
+        Trial::OfFiles(OfFiles::Pages, PropertyFiles::ManyDefaults),
     ),
-    ("pages/many-rows", Trial::Pages(PropertyFiles::ManyRows)),
-    ("pages/many-pages", Trial::Pages(PropertyFiles::ManyPages)),
-    ("cells/samples", Trial::Cells(PropertyFiles::Samples)),
+    (
+        "pages/many-rows",
+        Trial::OfFiles(OfFiles::Pages, PropertyFiles::ManyRows),
+    ),
+    (
+        "pages/many-pages",
+        Trial::OfFiles(OfFiles::Pages, PropertyFiles::ManyPages),
+    ),
+    (
+        "cells/samples",
+        Trial::OfFiles(OfFiles::Cells, PropertyFiles::Samples),
+    ),
     (
         "cells/unknown-value",
-        Trial::Cells(PropertyFiles::UnknownValue),
+        Trial::OfFiles(OfFiles::Cells, UNKNOWN_VALUE),
     ),
-    ("cells/many-pages", Trial::Cells(PropertyFiles::ManyPages)),
+    (
+        "cells/many-pages",
+        Trial::OfFiles(OfFiles::Cells, PropertyFiles::ManyPages),
+    ),
     ("segmenter/16", Trial::NewSegmenter(16)),
     ("segmenter/0", Trial::NewSegmenter(0)),
     ("segmenter/1", Trial::NewSegmenter(1)),
@@ -152,10 +205,7 @@ static OTHERS: [Other; 58] = [
     ("parse/show", Trial::Parse(SHOW)),
     ("parse/show-profile-2", Trial::Parse(SHOW_SECOND)),
     ("parse/show-limit", Trial::Parse(SHOW_LIMIT)),
-    (
-        "parse/show-limit-0",
-        Trial::Parse(Words::OnFiles("show", "L", "E", &["--limit", "0"])),
-    ),
+    ("parse/show-limit-0", Trial::Parse(SHOW_NO_LIMIT)),
     ("parse/segment", Trial::Parse(SEGMENT)),
     ("parse/replay-kinds", Trial::Parse(REPLAY_KINDS)),
     ("parse/help", Trial::Parse(HELP)),
@@ -201,7 +251,7 @@ pub fn others() -> &'static [Other] {
 
 /// What the row with this name tries.
 pub fn trial_of(name: &str) -> Option<Trial> {
-    for (other, trial) in &OTHERS {
+    for (other, trial) in others() {
         if *other == name {
             return Some(*trial);
         }
@@ -211,7 +261,7 @@ pub fn trial_of(name: &str) -> Option<Trial> {
 }
 
 fn on_text_of(name: &str, text: &str) -> Option<Trial> {
-    for (call, on_text, _) in &CALLS {
+    for (call, on_text, _) in calls() {
         if *call == name {
             return Some(Trial::OnText(*on_text, sample_of(text)?));
         }

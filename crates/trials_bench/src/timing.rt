@@ -1,90 +1,64 @@
 //! Times the layers, and prints the results.
 
-use crate::inputs::tables_of;
-use crate::layers::{LAYERS, Layer};
-use crate::material::{Material, front_of, parts_of, passages_of, shown_of};
-use anyhow::Result;
-use lbk_rules::CellPages;
-use lbk_ucd::Files;
+use crate::layers::LAYERS;
+use crate::material::{Material, front_of};
+use crate::property_files::files_of;
+use anyhow::{Result, bail};
+use lbk_ucd::Tables;
 use std::io;
 use std::time::{Duration, Instant};
+use test_support::calls::{pages_of, tables_of};
 
 /// How often each layer runs. The layers take turns, so that other load on the machine slows all of them, and the best
 /// run of each counts.
 const ROUNDS: u32 = 9;
 
-/// The best run of a layer.
-#[derive(Clone, Copy)]
-struct Best {
-    time: Duration,
-    /// The count of the run.
-    count: u64,
-}
+/// The time of the best run of a layer, and its count.
+type Best = (Duration, u64);
 
 /// Reads four property files and a text from standard input. Prints for each layer its millions of bytes a second, the
-/// ratio to `Machine`, and its count, or the milliseconds of a part of the start-up.
+/// ratio to `Machine`, and its count.
 pub fn print(rt: &HostRuntime, name: &str) -> Result<()> {
     let input = io::read_to_string(rt.alloc(), rt.stdin())?;
-    let (files, text) = parts_of(input.as_str())?;
-    print_front(rt, name, files, front_of(text))
+    let (files, text) = files_of(input.as_str());
+    match tables_of(rt.alloc(), files) {
+        Ok(tables) => print_by_tables(rt, name, &tables, front_of(text)),
+        Err(_) => bail!("a property file is refused"),
+    }
 }
 
-fn print_front(rt: &HostRuntime, name: &str, files: Files<'_>, text: &str) -> Result<()> {
-    let tables = tables_of(rt.alloc(), files)?;
-    let cells = CellPages::build(rt.alloc(), &tables)?;
-    print_with_passages(
-        rt,
-        name,
-        Material {
-            files,
-            tables: &tables,
-            cells: &cells,
-            text,
-            passages: &[],
-            shown: &[],
-        },
-    )
-}
-
-/// Prints the layers over this, with the passages and the lines of its text.
-fn print_with_passages(rt: &HostRuntime, name: &str, material: Material<'_>) -> Result<()> {
-    let passages = passages_of(rt.alloc(), material.cells, material.text)?;
-    let shown = shown_of(rt.alloc(), material.cells, material.text)?;
-    print_layers(
-        rt,
-        name,
-        &Material {
-            passages: &passages,
-            shown: shown.bytes(),
-            ..material
-        },
-    )
+fn print_by_tables(rt: &HostRuntime, name: &str, tables: &Tables, text: &str) -> Result<()> {
+    let cells = pages_of(rt.alloc(), tables)?;
+    let material = Material {
+        tables,
+        cells: &cells,
+        text,
+    };
+    print_layers(rt, name, &material)
 }
 
 fn print_layers(rt: &HostRuntime, name: &str, material: &Material<'_>) -> Result<()> {
     let best = best_of(rt, material)?;
-    println!(rt;
-        "{name}: {} bytes, {} passages, the best of {ROUNDS} runs each",
-        material.text.len(),
-        material.passages.len()
-    )?;
-    let mut machine = 0;
-    for ((layer, _), best) in LAYERS.iter().zip(best.iter()) {
-        if matches!(layer, Layer::Machine) {
-            machine = rate(material.text.len(), best.time);
+    let bytes = material.text.len();
+    println!(rt; "{name}: {bytes} bytes, the best of {ROUNDS} runs each")?;
+    print_rates(rt, bytes, &best)
+}
+
+/// Prints the rate of each layer, and its ratio to that of the first.
+fn print_rates(rt: &HostRuntime, bytes: usize, best: &[Best]) -> Result<()> {
+    let mut first = 0;
+    for ((_, name), (time, count)) in LAYERS.iter().zip(best.iter()) {
+        let rate = rate(bytes, *time);
+        if first == 0 {
+            first = rate;
         }
-    }
-    for ((layer, name), best) in LAYERS.iter().zip(best.iter()) {
-        match layer.bytes(material) {
-            Some(bytes) => print_rate(rt, name, rate(bytes, best.time), machine, best.count)?,
-            None => print_time(rt, name, best.time)?,
-        }
+        print_rate(rt, name, (rate, first), *count)?;
     }
     Ok(())
 }
 
-fn print_rate(rt: &HostRuntime, name: &str, rate: u128, machine: u128, count: u64) -> Result<()> {
-    let times = rate.saturating_mul(100) / machine.max(1);
+fn print_rate(rt: &HostRuntime, name: &str, (rate, first): (u128, u128), count: u64) -> Result<()> {
+    let times = rate.saturating_mul(100) / first.max(1);
     println!(rt;
         "{name:<24}{:>8}.{} MB/s{:>6}.{:02}{count:>14}",
         rate / 10,
@@ -95,25 +69,16 @@ fn print_rate(rt: &HostRuntime, name: &str, rate: u128, machine: u128, count: u6
     Ok(())
 }
 
-fn print_time(rt: &HostRuntime, name: &str, time: Duration) -> Result<()> {
-    let micros = time.as_micros();
-    println!(rt; "{name:<24}{:>8}.{:03} ms", micros / 1000, micros % 1000)?;
-    Ok(())
-}
-
 /// The best run of each layer.
 fn best_of(rt: &HostRuntime, material: &Material<'_>) -> Result<[Best; LAYERS.len()]> {
-    let mut best = [Best {
-        time: Duration::MAX,
-        count: 0,
-    }; LAYERS.len()];
+    let mut best = [(Duration::MAX, 0); LAYERS.len()];
     for _ in 0..ROUNDS {
         for (k, (layer, _)) in LAYERS.iter().enumerate() {
             let start = Instant::now(rt)?;
             let count = layer.run(rt.alloc(), material)?;
             let time = start.elapsed(rt)?;
-            if time < best[k].time {
-                best[k] = Best { time, count };
+            if time < best[k].0 {
+                best[k] = (time, count);
             }
         }
     }

@@ -2,59 +2,62 @@
 
 use crate::digest::Digest;
 use crate::inputs::text_of;
-use anyhow::Result;
-use lbk_notation::{LineFault, Mark, TestLine};
-use lbk_rules::{Cell, CellSource, Class, Quote};
-use std::alloc::Global;
+use lbk_notation::{LineFault, TestLine};
+use lbk_rules::{Cell, CellPages, Class, Quote};
+use std::alloc::{AllocError, Global};
 use std::fmt::Debug;
+use test_support::calls::cell_of;
 
 /// A result in full.
-pub fn told<A: Debug>(alloc: Global, answer: &A) -> Result<String> {
-    Ok(format!(in alloc; "{answer:?}\n")?)
+pub fn told<A: Debug>(alloc: Global, answer: &A) -> Result<String, AllocError> {
+    format!(in alloc; "{answer:?}\n")
 }
 
 /// That a call failed.
-pub fn fault_told<F: Debug>(alloc: Global, fault: &F) -> Result<String> {
-    Ok(format!(in alloc; "Err({fault:?})\n")?)
+pub fn fault_told<F: Debug>(alloc: Global, fault: &F) -> Result<String, AllocError> {
+    format!(in alloc; "Err({fault:?})\n")
 }
 
 /// The result, and the output after a line `wrote`.
-pub fn answer_told<A: Debug>(alloc: Global, answer: &A, written: &[u8]) -> Result<String> {
-    let written = text_of(written)?;
-    Ok(format!(in alloc; "{answer:?}\nwrote\n{written}")?)
+pub fn answer_told<A: Debug>(
+    alloc: Global,
+    answer: &A,
+    written: &[u8],
+) -> Result<String, AllocError> {
+    let written = text_of(written);
+    format!(in alloc; "{answer:?}\nwrote\n{written}")
 }
 
 /// The line that was read, or why there is none.
-pub fn read_told(alloc: Global, answer: Result<Option<TestLine>, LineFault>) -> Result<String> {
+pub fn read_told(
+    alloc: Global,
+    answer: Result<Option<TestLine>, LineFault>,
+) -> Result<String, AllocError> {
     match answer {
         Ok(Some(line)) => line_told(alloc, &line),
-        Ok(None) => Ok(String::from_str(alloc, "Ok(None)\n")?),
+        Ok(None) => String::from_str(alloc, "Ok(None)\n"),
         Err(fault) => fault_told(alloc, &fault),
     }
 }
 
-pub fn line_told(alloc: Global, line: &TestLine) -> Result<String> {
-    let (scalars, marks) = parts_of(line);
-    Ok(format!(in alloc; "Ok({scalars:?} {marks:?})\n")?)
+pub fn line_told(alloc: Global, line: &TestLine) -> Result<String, AllocError> {
+    let (scalars, marks) = (line.scalars(), line.marks());
+    format!(in alloc; "Ok({scalars:?} {marks:?})\n")
 }
 
-fn parts_of(line: &TestLine) -> (&[char], &[Mark]) {
-    (line.scalars(), line.marks())
-}
-
-pub fn digest_told(alloc: Global, digest: Digest) -> Result<String> {
+pub fn digest_told(alloc: Global, digest: Digest) -> Result<String, AllocError> {
     let digest = digest.value();
-    Ok(format!(in alloc; "digest {digest:016x}\n")?)
+    format!(in alloc; "digest {digest:016x}\n")
 }
 
 /// A digest of the cells of all scalar values.
-pub fn cells_told<C: CellSource>(alloc: Global, source: &C) -> Result<String> {
+pub fn cells_told(alloc: Global, cells: &CellPages) -> Result<String, AllocError> {
     let mut digest = Digest::new();
     for c in '\0'..=char::MAX {
-        digest.add(number_of(source.cell(c)));
+        digest.add(number_of(cell_of(cells, c)));
     }
     let digest = digest.value();
-    Ok(format!(in alloc; "Ok: digest {digest:016x}\n")?)
+    format!(in alloc; "Ok: digest {digest:016x}\n")
 }
 
 /// A number for each cell.

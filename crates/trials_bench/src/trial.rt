@@ -6,23 +6,19 @@ use crate::on_text::OnText;
 use crate::property_files::PropertyFiles;
 use crate::quiet::Quiet;
 use crate::samples::Sample;
-use crate::{engines, passages, pushes, tables};
-use anyhow::Result;
+use crate::tables::{self, OfFiles};
+use crate::{engines, passages, pushes};
 use lbk_notation::{Form, Mark};
 use lbk_rules::Profile;
-use std::alloc::Global;
+use std::alloc::{AllocError, Global};
 
 /// A call, and its input.
 #[derive(Clone, Copy)]
 pub enum Trial {
     /// `MemorySink::new` with room for this many bytes.
     Sink(u16),
-    /// `Tables::read`.
-    Tables(PropertyFiles),
-    /// `CellPages::build`.
-    Pages(PropertyFiles),
-    /// `read_cells`.
-    Cells(PropertyFiles),
+    /// A call on property files.
+    OfFiles(OfFiles, PropertyFiles),
     /// `Segmenter::new` with a limit.
     NewSegmenter(u32),
     /// `push_scalar`.
@@ -56,12 +52,10 @@ impl Trial {
     }
 
     /// Makes what the call needs, makes the call, and returns its result as text.
-    pub fn run(self, alloc: Global, profile: Profile) -> Result<String> {
+    pub fn run(self, alloc: Global, profile: Profile) -> Result<String, AllocError> {
         match self {
             Trial::Sink(room) => engines::sink(alloc, room),
-            Trial::Tables(files) => tables::read(alloc, files),
-            Trial::Pages(files) => tables::build(alloc, files),
-            Trial::Cells(files) => tables::read_both(alloc, files),
+            Trial::OfFiles(call, files) => tables::run(alloc, call, files),
             Trial::NewSegmenter(limit) => passages::new(alloc, limit, profile),
             Trial::PushScalar(c, form) => pushes::scalar(alloc, c, form),
             Trial::PushMark(mark, form) => pushes::mark(alloc, mark, form),

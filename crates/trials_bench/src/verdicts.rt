@@ -4,53 +4,43 @@ use crate::counting::{begin, end};
 use crate::digest::Digest;
 use crate::inputs::{Input, verdicts_of};
 use crate::told::digest_told;
-use anyhow::{Result, ensure};
 use lbk_rules::{
     Cell, LateMachine, Machine, Out, Profile, Verdict, decide, decide_all, decide_all_in, decide_in,
 };
-use std::alloc::Global;
+use std::alloc::{AllocError, Global};
 
 /// `decide`, `decide_in`, `decide_all`, `decide_all_in`.
-pub fn decided(alloc: Global, input: &Input, profile: Profile) -> Result<String> {
+pub fn decided(alloc: Global, input: &Input<'_>) -> Result<String, AllocError> {
     let list = input.cell_list(alloc)?;
-    let mut first = verdicts_of(alloc, &list, profile)?;
-    let mut chosen = verdicts_of(alloc, &list, profile)?;
-    decided_told(alloc, &list, profile, &mut first, &mut chosen)
+    decided_told(alloc, &list, input.profile)
 }
 
-fn decided_told(
-    alloc: Global,
-    list: &[Cell],
-    profile: Profile,
-    first: &mut [Verdict],
-    chosen: &mut [Verdict],
-) -> Result<String> {
+fn decided_told(alloc: Global, list: &[Cell], profile: Profile) -> Result<String, AllocError> {
+    let mut first = verdicts_of(alloc, list, profile)?;
+    let mut chosen = verdicts_of(alloc, list, profile)?;
     let mut digest = Digest::new();
-    let answers = decide_each_way(alloc, &mut digest, list, profile, first, chosen)?;
-    add_verdicts(&mut digest, first);
-    add_verdicts(&mut digest, chosen);
+    begin(alloc);
+    let answers = decide_each_way(&mut digest, list, profile, (&mut first, &mut chosen));
+    end(alloc);
+    add_verdicts(&mut digest, &first);
+    add_verdicts(&mut digest, &chosen);
     let digest = digest.value();
-    Ok(format!(in alloc; "{answers} answers, digest {digest:016x}\n")?)
+    format!(in alloc; "{answers} answers, digest {digest:016x}\n")
 }
 
+/// How many verdicts there are of the profile, if there is room for one at each position.
 fn decide_each_way(
-    alloc: Global,
     digest: &mut Digest,
     list: &[Cell],
     profile: Profile,
-    first: &mut [Verdict],
-    chosen: &mut [Verdict],
-) -> Result<usize> {
-    ensure!(
-        first.len() == list.len() + 1 && chosen.len() == list.len() + 1,
-        "a verdict at each position"
-    );
-    begin(alloc);
+    (first, chosen): (&mut [Verdict], &mut [Verdict]),
+) -> usize {
+    if first.len() != list.len() + 1 || chosen.len() != list.len() + 1 {
+        return 0;
+    }
     add_decided(digest, list, profile);
     decide_all(list, first);
-    let answers = decide_all_in(profile, list, chosen);
-    end(alloc);
-    Ok(answers)
+    decide_all_in(profile, list, chosen)
 }
 
 fn add_decided(digest: &mut Digest, list: &[Cell], profile: Profile) {
@@ -71,12 +61,12 @@ pub fn add_verdict(digest: &mut Digest, verdict: Verdict) {
 }
 
 /// Each call of `Machine` and `LateMachine`, and `label`.
-pub fn machines(alloc: Global, input: &Input, profile: Profile) -> Result<String> {
+pub fn machines(alloc: Global, input: &Input<'_>) -> Result<String, AllocError> {
     let list = input.cell_list(alloc)?;
     let mut digest = Digest::new();
     begin(alloc);
     step_machine(&mut digest, &list);
-    step_late_machine(&mut digest, &list, profile);
+    step_late_machine(&mut digest, &list, input.profile);
     end(alloc);
     digest_told(alloc, digest)
 }
