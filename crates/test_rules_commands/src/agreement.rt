@@ -1,11 +1,11 @@
 //! The machines agree with the evaluator on every short list of cells.
 
-use crate::calls::{decided, late_step, start_late, step, step_over, stepper};
+use crate::calls::{decided, late_step, same, start_late, step, step_over, stepper};
 use lbk_rules::{Cell, CellPages, Class, Machine, Profile, Quote, Verdict};
+use std::process::Abort;
 use std::test::Fail;
 use test_support::calls::cell_of;
 use test_support::cells::{mark, pictograph, plain, wide};
-use test_support::checks::same;
 use test_support::property_files::SAMPLES;
 use test_support::triples::{
     Scalar, cells_of_three, pages_of_each_once, pages_with, texts_of_three, triples,
@@ -15,42 +15,44 @@ use test_support::triples::{
 type Answers = [Option<Verdict>; 4];
 
 /// Adds a verdict, the first of its position.
-fn add(answers: &mut Answers, position: u64, verdict: Verdict) -> Result<(), Fail> {
-    let slot = answers
-        .get_mut(position as usize)
-        .ok_or("a position after the last one")?;
-    same(slot, &None, &position)?;
+fn add(rt: &impl Abort, answers: &mut Answers, position: u64, verdict: Verdict) {
+    assert!(rt; position < 4, "position {position}");
+    let slot = &mut answers[position as usize];
+    assert!(rt; slot.is_none(), "twice at position {position}");
     *slot = Some(verdict);
-    Ok(())
 }
 
-fn add_late(answers: &mut Answers, late: Option<(u64, Verdict)>) -> Result<(), Fail> {
-    match late {
-        Some((position, verdict)) => add(answers, position, verdict),
-        None => Ok(()),
+fn add_late(rt: &impl Abort, answers: &mut Answers, late: Option<(u64, Verdict)>) {
+    if let Some((position, verdict)) = late {
+        add(rt, answers, position, verdict);
     }
 }
 
 /// The verdicts of the late machine over the cells of a text, once for each position. A stepper over its scalars has to
 /// return the same at each step.
-fn late_answers(pages: &CellPages, profile: Profile, text: &[Scalar; 3]) -> Result<Answers, Fail> {
+fn late_answers(
+    rt: &impl Abort,
+    pages: &CellPages,
+    profile: Profile,
+    text: &[Scalar; 3],
+) -> Answers {
     let mut machine = start_late(profile);
     let mut stepper = stepper(pages, profile);
     let mut answers = [None; 4];
     for (k, (c, cell)) in text.iter().enumerate() {
         let position = k as u64;
-        let out = late_step(&mut machine, position, *cell)?;
-        same(&step_over(&mut stepper, *c), &out, text)?;
-        add_late(&mut answers, out.late)?;
+        let out = late_step(rt, &mut machine, position, *cell);
+        same(rt, &step_over(&mut stepper, *c), &out, text);
+        add_late(rt, &mut answers, out.late);
         if let Some(verdict) = out.now {
-            add(&mut answers, position, verdict)?;
+            add(rt, &mut answers, position, verdict);
         }
     }
     let end = machine.finish();
-    same(&stepper.finish(), &end, text)?;
-    add_late(&mut answers, end.late)?;
-    add(&mut answers, 3, end.end)?;
-    Ok(answers)
+    same(rt, &stepper.finish(), &end, text);
+    add_late(rt, &mut answers, end.late);
+    add(rt, &mut answers, 3, end.end);
+    answers
 }
 
 /// The verdicts of the machine of the first profile.
@@ -69,22 +71,26 @@ fn answers_of_first(cells: &[Cell; 3]) -> Answers {
 }
 
 /// Compares the verdicts of machines with those of the evaluator.
-fn check_answers(profile: Profile, cells: &[Cell; 3], answers: &Answers) -> Result<(), Fail> {
+fn check_answers(rt: &impl Abort, profile: Profile, cells: &[Cell; 3], answers: &Answers) {
     for (k, answer) in answers.iter().enumerate() {
-        same(answer, &Some(decided(profile, cells, k)?), cells)?;
+        same(rt, answer, &Some(decided(rt, profile, cells, k)), cells);
     }
-    Ok(())
+}
+
+fn check_text(rt: &impl Abort, pages: &CellPages, text: &[Scalar; 3]) {
+    let cells = cells_of_three(text);
+    check_answers(rt, Profile::First, &cells, &answers_of_first(&cells));
+    let late = late_answers(rt, pages, Profile::First, text);
+    check_answers(rt, Profile::First, &cells, &late);
+    let late = late_answers(rt, pages, Profile::Second, text);
+    check_answers(rt, Profile::Second, &cells, &late);
 }
 
 #[test]
 fn machines(rt: HostRuntime) -> Result<(), Fail> {
     let pages = pages_of_each_once(rt.alloc())?;
     for text in &texts_of_three(rt.alloc())? {
-        let cells = cells_of_three(text);
-        check_answers(Profile::First, &cells, &answers_of_first(&cells))?;
-        for profile in [Profile::First, Profile::Second] {
-            check_answers(profile, &cells, &late_answers(&pages, profile, text)?)?;
-        }
+        check_text(&rt, &pages, text);
     }
     Ok(())
 }
@@ -114,14 +120,10 @@ fn sample_scalars() -> [Scalar; 15] {
 #[test]
 fn stepper_asks_what_rules_ask(rt: HostRuntime) -> Result<(), Fail> {
     let pages = pages_with(rt.alloc(), SAMPLES, &[])?;
-    same(
-        &(cell_of(&pages, 'a') == plain(Class::Alphabetic)),
-        &false,
-        &'a',
-    )?;
+    assert!(&rt; cell_of(&pages, 'a') != plain(Class::Alphabetic));
     for text in &triples(rt.alloc(), &sample_scalars())? {
-        let _ = late_answers(&pages, Profile::First, text)?;
-        let _ = late_answers(&pages, Profile::Second, text)?;
+        let _ = late_answers(&rt, &pages, Profile::First, text);
+        let _ = late_answers(&rt, &pages, Profile::Second, text);
     }
     Ok(())
 }

@@ -1,15 +1,15 @@
 //! The breaks of texts in memory agree with the evaluator in both profiles: of texts with the sample files, with pages
 //! and with tables, in blocks of all sizes; and of every text of three scalars.
 
-use crate::calls::{Setting, decided};
+use crate::calls::{Setting, decided, must, same};
 use lbk_passage::{Break, Breaks};
-use lbk_rules::{CellSource, Kind, Profile, Rule, Verdict};
+use lbk_rules::{CellPages, CellSource, Kind, Profile, Rule, Verdict};
 use std::alloc::{AllocError, Global};
 use std::fmt::Write;
+use std::process::Abort;
 use std::test::Fail;
 use test_support::calls::{pages_by, tables_of};
 use test_support::cells::cells_of;
-use test_support::checks::same;
 use test_support::property_files::SAMPLES;
 use test_support::texts::{FIRST, SECOND};
 use test_support::triples::{Scalar, pages_of_each_once, texts_of_three};
@@ -94,17 +94,18 @@ fn push_break(found: &mut Vec<Break>, at: usize, verdict: Verdict) -> Result<(),
 }
 
 /// The positions after the first that are not No, by the plain rules.
-fn by_rules<C: CellSource>(setting: &Setting<'_, C>, text: &str) -> Result<Vec<Break>, Fail> {
-    let cells = cells_of(setting.alloc, setting.source, text)?;
+fn by_rules<C: CellSource>(rt: &impl Abort, setting: &Setting<'_, C>, text: &str) -> Vec<Break> {
+    let cells = must(rt, cells_of(setting.alloc, setting.source, text));
     let mut found = Vec::new(setting.alloc);
     let mut k = 0usize;
     let mut at = 0usize;
     for c in text.chars() {
         k = k.saturating_add(1);
         at = at.saturating_add(c.len_utf8());
-        push_break(&mut found, at, decided(setting.profile, &cells, k)?)?;
+        let verdict = decided(rt, setting.profile, &cells, k);
+        must(rt, push_break(&mut found, at, verdict));
     }
-    Ok(found)
+    found
 }
 
 fn shown(alloc: Global, breaks: &[Break]) -> Result<String, AllocError> {
@@ -117,62 +118,65 @@ fn shown(alloc: Global, breaks: &[Break]) -> Result<String, AllocError> {
 }
 
 /// Compares the breaks of a text by the rules with those one by one.
-fn agreed<C: CellSource>(setting: &Setting<'_, C>, text: &str) -> Result<Vec<Break>, Fail> {
-    let want = by_rules(setting, text)?;
-    let found = one_by_one(setting, text)?;
-    same(&found.as_slice(), &want.as_slice(), &text)?;
-    Ok(want)
+fn agreed<C: CellSource>(rt: &impl Abort, setting: &Setting<'_, C>, text: &str) -> Vec<Break> {
+    let want = by_rules(rt, setting, text);
+    let found = must(rt, one_by_one(setting, text));
+    same(rt, &found.as_slice(), &want.as_slice(), &text);
+    want
 }
 
 /// Also with those in blocks of all sizes, and returns them as text.
-fn agreed_in_blocks<C: CellSource>(setting: &Setting<'_, C>, text: &str) -> Result<String, Fail> {
-    let want = agreed(setting, text)?;
+fn agreed_in_blocks<C: CellSource>(
+    rt: &impl Abort,
+    setting: &Setting<'_, C>,
+    text: &str,
+) -> String {
+    let want = agreed(rt, setting, text);
     for size in &SIZES {
-        let found = by_blocks(setting, text, *size)?;
-        same(&found.as_slice(), &want.as_slice(), &(*size, text))?;
+        let found = must(rt, by_blocks(setting, text, *size));
+        same(rt, &found.as_slice(), &want.as_slice(), &(*size, text));
     }
-    Ok(shown(setting.alloc, &want)?)
+    must(rt, shown(setting.alloc, &want))
 }
 
 /// Compares the breaks of each text with its row.
-fn check<C: CellSource>(setting: &Setting<'_, C>, rows: &[Row]) -> Result<(), Fail> {
+fn check<C: CellSource>(rt: &impl Abort, setting: &Setting<'_, C>, rows: &[Row]) {
     for (text, want) in rows {
-        same(&agreed_in_blocks(setting, text)?.as_str(), want, text)?;
+        let found = agreed_in_blocks(rt, setting, text);
+        same(rt, &found.as_str(), want, text);
     }
-    Ok(())
 }
 
 /// All texts of some rows, and these joined.
-fn check_agreement<C: CellSource>(setting: &Setting<'_, C>, rows: &[Row]) -> Result<(), Fail> {
+fn check_agreement<C: CellSource>(rt: &impl Abort, setting: &Setting<'_, C>, rows: &[Row]) {
     let mut joined = String::new(setting.alloc);
     for (text, _) in rows {
-        joined.push_str(text)?;
-        let _ = agreed_in_blocks(setting, text)?;
+        must(rt, joined.push_str(text));
+        let _ = agreed_in_blocks(rt, setting, text);
     }
-    let _ = agreed_in_blocks(setting, joined.as_str())?;
-    Ok(())
+    let _ = agreed_in_blocks(rt, setting, joined.as_str());
 }
 
 /// In each profile its own rows, and those of both.
-fn check_source<C: CellSource>(alloc: Global, source: &C) -> Result<(), Fail> {
+fn check_source<C: CellSource>(rt: &impl Abort, alloc: Global, source: &C) {
     for (profile, rows) in [(Profile::First, &IN_FIRST), (Profile::Second, &IN_SECOND)] {
         let setting = Setting {
             alloc,
             source,
             profile,
         };
-        check(&setting, &BOTH)?;
-        check(&setting, rows)?;
-        check_agreement(&setting, &FIRST)?;
-        check_agreement(&setting, &SECOND)?;
+        check(rt, &setting, &BOTH);
+        check(rt, &setting, rows);
+        check_agreement(rt, &setting, &FIRST);
+        check_agreement(rt, &setting, &SECOND);
     }
-    Ok(())
 }
 
 #[test]
 fn breaks_of_texts(rt: HostRuntime) -> Result<(), Fail> {
-    check_source(rt.alloc(), &pages_by(rt.alloc(), SAMPLES)?)?;
-    check_source(rt.alloc(), &tables_of(rt.alloc(), SAMPLES)?)
+    check_source(&rt, rt.alloc(), &pages_by(rt.alloc(), SAMPLES)?);
+    check_source(&rt, rt.alloc(), &tables_of(rt.alloc(), SAMPLES)?);
+    Ok(())
 }
 
 /// The text of these scalars.
@@ -182,6 +186,13 @@ fn text_of(alloc: Global, scalars: &[Scalar; 3]) -> Result<String, AllocError> {
         text.push(*c)?;
     }
     Ok(text)
+}
+
+fn check_texts(rt: &impl Abort, setting: &Setting<'_, CellPages>, texts: &[[Scalar; 3]]) {
+    for scalars in texts {
+        let text = must(rt, text_of(setting.alloc, scalars));
+        let _ = agreed(rt, setting, &text);
+    }
 }
 
 #[test]
@@ -194,9 +205,7 @@ fn breaks_by_rows(rt: HostRuntime) -> Result<(), Fail> {
             source: &pages,
             profile,
         };
-        for scalars in &texts {
-            let _ = agreed(&setting, &text_of(rt.alloc(), scalars)?)?;
-        }
+        check_texts(&rt, &setting, &texts);
     }
     Ok(())
 }

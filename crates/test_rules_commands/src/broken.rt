@@ -1,5 +1,6 @@
 //! What `break_text` returns and refuses: the lines of `show`, read back, without the rules' numbers.
 
+use crate::calls::{must, same};
 use lbk_cmd::{BreakFault, CellsFault, CmdFault, SAMPLE_FILES, break_text};
 use lbk_feed::Source;
 use lbk_feed::devices::MemorySource;
@@ -8,8 +9,7 @@ use lbk_passage::PassageFault;
 use lbk_rules::Profile;
 use lbk_ucd::{Files, UcdCause, UcdFault, Which};
 use std::alloc::{AllocError, Global};
-use std::test::Fail;
-use test_support::checks::same;
+use std::process::Abort;
 use test_support::property_files::line_break_alone;
 use test_support::shown::{BOTH, FIRST, SECOND};
 
@@ -52,40 +52,40 @@ fn without_rules(alloc: Global, lines: &str) -> Result<Vec<u8>, AllocError> {
 
 /// Checks a text in reads of `size` bytes: the lines read back are those of `show`.
 fn check(
+    rt: &impl Abort,
     alloc: Global,
-    text: &str,
-    lines: &str,
+    (text, lines): (&str, &str),
     profile: Profile,
     size: usize,
-) -> Result<(), Fail> {
+) {
     let sizes = [size];
     let mut source = MemorySource::cut(text.as_bytes(), &sizes);
-    let found = broken(alloc, SAMPLE_FILES, &mut source, LIMIT, profile)?;
-    let found = written(alloc, &found)?;
-    let want = without_rules(alloc, lines)?;
-    same(&found.as_slice(), &want.as_slice(), &(text, size))
+    let found = must(rt, broken(alloc, SAMPLE_FILES, &mut source, LIMIT, profile));
+    let found = must(rt, written(alloc, &found));
+    let want = must(rt, without_rules(alloc, lines));
+    same(rt, &found.as_slice(), &want.as_slice(), &(text, size));
 }
 
 /// Checks rows in a profile, in reads of `size` bytes.
 fn check_rows(
+    rt: &impl Abort,
     alloc: Global,
     rows: &[(&str, &str)],
     profile: Profile,
     size: usize,
-) -> Result<(), Fail> {
-    for (text, lines) in rows {
-        check(alloc, text, lines, profile, size)?;
+) {
+    for row in rows {
+        check(rt, alloc, *row, profile, size);
     }
-    Ok(())
 }
 
 #[test]
-fn texts(rt: HostRuntime) -> Result<(), Fail> {
+fn texts(rt: HostRuntime) {
     let alloc = rt.alloc();
-    check_rows(alloc, &BOTH[..5], Profile::First, 1)?;
-    check_rows(alloc, &BOTH[2..3], Profile::Second, 2)?;
-    check_rows(alloc, &FIRST, Profile::First, 4096)?;
-    check_rows(alloc, &SECOND, Profile::Second, 1)
+    check_rows(&rt, alloc, &BOTH[..5], Profile::First, 1);
+    check_rows(&rt, alloc, &BOTH[2..3], Profile::Second, 2);
+    check_rows(&rt, alloc, &FIRST, Profile::First, 4096);
+    check_rows(&rt, alloc, &SECOND, Profile::Second, 1);
 }
 
 /// A text, the limit of a paragraph, the failing read of one byte, if any, and why the text is refused.
@@ -117,21 +117,14 @@ fn source_of(text: &'static [u8], failing: Option<u64>) -> MemorySource<'static>
 }
 
 #[test]
-fn refused_texts(rt: HostRuntime) -> Result<(), Fail> {
+fn refused_texts(rt: HostRuntime) {
     for (text, limit, failing, want) in &REFUSED {
         let mut source = source_of(text, *failing);
-        let fault = broken(
-            rt.alloc(),
-            SAMPLE_FILES,
-            &mut source,
-            *limit,
-            Profile::First,
-        )
-        .err();
+        let alloc = rt.alloc();
+        let fault = broken(alloc, SAMPLE_FILES, &mut source, *limit, Profile::First).err();
         let want = BreakFault::Text(CmdFault::Passage(*want));
-        same(&fault, &Some(want), limit)?;
+        same(&rt, &fault, &Some(want), limit);
     }
-    Ok(())
 }
 
 const REFUSAL: UcdFault = UcdFault {
@@ -141,12 +134,11 @@ const REFUSAL: UcdFault = UcdFault {
 };
 
 #[test]
-fn refused_files(rt: HostRuntime) -> Result<(), Fail> {
-    let alloc = rt.alloc();
+fn refused_files(rt: HostRuntime) {
     let files = line_break_alone(b"# LineBreak-15.0.0.txt\n0041;XY\n");
     let mut source = MemorySource::cut(b"ab", &[]);
-    let fault = broken(alloc, files, &mut source, LIMIT, Profile::First).err();
+    let fault = broken(rt.alloc(), files, &mut source, LIMIT, Profile::First).err();
     let want = BreakFault::Files(CellsFault::Tables(REFUSAL));
-    same(&fault, &Some(want), &"a bad row")?;
-    same(&source.reads(), &0, &"a bad row")
+    same(&rt, &fault, &Some(want), &"a bad row");
+    same(&rt, &source.reads(), &0, &"a bad row");
 }

@@ -1,10 +1,9 @@
 //! What the files in a folder of the Unicode Character Database have to claim.
 
+use crate::calls::same;
 use lbk_cmd::{ClaimCause, Version};
 use lbk_files::{check_claim, name_in_database};
 use lbk_ucd::Which;
-use std::test::Fail;
-use test_support::checks::same;
 
 const LINES: Which = Which::LineBreak;
 
@@ -71,23 +70,31 @@ fn claim_of(which: Which, text: &str) -> Result<(), ClaimCause> {
     check_claim(which, text.as_bytes())
 }
 
+fn version_of([major, minor, update]: [u32; 3]) -> Version {
+    Version {
+        major,
+        minor,
+        update,
+    }
+}
+
 #[test]
-fn claims(_rt: HostRuntime) -> Result<(), Fail> {
-    for (which, text, [major, minor, update]) in VERSIONS {
-        let version = Version {
-            major,
-            minor,
-            update,
-        };
-        let cause = ClaimCause::Version(version);
-        same(&claim_of(which, text), &Err(cause), &text)?;
+fn claims(rt: HostRuntime) {
+    for (which, text, version) in &VERSIONS {
+        let cause = ClaimCause::Version(version_of(*version));
+        same(&rt, &claim_of(*which, text), &Err(cause), text);
     }
     for (which, text) in &UNTITLED {
-        same(&claim_of(*which, text), &Err(ClaimCause::Title), text)?;
+        same(&rt, &claim_of(*which, text), &Err(ClaimCause::Title), text);
     }
     for (which, text) in &CHANGED {
-        same(&claim_of(*which, text), &Err(ClaimCause::Changed), text)?;
+        same(
+            &rt,
+            &claim_of(*which, text),
+            &Err(ClaimCause::Changed),
+            text,
+        );
     }
     let name = name_in_database(Which::Emoji);
-    same(&name, &"emoji/emoji-data.txt", &"a name")
+    same(&rt, &name, &"emoji/emoji-data.txt", &"a name");
 }

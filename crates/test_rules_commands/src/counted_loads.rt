@@ -1,11 +1,11 @@
 //! How often a run over files in memory loads a property file (a contract bounds it by four), and what it does with
 //! operands if there are no texts.
 
+use crate::calls::{must, same};
 use lbk_cmd::{Ending, MemoryStore, SAMPLE_FILES, Store, run};
 use lbk_feed::devices::{MemorySink, MemorySource};
 use std::alloc::Global;
-use std::test::Fail;
-use test_support::checks::same;
+use std::process::Abort;
 use test_support::property_files::words_on_files;
 
 const BAD_ROW: &[u8] = b"0061;AK\n";
@@ -73,28 +73,27 @@ fn ended(
 }
 
 fn check(
+    rt: &impl Abort,
     alloc: Global,
     words: &[&'static str],
     text: &str,
     want: (u8, bool, u64),
-) -> Result<(), Fail> {
-    let mut writer = MemorySink::new(alloc, 64)?;
+) {
+    let mut writer = must(rt, MemorySink::new(alloc, 64));
     let mut reader = MemorySource::new(b"ab cd");
     let (ending, loads) = ended(alloc, words, &mut reader, &mut writer);
     let reported = matches!(ending, Ending::Reported);
-    same(&writer.bytes(), &text.as_bytes(), &words)?;
-    same(&(ending.status(), reported, loads), &want, &words)
+    same(rt, &writer.bytes(), &text.as_bytes(), &words);
+    same(rt, &(ending.status(), reported, loads), &want, &words);
 }
 
 #[test]
-fn counted_loads(rt: HostRuntime) -> Result<(), Fail> {
-    let alloc = rt.alloc();
+fn counted_loads(rt: HostRuntime) {
     for row in &ROWS {
-        let words = words_on_files(alloc, row.0, row.1, row.2)?;
-        check(alloc, &words, row.3, (row.4, row.5, row.6))?;
+        let words = must(&rt, words_on_files(rt.alloc(), row.0, row.1, row.2));
+        check(&rt, rt.alloc(), &words, row.3, (row.4, row.5, row.6));
     }
     for (words, text) in &NO_FILES {
-        check(alloc, words, text, (0, false, 0))?;
+        check(&rt, rt.alloc(), words, text, (0, false, 0));
     }
-    Ok(())
 }

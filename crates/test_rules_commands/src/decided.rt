@@ -1,14 +1,14 @@
 //! The verdicts at the positions of texts with the sample files: by the evaluator in both profiles, and by the
 //! machines.
 
-use crate::calls::{Setting, decided, late_step, start_late, step_over, stepper};
+use crate::calls::{Setting, decided, late_step, must, same, start_late, step_over, stepper};
 use lbk_rules::{Cell, CellSource, Kind, Profile, Rule, Verdict, decide_all, decide_all_in};
 use std::alloc::{AllocError, Global};
 use std::fmt::Write;
+use std::process::Abort;
 use std::test::Fail;
 use test_support::calls::{pages_by, tables_of};
 use test_support::cells::cells_of;
-use test_support::checks::same;
 use test_support::property_files::{SAMPLES, line_break_alone};
 use test_support::texts::{FIRST, SECOND, STEPS};
 
@@ -69,22 +69,28 @@ fn by_late_machine(
 /// Compares the verdicts at the positions of some cells with those of their row: by the late machine, by the evaluators,
 /// and, in the first profile, by its machine.
 fn check_verdicts<C: CellSource>(
+    rt: &impl Abort,
     setting: &Setting<'_, C>,
     cells: &[Cell],
     (text, want): Row,
-) -> Result<(), Fail> {
+) {
     let profile = setting.profile;
-    let (verdicts, count) = by_late_machine(setting.alloc, profile, cells)?;
-    same(&count, &verdicts.len(), &text)?;
+    let (verdicts, count) = must(rt, by_late_machine(setting.alloc, profile, cells));
+    same(rt, &count, &verdicts.len(), &text);
     for (k, verdict) in verdicts.iter().enumerate() {
-        same(&decided(profile, cells, k)?, verdict, &text)?;
+        same(rt, &decided(rt, profile, cells, k), verdict, &text);
     }
     if profile == Profile::First {
-        let plain = by_machine(setting.alloc, cells)?;
-        same(&plain.as_slice(), &verdicts.as_slice(), &text)?;
+        check_machine(rt, setting.alloc, cells, &verdicts);
     }
-    let found = told(setting.alloc, &verdicts, want.starts_with('×'))?;
-    same(&found.as_str(), &want, &text)
+    let found = must(rt, told(setting.alloc, &verdicts, want.starts_with('×')));
+    same(rt, &found.as_str(), &want, &text);
+}
+
+/// Compares the verdicts of the machine of the first profile with those of the others.
+fn check_machine(rt: &impl Abort, alloc: Global, cells: &[Cell], want: &[Verdict]) {
+    let found = must(rt, by_machine(alloc, cells));
+    same(rt, &found.as_slice(), &want, &"the machine");
 }
 
 /// Adds what a step or the end returns, in the notation of `STEPS`.
@@ -110,62 +116,59 @@ fn push_answers(
 /// Compares the steps of the late machine over some cells with those of their row, and with those of a stepper over the
 /// text.
 fn check_steps<C: CellSource>(
+    rt: &impl Abort,
     setting: &Setting<'_, C>,
     cells: &[Cell],
     (text, want): Row,
-) -> Result<(), Fail> {
+) {
     let mut steps = String::new(setting.alloc);
     let mut machine = start_late(setting.profile);
     let mut stepper = stepper(setting.source, setting.profile);
     for (c, cell) in text.chars().zip(cells) {
         let taken = machine.steps();
-        let out = late_step(&mut machine, taken, *cell)?;
-        same(&step_over(&mut stepper, c), &out, &text)?;
-        push_answers(&mut steps, out.now, out.late)?;
+        let out = late_step(rt, &mut machine, taken, *cell);
+        same(rt, &step_over(&mut stepper, c), &out, &text);
+        must(rt, push_answers(&mut steps, out.now, out.late));
     }
-    same(&machine.steps(), &(cells.len() as u64), &text)?;
+    same(rt, &machine.steps(), &(cells.len() as u64), &text);
     let end = machine.finish();
-    same(&stepper.finish(), &end, &text)?;
-    push_answers(&mut steps, Some(end.end), end.late)?;
-    same(&steps.as_str(), &want, &text)
+    same(rt, &stepper.finish(), &end, &text);
+    must(rt, push_answers(&mut steps, Some(end.end), end.late));
+    same(rt, &steps.as_str(), &want, &text);
 }
 
 /// Compares the verdicts of each text with its row, or what each step returns.
-fn check<C: CellSource>(
-    setting: &Setting<'_, C>,
-    by_steps: bool,
-    rows: &[Row],
-) -> Result<(), Fail> {
+fn check<C: CellSource>(rt: &impl Abort, setting: &Setting<'_, C>, by_steps: bool, rows: &[Row]) {
     for row in rows {
-        let cells = cells_of(setting.alloc, setting.source, row.0)?;
+        let cells = must(rt, cells_of(setting.alloc, setting.source, row.0));
         if by_steps {
-            check_steps(setting, &cells, *row)?;
+            check_steps(rt, setting, &cells, *row);
         } else {
-            check_verdicts(setting, &cells, *row)?;
+            check_verdicts(rt, setting, &cells, *row);
         }
     }
-    Ok(())
 }
 
-fn check_source<C: CellSource>(alloc: Global, source: &C) -> Result<(), Fail> {
+fn check_source<C: CellSource>(rt: &impl Abort, alloc: Global, source: &C) {
     let mut setting = Setting {
         alloc,
         source,
         profile: Profile::First,
     };
-    check(&setting, false, &FIRST)?;
-    check(&setting, false, &KINDS_FIRST)?;
-    check(&setting, true, &FIRST)?;
+    check(rt, &setting, false, &FIRST);
+    check(rt, &setting, false, &KINDS_FIRST);
+    check(rt, &setting, true, &FIRST);
     setting.profile = Profile::Second;
-    check(&setting, false, &SECOND)?;
-    check(&setting, false, &KINDS_SECOND)?;
-    check(&setting, true, &STEPS)
+    check(rt, &setting, false, &SECOND);
+    check(rt, &setting, false, &KINDS_SECOND);
+    check(rt, &setting, true, &STEPS);
 }
 
 #[test]
 fn sample_rows(rt: HostRuntime) -> Result<(), Fail> {
-    check_source(rt.alloc(), &pages_by(rt.alloc(), SAMPLES)?)?;
-    check_source(rt.alloc(), &tables_of(rt.alloc(), SAMPLES)?)
+    check_source(&rt, rt.alloc(), &pages_by(rt.alloc(), SAMPLES)?);
+    check_source(&rt, rt.alloc(), &tables_of(rt.alloc(), SAMPLES)?);
+    Ok(())
 }
 
 #[test]
@@ -176,5 +179,6 @@ fn no_files(rt: HostRuntime) -> Result<(), Fail> {
         source: &tables,
         profile: Profile::First,
     };
-    check(&setting, false, &[("a ", "2 28 3")])
+    check(&rt, &setting, false, &[("a ", "2 28 3")]);
+    Ok(())
 }

@@ -1,10 +1,9 @@
 //! The cells of properties, the units of cells, and rules by their numbers.
 
+use crate::calls::same;
 use lbk_rules::{Class, Rule, resolve};
 use lbk_ucd::{Category, EastAsian, LineBreak};
-use std::test::Fail;
 use test_support::cells::plain;
-use test_support::checks::same;
 
 /// A class, and whether a cell of it closes the quotation, if that is known.
 static UNITS: [(Class, Option<bool>); 3] = [
@@ -24,18 +23,17 @@ static NUMBERS: [(u8, Option<Rule>); 3] = [
 static FRESH: [(Class, bool); 2] = [(Class::Space, true), (Class::Alphabetic, false)];
 
 #[test]
-fn cells_and_rules(_rt: HostRuntime) -> Result<(), Fail> {
+fn cells_and_rules(rt: HostRuntime) {
     let (context, width) = (LineBreak::ComplexContext, EastAsian::Neutral);
     let cell = resolve(context, width, Category::Mn, false);
-    same(&cell, &plain(Class::CombiningMark), &"its cell")?;
+    same(&rt, &cell, &plain(Class::CombiningMark), &"its cell");
     for (number, rule) in &NUMBERS {
-        same(&Rule::numbered(*number), rule, number)?;
+        same(&rt, &Rule::numbered(*number), rule, number);
     }
     for (class, closes) in &UNITS {
-        same(&plain(*class).unit_closes(false), closes, class)?;
+        same(&rt, &plain(*class).unit_closes(false), closes, class);
     }
     for (class, leaves) in &FRESH {
-        same(&plain(*class).leaves_fresh(), leaves, class)?;
+        same(&rt, &plain(*class).leaves_fresh(), leaves, class);
     }
-    Ok(())
 }

@@ -1,18 +1,18 @@
 //! How the faults of a run are reported to a caller of the library, which has no arguments of the program.
 
+use crate::calls::{must, same};
 use lbk_cmd::{BreakFault, CellsFault, ClaimCause, CmdFault, Message, RunFault, Version};
 use lbk_notation::ReplayFault;
 use lbk_passage::PassageFault;
 use lbk_ucd::{UcdCause, UcdFault, Which};
 use std::alloc::Global;
 use std::fmt::Display;
-use std::test::Fail;
-use test_support::checks::same;
+use std::process::Abort;
 
 /// Compares the text of a fault with the expected one.
-fn check<T: Display>(alloc: Global, fault: &T, want: &str) -> Result<(), Fail> {
-    let told = format!(in alloc; "{fault}")?;
-    same(&told.as_str(), &want, &"the text of a fault")
+fn check<T: Display>(rt: &impl Abort, alloc: Global, fault: &T, want: &str) {
+    let told = must(rt, format!(in alloc; "{fault}"));
+    same(rt, &told.as_str(), &want, &"the text of a fault");
 }
 
 const ROW: UcdFault = UcdFault {
@@ -73,11 +73,10 @@ static OF_FILES: [(CellsFault, &str); 8] = [
 ];
 
 #[test]
-fn faults_of_files(rt: HostRuntime) -> Result<(), Fail> {
+fn faults_of_files(rt: HostRuntime) {
     for (fault, want) in &OF_FILES {
-        check(rt.alloc(), fault, want)?;
+        check(&rt, rt.alloc(), fault, want);
     }
-    Ok(())
 }
 
 static OF_RUNS: [(RunFault, &str); 15] = [
@@ -135,12 +134,11 @@ static OF_RUNS: [(RunFault, &str); 15] = [
 ];
 
 #[test]
-fn faults_of_runs(rt: HostRuntime) -> Result<(), Fail> {
+fn faults_of_runs(rt: HostRuntime) {
     for (fault, want) in &OF_RUNS {
-        check(rt.alloc(), fault, want)?;
-        check(rt.alloc(), &Message::of_call(*fault), want)?;
+        check(&rt, rt.alloc(), fault, want);
+        check(&rt, rt.alloc(), &Message::of_call(*fault), want);
     }
-    Ok(())
 }
 
 static OF_ENGINES: [(CmdFault, &str); 9] = [
@@ -190,14 +188,13 @@ static OF_TEXTS: [(BreakFault, &str); 4] = [
 ];
 
 #[test]
-fn faults_of_calls(rt: HostRuntime) -> Result<(), Fail> {
+fn faults_of_calls(rt: HostRuntime) {
     for (fault, want) in &OF_ENGINES {
-        check(rt.alloc(), fault, want)?;
+        check(&rt, rt.alloc(), fault, want);
         let message = Message::of_call(RunFault::Cmd(*fault));
-        check(rt.alloc(), &message, want)?;
+        check(&rt, rt.alloc(), &message, want);
     }
     for (fault, want) in &OF_TEXTS {
-        check(rt.alloc(), fault, want)?;
+        check(&rt, rt.alloc(), fault, want);
     }
-    Ok(())
 }

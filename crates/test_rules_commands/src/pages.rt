@@ -1,31 +1,36 @@
 //! Pages have the cells of the tables that they are built from: at the edges of pages, and for equal and different
 //! pages.
 
-use lbk_rules::Class;
+use crate::calls::{must, same};
+use lbk_rules::{CellPages, Class};
+use lbk_ucd::Tables;
 use std::alloc::{AllocError, Global};
 use std::fmt::Write;
+use std::process::Abort;
 use std::test::Fail;
 use test_support::calls::{cell_of, pages_of, tables_of};
 use test_support::cells::plain;
-use test_support::checks::same;
 use test_support::property_files::line_break_alone;
 
 /// The first and the last of some scalars, and their class.
 type Range = (char, char, Class);
 
 /// Compares the cells of these scalars, and of all scalars with those of the tables.
-fn check(alloc: Global, line_break: &[u8], ranges: &[Range]) -> Result<(), Fail> {
-    let tables = tables_of(alloc, line_break_alone(line_break))?;
-    let pages = pages_of(alloc, &tables)?;
+fn check_cells(rt: &impl Abort, tables: &Tables, pages: &CellPages, ranges: &[Range]) {
     for (first, last, class) in ranges {
         for c in (*first..=*last).into_iter() {
-            same(&cell_of(&pages, c), &plain(*class), &c)?;
+            same(rt, &cell_of(pages, c), &plain(*class), &c);
         }
     }
     for c in '\0'..=char::MAX {
-        same(&cell_of(&pages, c), &cell_of(&tables, c), &c)?;
+        same(rt, &cell_of(pages, c), &cell_of(tables, c), &c);
     }
-    Ok(())
+}
+
+fn check(rt: &impl Abort, alloc: Global, line_break: &[u8], ranges: &[Range]) {
+    let tables = must(rt, tables_of(alloc, line_break_alone(line_break)));
+    let pages = must(rt, pages_of(alloc, &tables));
+    check_cells(rt, &tables, &pages, ranges);
 }
 
 /// LineBreak files, and all scalars with their classes.
@@ -93,11 +98,10 @@ static FILES: [(&[u8], &[Range]); 7] = [
 ];
 
 #[test]
-fn pages_of_files(rt: HostRuntime) -> Result<(), Fail> {
+fn pages_of_files(rt: HostRuntime) {
     for (file, ranges) in &FILES {
-        check(rt.alloc(), file, ranges)?;
+        check(&rt, rt.alloc(), file, ranges);
     }
-    Ok(())
 }
 
 /// A file with two opening code points in each page: at the page's index among 256, and at the index of its 256 pages
@@ -135,5 +139,6 @@ static STRIPES: [Range; 14] = [
 #[test]
 fn many_pages(rt: HostRuntime) -> Result<(), Fail> {
     let file = striped(rt.alloc())?;
-    check(rt.alloc(), file.as_bytes(), &STRIPES)
+    check(&rt, rt.alloc(), file.as_bytes(), &STRIPES);
+    Ok(())
 }

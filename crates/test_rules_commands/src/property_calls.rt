@@ -2,29 +2,25 @@
 //! them; without these facts a check takes a fraction of the time.
 
 use lbk_ucd::{Category, EastAsian, LineBreak, Places, Run, Tables};
-use std::test::Fail;
+use std::process::Abort;
 
 pub const LAST_CODE: u32 = 0x10FFFF;
 
 /// The values of a code point: line break, width, category, and whether it is a pictograph.
 pub type Values = (LineBreak, EastAsian, Category, bool);
 
-pub fn values_of(tables: &Tables, code: u32) -> Result<Values, Fail> {
-    if code > LAST_CODE {
-        return Err(Fail::new("no code point"));
-    }
-    Ok((
+pub fn values_of(rt: &impl Abort, tables: &Tables, code: u32) -> Values {
+    assert!(rt; code <= LAST_CODE);
+    (
         tables.line_break(code),
         tables.east_asian(code),
         tables.category(code),
         tables.is_pictographic(code),
-    ))
+    )
 }
 
 /// The range of a code point, looked up near an earlier one.
-pub fn run_of(tables: &Tables, code: u32, near: Places) -> Result<Run, Fail> {
-    if code > LAST_CODE {
-        return Err(Fail::new("no code point"));
-    }
-    Ok(tables.run(code, near))
+pub fn run_of(rt: &impl Abort, tables: &Tables, code: u32, near: Places) -> Run {
+    assert!(rt; code <= LAST_CODE);
+    tables.run(code, near)
 }

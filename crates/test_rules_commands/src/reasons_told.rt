@@ -1,5 +1,6 @@
 //! Messages with the system's reason, which no contract contains: what failed, and then the reason in the words of std.
 
+use crate::calls::{must, same};
 use lbk_args::{Engine, FileName, FileNames};
 use lbk_cmd::{Caller, CmdFault, Message, Reason, RunFault};
 use lbk_notation::ReplayFault;
@@ -7,8 +8,7 @@ use lbk_passage::PassageFault;
 use lbk_ucd::Which;
 use std::alloc::Global;
 use std::io::ErrorKind;
-use std::test::Fail;
-use test_support::checks::same;
+use std::process::Abort;
 
 static KINDS: [ErrorKind; 18] = [
     ErrorKind::PermissionDenied,
@@ -98,11 +98,12 @@ static ROWS: [Row; 12] = [
 
 /// Compares the message for a fault with this reason.
 fn check(
+    rt: &impl Abort,
     alloc: Global,
     (fault, caller, text): (RunFault, Caller<'_>, Option<&str>),
     kind: ErrorKind,
     want: &str,
-) -> Result<(), Fail> {
+) {
     let message = Message {
         fault,
         caller,
@@ -110,8 +111,8 @@ fn check(
         reason: Some(Reason::System(kind)),
         is_utf16: false,
     };
-    let told = format!(in alloc; "{message}")?;
-    same(&told.as_str(), &want, &"the message")
+    let told = must(rt, format!(in alloc; "{message}"));
+    same(rt, &told.as_str(), &want, &"the message");
 }
 
 /// A folder with unreadable files, and what to do.
@@ -128,7 +129,7 @@ static FOLDERS: [(&str, &str); 3] = [
 ];
 
 #[test]
-fn folders(rt: HostRuntime) -> Result<(), Fail> {
+fn folders(rt: HostRuntime) {
     for (folder, advice) in &FOLDERS {
         let caller = Caller::Words {
             engine: Engine::Replay { kinds: false },
@@ -139,22 +140,23 @@ fn folders(rt: HostRuntime) -> Result<(), Fail> {
                 emoji: FileName::InFolder(folder),
             },
         };
-        let want = format!(in rt.alloc();
-            "{folder}/emoji/emoji-data.txt: the file cannot be read: no such file{advice}"
-        )?;
+        let want = must(
+            &rt,
+            format!(in rt.alloc();
+                "{folder}/emoji/emoji-data.txt: the file cannot be read: no such file{advice}"
+            ),
+        );
         let fault = (RunFault::Load(Which::Emoji), caller, None);
-        check(rt.alloc(), fault, ErrorKind::NotFound, &want)?;
+        check(&rt, rt.alloc(), fault, ErrorKind::NotFound, &want);
     }
-    Ok(())
 }
 
 #[test]
-fn reasons(rt: HostRuntime) -> Result<(), Fail> {
+fn reasons(rt: HostRuntime) {
     for (fault, caller, text, front) in &ROWS {
         for kind in &KINDS {
-            let want = format!(in rt.alloc(); "{front}: {kind}")?;
-            check(rt.alloc(), (*fault, *caller, *text), *kind, &want)?;
+            let want = must(&rt, format!(in rt.alloc(); "{front}: {kind}"));
+            check(&rt, rt.alloc(), (*fault, *caller, *text), *kind, &want);
         }
     }
-    Ok(())
 }

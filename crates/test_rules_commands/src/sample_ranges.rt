@@ -1,12 +1,13 @@
 //! The sample files, range by range: the tables' values for the first and the last code point of each, and for those on
 //! either side.
 
+use crate::calls::{must, same};
 use crate::property_calls::{LAST_CODE, values_of};
 use lbk_ucd::{Category, EastAsian, LineBreak, Tables};
-use std::alloc::AllocError;
+use std::alloc::{AllocError, Global};
+use std::process::Abort;
 use std::test::Fail;
 use test_support::calls::tables_of;
-use test_support::checks::same;
 use test_support::property_files::SAMPLES;
 
 /// First code point, last code point and value of a range. The last range of each table is the default.
@@ -158,24 +159,33 @@ fn push_codes<T>(codes: &mut Vec<u32>, ranges: &[Range<T>]) -> Result<(), AllocE
     Ok(())
 }
 
-fn check(tables: &Tables, code: u32) -> Result<(), Fail> {
-    let (line_break, width, category, is_pictographic) = values_of(tables, code)?;
-    same(&Some(line_break), &value_at(&LINE_BREAKS, code), &code)?;
-    same(&Some(width), &value_at(&WIDTHS, code), &code)?;
-    same(&Some(category), &value_at(&CATEGORIES, code), &code)?;
-    same(&Some(is_pictographic), &value_at(&PICTOGRAPHS, code), &code)
+fn check(rt: &impl Abort, tables: &Tables, code: u32) {
+    let (line_break, width, category, is_pictographic) = values_of(rt, tables, code);
+    same(rt, &Some(line_break), &value_at(&LINE_BREAKS, code), &code);
+    same(rt, &Some(width), &value_at(&WIDTHS, code), &code);
+    same(rt, &Some(category), &value_at(&CATEGORIES, code), &code);
+    same(
+        rt,
+        &Some(is_pictographic),
+        &value_at(&PICTOGRAPHS, code),
+        &code,
+    );
+}
+
+fn codes(rt: &impl Abort, alloc: Global) -> Vec<u32> {
+    let mut codes = Vec::new(alloc);
+    must(rt, push_codes(&mut codes, &LINE_BREAKS));
+    must(rt, push_codes(&mut codes, &WIDTHS));
+    must(rt, push_codes(&mut codes, &CATEGORIES));
+    must(rt, push_codes(&mut codes, &PICTOGRAPHS));
+    codes
 }
 
 #[test]
 fn sample_ranges(rt: HostRuntime) -> Result<(), Fail> {
     let tables = tables_of(rt.alloc(), SAMPLES)?;
-    let mut codes = Vec::new(rt.alloc());
-    push_codes(&mut codes, &LINE_BREAKS)?;
-    push_codes(&mut codes, &WIDTHS)?;
-    push_codes(&mut codes, &CATEGORIES)?;
-    push_codes(&mut codes, &PICTOGRAPHS)?;
-    for code in &codes {
-        check(&tables, *code)?;
+    for code in &codes(&rt, rt.alloc()) {
+        check(&rt, &tables, *code);
     }
     Ok(())
 }

@@ -1,14 +1,15 @@
 //! Passages of many sizes in one call, with ample memory: each has all of its bytes, breaks and words, and no call runs
 //! out of memory.
 
+use crate::calls::{must, same};
 use lbk_cmd::{BreakFault, OwnedPassage, SAMPLE_FILES, break_text, read_passages};
 use lbk_feed::devices::MemorySource;
 use lbk_notation::TestLine;
 use lbk_passage::LIMIT_MAX;
 use lbk_rules::Profile;
 use std::alloc::{AllocError, Global};
+use std::process::Abort;
 use std::test::Fail;
-use test_support::checks::same;
 
 /// How many passages of one letter follow the others.
 const SHORT: usize = 70_000;
@@ -49,16 +50,22 @@ fn sizes(alloc: Global) -> Result<Vec<u32>, AllocError> {
 }
 
 /// For each size a paragraph of so many letters and one of so many words, and then the short ones.
-fn text_of(alloc: Global, sizes: &[u32]) -> Result<String, AllocError> {
+fn text_of(rt: &impl Abort, alloc: Global, sizes: &[u32]) -> String {
     let mut text = String::new(alloc);
     for size in sizes {
-        text.push_str(&"a".repeat(alloc, *size as usize)?)?;
-        text.push('\n')?;
-        text.push_str(&"a ".repeat(alloc, *size as usize)?)?;
-        text.push('\n')?;
+        push_repeated(rt, &mut text, "a", *size as usize);
+        must(rt, text.push('\n'));
+        push_repeated(rt, &mut text, "a ", *size as usize);
+        must(rt, text.push('\n'));
     }
-    text.push_str(&"a\n".repeat(alloc, SHORT)?)?;
-    Ok(text)
+    push_repeated(rt, &mut text, "a\n", SHORT);
+    text
+}
+
+fn push_repeated(rt: &impl Abort, text: &mut String, part: &str, count: usize) {
+    for _ in 0..count {
+        must(rt, text.push_str(part));
+    }
 }
 
 /// How many bytes, breaks and words the passage with this index has.
@@ -70,46 +77,45 @@ fn counts(place: usize, sizes: &[u32]) -> (usize, usize, usize) {
     }
 }
 
-fn check_passages(passages: &[OwnedPassage], sizes: &[u32]) -> Result<(), Fail> {
+fn check_passages(rt: &impl Abort, passages: &[OwnedPassage], sizes: &[u32]) {
     for (place, passage) in passages.iter().enumerate() {
         let found = (
             passage.text().len(),
             passage.breaks().len(),
             passage.words().len(),
         );
-        same(&found, &counts(place, sizes), &place)?;
+        same(rt, &found, &counts(place, sizes), &place);
     }
-    Ok(())
 }
 
-fn check_lines(lines: &[TestLine], sizes: &[u32]) -> Result<(), Fail> {
+fn check_lines(rt: &impl Abort, lines: &[TestLine], sizes: &[u32]) {
     for (place, line) in lines.iter().enumerate() {
         let (bytes, _, _) = counts(place, sizes);
         let found = (line.scalars().len(), line.marks().len());
-        same(&found, &(bytes, bytes.saturating_add(1)), &place)?;
+        same(rt, &found, &(bytes, bytes.saturating_add(1)), &place);
     }
-    Ok(())
 }
 
 #[test]
 fn passages_of_each_size(rt: HostRuntime) -> Result<(), Fail> {
     let sizes = sizes(rt.alloc())?;
-    let text = text_of(rt.alloc(), &sizes)?;
+    let text = text_of(&rt, rt.alloc(), &sizes);
     let count = sizes.len().saturating_mul(2).saturating_add(SHORT);
-    let passages = owned(rt.alloc(), &text, LIMIT_MAX)?;
-    same(&passages.len(), &count, &"passages")?;
-    check_passages(&passages, &sizes)?;
-    let lines = broken(rt.alloc(), &text, LIMIT_MAX)?;
-    same(&lines.len(), &count, &"lines")?;
-    check_lines(&lines, &sizes)
+    let passages = must(&rt, owned(rt.alloc(), &text, LIMIT_MAX));
+    same(&rt, &passages.len(), &count, &"passages");
+    check_passages(&rt, &passages, &sizes);
+    let lines = must(&rt, broken(rt.alloc(), &text, LIMIT_MAX));
+    same(&rt, &lines.len(), &count, &"lines");
+    check_lines(&rt, &lines, &sizes);
+    Ok(())
 }
 
 #[test]
 fn limits_of_each_size(rt: HostRuntime) -> Result<(), Fail> {
     for limit in &drawn(rt.alloc(), 24)? {
-        let passages = owned(rt.alloc(), "a", *limit)?.len();
-        let lines = broken(rt.alloc(), "a", *limit)?.len();
-        same(&(passages, lines), &(1, 1), limit)?;
+        let passages = must(&rt, owned(rt.alloc(), "a", *limit)).len();
+        let lines = must(&rt, broken(rt.alloc(), "a", *limit)).len();
+        same(&rt, &(passages, lines), &(1, 1), limit);
     }
     Ok(())
 }

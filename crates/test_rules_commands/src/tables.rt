@@ -1,12 +1,13 @@
 //! The values of code points in tables, and how files are refused.
 
+use crate::calls::{must, same};
 use crate::property_calls::{Values, run_of, values_of};
 use lbk_ucd::{Category, EastAsian, Files, LineBreak, Places, Tables, UcdCause, UcdFault, Which};
 use std::alloc::{AllocError, Global};
 use std::fmt::Write;
+use std::process::Abort;
 use std::test::Fail;
 use test_support::calls::tables_of;
-use test_support::checks::same;
 use test_support::property_files::{NO_FILES, SAMPLES, line_break_alone};
 
 /// Property files with content only in this one.
@@ -25,7 +26,7 @@ fn one_file(which: Which, bytes: &[u8]) -> Files<'_> {
 type Place = Option<(u32, UcdCause)>;
 
 /// Compares the fault of a file, with the others empty. A failure shows how the file begins.
-fn check_file(alloc: Global, file: Which, bytes: &[u8], want: Place) -> Result<(), Fail> {
+fn check_file(rt: &impl Abort, alloc: Global, file: Which, bytes: &[u8], want: Place) {
     let found = match tables_of(alloc, one_file(file, bytes)) {
         Ok(_) => None,
         Err(fault) => Some(fault),
@@ -34,7 +35,7 @@ fn check_file(alloc: Global, file: Which, bytes: &[u8], want: Place) -> Result<(
         None => None,
         Some((line, cause)) => Some(UcdFault { file, line, cause }),
     };
-    same(&found, &want, &bytes.get(..64).unwrap_or(bytes))
+    same(rt, &found, &want, &bytes.get(..64).unwrap_or(bytes));
 }
 
 /// Files, and the line and cause of their fault, with the others empty.
@@ -101,11 +102,10 @@ static FILES: [(Which, &[u8], Place); 19] = [
 ];
 
 #[test]
-fn files(rt: HostRuntime) -> Result<(), Fail> {
+fn files(rt: HostRuntime) {
     for (which, bytes, fault) in &FILES {
-        check_file(rt.alloc(), *which, bytes, *fault)?;
+        check_file(&rt, rt.alloc(), *which, bytes, *fault);
     }
-    Ok(())
 }
 
 /// Files by how they begin, what follows and how often, and their fault: the longest lines and files, and longer ones.
@@ -117,14 +117,15 @@ static LENGTHS: [(&str, &str, usize, Place); 4] = [
 ];
 
 #[test]
-fn lengths(rt: HostRuntime) -> Result<(), Fail> {
+fn lengths(rt: HostRuntime) {
     for (front, repeated, count, fault) in &LENGTHS {
         let mut text = String::new(rt.alloc());
-        text.push_str(front)?;
-        text.push_str(&repeated.repeat(rt.alloc(), *count)?)?;
-        check_file(rt.alloc(), Which::LineBreak, text.as_bytes(), *fault)?;
+        must(&rt, text.push_str(front));
+        for _ in 0..*count {
+            must(&rt, text.push_str(repeated));
+        }
+        check_file(&rt, rt.alloc(), Which::LineBreak, text.as_bytes(), *fault);
     }
-    Ok(())
 }
 
 /// A row for each code point up to FFFF, in rising or in falling order.
@@ -144,15 +145,14 @@ static ROWS_BEHIND: [(bool, &str, UcdCause); 2] = [
 ];
 
 #[test]
-fn rows_for_each_code(rt: HostRuntime) -> Result<(), Fail> {
+fn rows_for_each_code(rt: HostRuntime) {
     for (falling, row, cause) in &ROWS_BEHIND {
-        let mut text = many_rows(rt.alloc(), *falling)?;
-        check_file(rt.alloc(), Which::LineBreak, text.as_bytes(), None)?;
-        text.push_str(row)?;
+        let mut text = must(&rt, many_rows(rt.alloc(), *falling));
+        check_file(&rt, rt.alloc(), Which::LineBreak, text.as_bytes(), None);
+        must(&rt, text.push_str(row));
         let fault = Some((65_537, *cause));
-        check_file(rt.alloc(), Which::LineBreak, text.as_bytes(), fault)?;
+        check_file(&rt, rt.alloc(), Which::LineBreak, text.as_bytes(), fault);
     }
-    Ok(())
 }
 
 /// A code point, its values, and the last code point with all properties of each, if that is compared.
@@ -390,37 +390,42 @@ static ROWS_OF_MANY: [Row; 7] = [
 ];
 
 /// Compares the values of a code point, and its range, looked up near the previous one. Returns where that was found.
-fn check_row(tables: &Tables, near: Places, row: &Row) -> Result<Places, Fail> {
+fn check_row(rt: &impl Abort, tables: &Tables, near: Places, row: &Row) -> Places {
     let (code, values, last) = *row;
-    same(&values_of(tables, code)?, &values, &code)?;
-    let run = run_of(tables, code, near)?;
+    same(rt, &values_of(rt, tables, code), &values, &code);
+    let run = run_of(rt, tables, code, near);
     let found = (
         run.line_break,
         run.east_asian,
         run.category,
         run.is_pictographic,
     );
-    same(&found, &values, &code)?;
+    same(rt, &found, &values, &code);
     if let Some(last) = last {
-        same(&run.last, &last, &code)?;
+        same(rt, &run.last, &last, &code);
     }
-    Ok(run.places)
+    run.places
 }
 
-fn check_rows(alloc: Global, files: Files<'_>, rows: &[Row]) -> Result<(), Fail> {
-    let tables = tables_of(alloc, files)?;
+fn check_rows(rt: &impl Abort, alloc: Global, files: Files<'_>, rows: &[Row]) {
+    let tables = must(rt, tables_of(alloc, files));
     let mut near = Places::START;
     for row in rows {
-        near = check_row(&tables, near, row)?;
+        near = check_row(rt, &tables, near, row);
     }
-    Ok(())
 }
 
 #[test]
 fn values(rt: HostRuntime) -> Result<(), Fail> {
-    check_rows(rt.alloc(), SAMPLES, &SAMPLE_ROWS)?;
-    check_rows(rt.alloc(), NO_FILES, &ROW_OF_NO_FILES)?;
-    check_rows(rt.alloc(), DEFAULTS, &ROWS_OF_DEFAULTS)?;
+    check_rows(&rt, rt.alloc(), SAMPLES, &SAMPLE_ROWS);
+    check_rows(&rt, rt.alloc(), NO_FILES, &ROW_OF_NO_FILES);
+    check_rows(&rt, rt.alloc(), DEFAULTS, &ROWS_OF_DEFAULTS);
     let text = many_defaults(rt.alloc())?;
-    check_rows(rt.alloc(), line_break_alone(text.as_bytes()), &ROWS_OF_MANY)
+    check_rows(
+        &rt,
+        rt.alloc(),
+        line_break_alone(text.as_bytes()),
+        &ROWS_OF_MANY,
+    );
+    Ok(())
 }

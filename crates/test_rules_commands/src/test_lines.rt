@@ -5,22 +5,22 @@ use lbk_notation::{Form, Mark, Outcome, mark_text, read_line, replay_line, write
 use lbk_rules::{Kind, Profile, Rule, Verdict};
 use std::test::Fail;
 
+/// The line of a text.
 #[test]
-fn test_lines(rt: HostRuntime) -> Result<(), Fail> {
+fn written_lines(rt: HostRuntime) -> Result<(), Fail> {
     let cells = read_cells(rt.alloc(), SAMPLE_FILES)?;
-
-    // The line of a text.
     let line = mark_text(rt.alloc(), &cells, "b d", Profile::First)?;
     let bytes = write_line(rt.alloc(), &line, Form::Kinds)?;
     assert_eq!(&rt; bytes.as_slice(), "× 0062 × 0020 ÷ 0064 !".as_bytes());
+    Ok(())
+}
 
-    // A line of a test file, with a break inside a word.
-    let read = read_line(
-        rt.alloc(),
-        "× 0061 ÷ 0062 ÷ # comment".as_bytes(),
-        Form::Plain,
-    )?;
-    let line = read.ok_or("a blank line")?;
+/// A line of a test file, with a break inside a word.
+#[test]
+fn test_lines(rt: HostRuntime) -> Result<(), Fail> {
+    let cells = read_cells(rt.alloc(), SAMPLE_FILES)?;
+    let text = "× 0061 ÷ 0062 ÷ # comment".as_bytes();
+    let line = read_line(rt.alloc(), text, Form::Plain)?.ok_or("a blank line")?;
     let differ = Outcome::Differ {
         position: 1,
         file: Mark::May,

@@ -1,5 +1,6 @@
 //! What `lbk_cmd` exports: the engines, and a run of the program.
 
+use crate::calls::{must, same};
 use lbk_cmd::{
     CmdFault, Ending, LoadFault, MemoryStore, RunFault, SAMPLE_FILES, Store, run, segment, show,
 };
@@ -12,7 +13,6 @@ use lbk_ucd::{UcdCause, UcdFault, Which};
 use std::alloc::Global;
 use std::test::Fail;
 use test_support::calls::pages_by;
-use test_support::checks::same;
 
 /// Each value: one more or less is an error here.
 fn values(cmd_fault: CmdFault, load_fault: LoadFault, run_fault: RunFault) {
@@ -92,24 +92,27 @@ fn loaded<S: Store>(alloc: Global, store: &mut S, name: &str) -> Result<Vec<u8>,
 #[test]
 fn engines(rt: HostRuntime) -> Result<(), Fail> {
     let cells: CellPages = pages_by(rt.alloc(), SAMPLE_FILES)?;
-    let mut writer = MemorySink::new(rt.alloc(), 128)?;
+    let mut writer = must(&rt, MemorySink::new(rt.alloc(), 128));
     for shows in [true, false] {
         let setting = (&cells, 4, Profile::First);
         let mut reader = MemorySource::new(b"ab");
-        written(shows, rt.alloc(), setting, &mut reader, &mut writer)?;
+        must(
+            &rt,
+            written(shows, rt.alloc(), setting, &mut reader, &mut writer),
+        );
     }
     Ok(())
 }
 
 #[test]
-fn runs(rt: HostRuntime) -> Result<(), Fail> {
+fn runs(rt: HostRuntime) {
     let files: &[(&str, &[u8])] = &[("name", b"bytes")];
     let mut store = MemoryStore::new(files);
-    let bytes: Vec<u8> = loaded(rt.alloc(), &mut store, "name")?;
-    same(&bytes.as_slice(), &b"bytes".as_slice(), &"a file")?;
+    let bytes: Vec<u8> = must(&rt, loaded(rt.alloc(), &mut store, "name"));
+    same(&rt, &bytes.as_slice(), &b"bytes".as_slice(), &"a file");
     let mut reader = MemorySource::new(b"ab");
-    let mut writer = MemorySink::new(rt.alloc(), 128)?;
+    let mut writer = must(&rt, MemorySink::new(rt.alloc(), 128));
     let words: &[&str] = &["bogus"];
     let ending = ran(rt.alloc(), words, &mut store, &mut reader, &mut writer);
-    same(&status(ending), &2, &words)
+    same(&rt, &status(ending), &2, &words);
 }

@@ -1,10 +1,9 @@
 //! What `lbk_feed` exports: devices, and the feed.
 
+use crate::calls::{must, same};
 use lbk_feed::devices::{MemorySink, MemorySource};
 use lbk_feed::{Device, Failed, Feed, FeedFault, Sink, Source};
 use std::io::{Read, Write};
-use std::test::Fail;
-use test_support::checks::same;
 
 /// Each value: one more or less is an error here.
 fn values(feed_fault: FeedFault) {
@@ -44,31 +43,28 @@ fn piece<R: Source>(feed: &mut Feed, reader: &mut R) -> Result<Option<usize>, Fe
 }
 
 #[test]
-fn feeds(_rt: HostRuntime) -> Result<(), Fail> {
+fn feeds(rt: HostRuntime) {
     let bytes: &[u8] = b"ab\xFF";
     let mut reader: MemorySource<'_> = MemorySource::new(bytes);
     let mut feed: Feed = Feed::new();
-    same(&piece(&mut feed, &mut reader), &Ok(Some(2)), &bytes)?;
+    same(&rt, &piece(&mut feed, &mut reader), &Ok(Some(2)), &bytes);
     let n: usize = feed.ready().len();
     feed.advance(n);
     let given: u64 = feed.given();
-    same(&given, &2, &bytes)?;
+    same(&rt, &given, &2, &bytes);
     let at: u64 = 2;
-    same(
-        &piece(&mut feed, &mut reader),
-        &Err(FeedFault::NotUtf8 { at }),
-        &bytes,
-    )
+    let fault = Err(FeedFault::NotUtf8 { at });
+    same(&rt, &piece(&mut feed, &mut reader), &fault, &bytes);
 }
 
 #[test]
-fn devices(rt: HostRuntime) -> Result<(), Fail> {
+fn devices(rt: HostRuntime) {
     let bytes: &[u8] = b"abcdef";
-    same(&read_device(bytes), &Ok(4), &bytes)?;
+    same(&rt, &read_device(bytes), &Ok(4), &bytes);
     let file: Vec<u8> = Vec::new(rt.alloc());
-    same(&write_device(file), &Ok(2), &"a file")?;
-    let mut writer: MemorySink = MemorySink::new(rt.alloc(), 1)?;
-    same(&sink(&mut writer), &Ok(1), &"a sink")?;
+    same(&rt, &write_device(file), &Ok(2), &"a file");
+    let mut writer: MemorySink = must(&rt, MemorySink::new(rt.alloc(), 1));
+    same(&rt, &sink(&mut writer), &Ok(1), &"a sink");
     let written: &[u8] = writer.bytes();
-    same(&written, &b"a".as_slice(), &"a sink")
+    same(&rt, &written, &b"a".as_slice(), &"a sink");
 }

@@ -1,12 +1,13 @@
 //! What `lbk_passage` exports: the segmenter, and what it lends.
 
+use crate::calls::{must, same};
 use lbk_cmd::SAMPLE_FILES;
 use lbk_feed::devices::MemorySource;
 use lbk_passage::{Passage, PassageFault, Piece, Segment, Segmenter};
 use lbk_rules::{CellPages, Kind, Profile, Rule, Verdict};
+use std::process::Abort;
 use std::test::Fail;
 use test_support::calls::{next_passage, pages_by, segmenter_of};
-use test_support::checks::same;
 
 /// Each value: one more or less is an error here.
 fn values(passage_fault: PassageFault) {
@@ -43,7 +44,7 @@ const WORD: Piece = Piece {
     word: true,
 };
 
-fn check_passage(passage: Passage<'_>) -> Result<(), Fail> {
+fn check_passage(rt: &impl Abort, passage: Passage<'_>) {
     let Passage {
         start,
         text,
@@ -52,37 +53,41 @@ fn check_passage(passage: Passage<'_>) -> Result<(), Fail> {
         end,
     } = passage;
     let (start, text): (u64, &str) = (start, text);
-    same(&(start, text), &(0, "ab\n"), &"the text")?;
+    same(rt, &(start, text), &(0, "ab\n"), &"the text");
     let segments: &[Segment] = segments;
-    same(&segments, &[SEGMENT].as_slice(), &"the segments")?;
+    same(rt, &segments, &[SEGMENT].as_slice(), &"the segments");
     let pieces: &[Piece] = pieces;
-    same(&pieces.first(), &Some(&WORD), &"the first word")?;
+    same(rt, &pieces.first(), &Some(&WORD), &"the first word");
     let end: Verdict = end;
     let want = Verdict {
         kind: KIND,
         rule: RULE,
     };
-    same(&end, &want, &"the end")
+    same(rt, &end, &want, &"the end");
+}
+
+/// The first passage of a text, and then its fault.
+fn check_passages(rt: &impl Abort, segmenter: &mut Segmenter<'_, CellPages>) {
+    let mut reader = MemorySource::new(b"ab\nc\xFF");
+    let passage: Option<Passage<'_>> = must(rt, next_passage(segmenter, &mut reader));
+    check_passage(rt, must(rt, passage.ok_or("no passage")));
+    let ended = next_passage(segmenter, &mut reader).err();
+    same(
+        rt,
+        &ended,
+        &Some(PassageFault::NotUtf8 { at: AT }),
+        &"an ill-formed byte",
+    );
 }
 
 #[test]
 fn passages(rt: HostRuntime) -> Result<(), Fail> {
     let cells: CellPages = pages_by(rt.alloc(), SAMPLE_FILES)?;
     let refused = segmenter_of(rt.alloc(), &cells, 0, Profile::First).err();
-    same(&refused, &Some(PassageFault::Limit), &"no limit")?;
-    let mut segmenter: Segmenter<'_, CellPages> = segmenter_of(
-        rt.alloc(),
-        &cells,
-        LIMIT,
-        Profile::First,
-    )?;
-    let mut reader = MemorySource::new(b"ab\nc\xFF");
-    let passage: Option<Passage<'_>> = next_passage(&mut segmenter, &mut reader)?;
-    check_passage(passage.ok_or("no passage")?)?;
-    let ended = next_passage(&mut segmenter, &mut reader).err();
-    same(
-        &ended,
-        &Some(PassageFault::NotUtf8 { at: AT }),
-        &"an ill-formed byte",
-    )
+    same(&rt, &refused, &Some(PassageFault::Limit), &"no limit");
+    check_passages(
+        &rt,
+        &mut must(&rt, segmenter_of(rt.alloc(), &cells, LIMIT, Profile::First)),
+    );
+    Ok(())
 }

@@ -1,13 +1,12 @@
 //! What `lbk_ucd` exports: the values of the properties, and their tables.
 
+use crate::calls::{must, same};
 use crate::property_calls::values_of;
 use lbk_ucd::{
     Category, EastAsian, Files, LineBreak, SAMPLE_CATEGORY, SAMPLE_EAST_ASIAN, SAMPLE_EMOJI,
     SAMPLE_LINE_BREAK, Tables, UcdCause, UcdFault, Which,
 };
 use std::alloc::Global;
-use std::test::Fail;
-use test_support::checks::same;
 
 /// Each value: one more or less is an error here.
 fn values(
@@ -133,13 +132,13 @@ fn read(alloc: Global, line_break: &[u8]) -> Result<Tables, UcdFault> {
 }
 
 #[test]
-fn properties(rt: HostRuntime) -> Result<(), Fail> {
+fn properties(rt: HostRuntime) {
     let sample: &[u8] = SAMPLE_LINE_BREAK;
-    let tables: Tables = read(rt.alloc(), sample)?;
+    let tables: Tables = must(&rt, read(rt.alloc(), sample));
     let code: u32 = 0x1F466;
-    let values: (LineBreak, EastAsian, Category, bool) = values_of(&tables, code)?;
+    let values: (LineBreak, EastAsian, Category, bool) = values_of(&rt, &tables, code);
     let want = (LineBreak::EBase, EastAsian::Wide, Category::So, true);
-    same(&values, &want, &code)?;
+    same(&rt, &values, &want, &code);
     let refused: Result<Tables, UcdFault> = read(rt.alloc(), b"\n0061;AK\n");
     let line: u32 = 2;
     let fault = UcdFault {
@@ -147,5 +146,5 @@ fn properties(rt: HostRuntime) -> Result<(), Fail> {
         line,
         cause: UcdCause::UnknownValue,
     };
-    same(&refused.err(), &Some(fault), &"a bad row")
+    same(&rt, &refused.err(), &Some(fault), &"a bad row");
 }

@@ -1,15 +1,13 @@
 //! What `lbk_rules` exports: cells and their sources, the evaluator, and the machines.
 
-use crate::calls::{decided, late_step, start_late, step};
+use crate::calls::{decided, late_step, must, same, start_late, step};
 use lbk_cmd::SAMPLE_FILES;
 use lbk_rules::{
     Cell, CellPages, Class, End, Kind, LateMachine, Machine, Out, Profile, Quote, Rule, Verdict,
     resolve,
 };
 use lbk_ucd::{Category, EastAsian, LineBreak, Tables};
-use std::test::Fail;
 use test_support::calls::{cell_of, pages_of, tables_of};
-use test_support::checks::same;
 
 /// Each value: one more or less is an error here.
 fn values(class: Class, rule: Rule, quote: Quote, kind: Kind, profile: Profile) {
@@ -118,17 +116,17 @@ fn letter() -> Cell {
 }
 
 #[test]
-fn cells(rt: HostRuntime) -> Result<(), Fail> {
+fn cells(rt: HostRuntime) {
     let resolved: Cell = resolve(
         LineBreak::Alphabetic,
         EastAsian::Neutral,
         Category::Ll,
         false,
     );
-    same(&resolved, &letter(), &"a letter")?;
-    let tables: Tables = tables_of(rt.alloc(), SAMPLE_FILES)?;
-    let pages: CellPages = pages_of(rt.alloc(), &tables)?;
-    same(&cell_of(&tables, 'a'), &cell_of(&pages, 'a'), &'a')
+    same(&rt, &resolved, &letter(), &"a letter");
+    let tables: Tables = must(&rt, tables_of(rt.alloc(), SAMPLE_FILES));
+    let pages: CellPages = must(&rt, pages_of(rt.alloc(), &tables));
+    same(&rt, &cell_of(&tables, 'a'), &cell_of(&pages, 'a'), &'a');
 }
 
 /// The verdicts of a text of one letter: before it, and at its end.
@@ -145,30 +143,30 @@ const VERDICTS: [Verdict; 2] = [
 
 /// By the evaluator of both profiles, and by the machine of the first.
 #[test]
-fn verdicts(_rt: HostRuntime) -> Result<(), Fail> {
+fn verdicts(rt: HostRuntime) {
     let cells: &[Cell] = &[letter()];
     let label: &'static str = VERDICTS[1].rule.label();
-    same(&label, &"3", &"a label")?;
-    for profile in [Profile::First, Profile::Second] {
-        same(&decided(profile, cells, 0)?, &VERDICTS[0], &profile)?;
-        same(&decided(profile, cells, 1)?, &VERDICTS[1], &profile)?;
+    same(&rt, &label, &"3", &"a label");
+    for (k, verdict) in VERDICTS.iter().enumerate() {
+        same(&rt, &decided(&rt, Profile::First, cells, k), verdict, &k);
+        same(&rt, &decided(&rt, Profile::Second, cells, k), verdict, &k);
     }
     let mut machine: Machine = Machine::start();
     let before: Verdict = step(&mut machine, letter());
     let after: Verdict = machine.finish();
-    same(&[before, after], &VERDICTS, &"the machine")
+    same(&rt, &[before, after], &VERDICTS, &"the machine");
 }
 
 /// The same by the machine of either profile.
 #[test]
-fn late_verdicts(_rt: HostRuntime) -> Result<(), Fail> {
+fn late_verdicts(rt: HostRuntime) {
     let mut machine: LateMachine = start_late(Profile::Second);
-    let out: Out = late_step(&mut machine, 0, letter())?;
+    let out: Out = late_step(&rt, &mut machine, 0, letter());
     let now: Option<Verdict> = Some(VERDICTS[0]);
     let late: Option<(u64, Verdict)> = None;
-    same(&out, &Out { now, late }, &"a step")?;
+    same(&rt, &out, &Out { now, late }, &"a step");
     let steps: u64 = machine.steps();
-    same(&steps, &1, &"steps")?;
+    same(&rt, &steps, &1, &"steps");
     let end: Verdict = VERDICTS[1];
-    same(&machine.finish(), &End { late, end }, &"the end")
+    same(&rt, &machine.finish(), &End { late, end }, &"the end");
 }
