@@ -16,8 +16,8 @@ pub struct Setting<'a, C> {
     pub profile: Profile,
 }
 
-/// The value of a call that has to succeed. A body with `?` has a way out at each call, which releases all that the body
-/// owns; a body with this has none, and its check takes a fraction of the time.
+/// The value of a call that has to succeed. A body with `?` has a way out at each call, which releases all that the
+/// body owns; a body with this has none, and its check takes a fraction of the time.
 pub fn must<T, E: Debug + Drop>(rt: &impl Abort, answer: Result<T, E>) -> T {
     answer.expect(rt, "a call failed")
 }

@@ -66,8 +66,8 @@ fn by_late_machine(
     Ok((verdicts, count))
 }
 
-/// Compares the verdicts at the positions of some cells with those of their row: by the late machine, by the evaluators,
-/// and, in the first profile, by its machine.
+/// Compares the verdicts at the positions of some cells with those of their row: by the late machine, by the
+/// evaluators, and, in the first profile, by its machine.
 fn check_verdicts<C: CellSource>(
     rt: &impl Abort,
     setting: &Setting<'_, C>,

@@ -39,66 +39,27 @@ fn check_file(rt: &impl Abort, alloc: Global, file: Which, bytes: &[u8], want: P
 }
 
 /// Files, and the line and cause of their fault, with the others empty.
+#[rattlefmt::skip]
 static FILES: [(Which, &[u8], Place); 19] = [
     (Which::LineBreak, b"0061;Alphabetic # x", None),
     (Which::LineBreak, b"00041 ;AL", None),
     (Which::LineBreak, b"# @missing: 0000; AK", None),
-    (
-        Which::LineBreak,
-        b"# @missing: 0000..10FFFF; AK",
-        Some((1, UcdCause::UnknownValue)),
-    ),
-    (
-        Which::LineBreak,
-        b"0061;al",
-        Some((1, UcdCause::UnknownValue)),
-    ),
-    (
-        Which::LineBreak,
-        b"110000..0061;AK",
-        Some((1, UcdCause::Range)),
-    ),
-    (
-        Which::LineBreak,
-        b"0041 ..0042;AL",
-        Some((1, UcdCause::RowSyntax)),
-    ),
+    (Which::LineBreak, b"# @missing: 0000..10FFFF; AK", Some((1, UcdCause::UnknownValue))),
+    (Which::LineBreak, b"0061;al", Some((1, UcdCause::UnknownValue))),
+    (Which::LineBreak, b"110000..0061;AK", Some((1, UcdCause::Range))),
+    (Which::LineBreak, b"0041 ..0042;AL", Some((1, UcdCause::RowSyntax))),
     (Which::LineBreak, b"041;AL", Some((1, UcdCause::RowSyntax))),
-    (
-        Which::LineBreak,
-        b"0061;AL x",
-        Some((1, UcdCause::RowSyntax)),
-    ),
-    (
-        Which::LineBreak,
-        b"0041;AL\n0041..0042;ID",
-        Some((2, UcdCause::Overlap)),
-    ),
-    (
-        Which::LineBreak,
-        b"0061;AK",
-        Some((1, UcdCause::UnknownValue)),
-    ),
-    (
-        Which::LineBreak,
-        b"0062..0061;AL",
-        Some((1, UcdCause::Range)),
-    ),
+    (Which::LineBreak, b"0061;AL x", Some((1, UcdCause::RowSyntax))),
+    (Which::LineBreak, b"0041;AL\n0041..0042;ID", Some((2, UcdCause::Overlap))),
+    (Which::LineBreak, b"0061;AK", Some((1, UcdCause::UnknownValue))),
+    (Which::LineBreak, b"0062..0061;AL", Some((1, UcdCause::Range))),
     (Which::LineBreak, b"110000;AL", Some((1, UcdCause::Range))),
     (Which::LineBreak, b"0061 AL", Some((1, UcdCause::RowSyntax))),
     (Which::LineBreak, b"0061;", Some((1, UcdCause::RowSyntax))),
     (Which::LineBreak, b"\xEF\xBB\xBF0061;AL\r\n", None),
-    (
-        Which::Category,
-        b"0061;Lowercase_Letter",
-        Some((1, UcdCause::UnknownValue)),
-    ),
+    (Which::Category, b"0061;Lowercase_Letter", Some((1, UcdCause::UnknownValue))),
     (Which::Emoji, b"0062..0061;Zorg", Some((1, UcdCause::Range))),
-    (
-        Which::Emoji,
-        b"00A9;Extended_Pictographic\n00A9;Extended_Pictographic",
-        Some((2, UcdCause::Overlap)),
-    ),
+    (Which::Emoji, b"00A9;Extended_Pictographic\n00A9;Extended_Pictographic", Some((2, UcdCause::Overlap))),
 ];
 
 #[test]
@@ -159,92 +120,18 @@ fn rows_for_each_code(rt: HostRuntime) {
 type Row = (u32, Values, Option<u32>);
 
 /// The values in the samples.
-static SAMPLE_ROWS: [Row; 11] = [
-    (
-        0x23,
-        (
-            LineBreak::Alphabetic,
-            EastAsian::Narrow,
-            Category::Po,
-            false,
-        ),
-        None,
-    ),
-    (
-        0x61,
-        (
-            LineBreak::Alphabetic,
-            EastAsian::Narrow,
-            Category::Ll,
-            false,
-        ),
-        None,
-    ),
-    (
-        0xE31,
-        (
-            LineBreak::ComplexContext,
-            EastAsian::Neutral,
-            Category::Mn,
-            false,
-        ),
-        None,
-    ),
-    (
-        0x20A9,
-        (
-            LineBreak::Unknown,
-            EastAsian::Halfwidth,
-            Category::Sc,
-            false,
-        ),
-        None,
-    ),
-    (
-        0x3042,
-        (LineBreak::Unknown, EastAsian::Neutral, Category::Cn, false),
-        None,
-    ),
-    (
-        0xD800,
-        (
-            LineBreak::Surrogate,
-            EastAsian::Neutral,
-            Category::Cs,
-            false,
-        ),
-        None,
-    ),
-    (
-        0x1F3FB,
-        (LineBreak::EModifier, EastAsian::Wide, Category::Sk, false),
-        None,
-    ),
-    (
-        0x1F466,
-        (LineBreak::EBase, EastAsian::Wide, Category::So, true),
-        None,
-    ),
-    (
-        0x1FAFF,
-        (
-            LineBreak::Ideographic,
-            EastAsian::Neutral,
-            Category::Cn,
-            true,
-        ),
-        None,
-    ),
-    (
-        0x10FFFF,
-        (LineBreak::Unknown, EastAsian::Neutral, Category::Cn, false),
-        None,
-    ),
-    (
-        0x10FFFF,
-        (LineBreak::Unknown, EastAsian::Neutral, Category::Cn, false),
-        Some(0x10FFFF),
-    ),
+#[rattlefmt::skip]
+static SAMPLE_ROWS: [Row; 10] = [
+    (0x23, (LineBreak::Alphabetic, EastAsian::Narrow, Category::Po, false), None),
+    (0x61, (LineBreak::Alphabetic, EastAsian::Narrow, Category::Ll, false), None),
+    (0xE31, (LineBreak::ComplexContext, EastAsian::Neutral, Category::Mn, false), None),
+    (0x20A9, (LineBreak::Unknown, EastAsian::Halfwidth, Category::Sc, false), None),
+    (0x3042, (LineBreak::Unknown, EastAsian::Neutral, Category::Cn, false), None),
+    (0xD800, (LineBreak::Surrogate, EastAsian::Neutral, Category::Cs, false), None),
+    (0x1F3FB, (LineBreak::EModifier, EastAsian::Wide, Category::Sk, false), None),
+    (0x1F466, (LineBreak::EBase, EastAsian::Wide, Category::So, true), None),
+    (0x1FAFF, (LineBreak::Ideographic, EastAsian::Neutral, Category::Cn, true), None),
+    (0x10FFFF, (LineBreak::Unknown, EastAsian::Neutral, Category::Cn, false), Some(0x10FFFF)),
 ];
 
 static ROW_OF_NO_FILES: [Row; 1] = [(
@@ -261,47 +148,12 @@ const DEFAULTS: Files<'static> = Files {
 };
 
 /// The values in these files.
+#[rattlefmt::skip]
 static ROWS_OF_DEFAULTS: [Row; 4] = [
-    (
-        0x41,
-        (
-            LineBreak::Alphabetic,
-            EastAsian::Neutral,
-            Category::Cn,
-            false,
-        ),
-        None,
-    ),
-    (
-        0x42,
-        (
-            LineBreak::Ideographic,
-            EastAsian::Neutral,
-            Category::Cn,
-            false,
-        ),
-        None,
-    ),
-    (
-        0xA9,
-        (
-            LineBreak::Ideographic,
-            EastAsian::Neutral,
-            Category::Cn,
-            true,
-        ),
-        None,
-    ),
-    (
-        0x61,
-        (
-            LineBreak::Ideographic,
-            EastAsian::Neutral,
-            Category::Cn,
-            false,
-        ),
-        None,
-    ),
+    (0x41, (LineBreak::Alphabetic, EastAsian::Neutral, Category::Cn, false), None),
+    (0x42, (LineBreak::Ideographic, EastAsian::Neutral, Category::Cn, false), None),
+    (0xA9, (LineBreak::Ideographic, EastAsian::Neutral, Category::Cn, true), None),
+    (0x61, (LineBreak::Ideographic, EastAsian::Neutral, Category::Cn, false), None),
 ];
 
 /// A default from each of 2,000 code points to the last one, and a row for the last of them.
@@ -316,77 +168,15 @@ fn many_defaults(alloc: Global) -> Result<String, AllocError> {
 }
 
 /// Some of these code points, with the last one of each range.
+#[rattlefmt::skip]
 static ROWS_OF_MANY: [Row; 7] = [
-    (
-        0,
-        (
-            LineBreak::Alphabetic,
-            EastAsian::Neutral,
-            Category::Cn,
-            false,
-        ),
-        Some(0),
-    ),
-    (
-        1,
-        (
-            LineBreak::Ideographic,
-            EastAsian::Neutral,
-            Category::Cn,
-            false,
-        ),
-        Some(1),
-    ),
-    (
-        1_234,
-        (
-            LineBreak::Alphabetic,
-            EastAsian::Neutral,
-            Category::Cn,
-            false,
-        ),
-        Some(1_234),
-    ),
-    (
-        1_998,
-        (
-            LineBreak::Alphabetic,
-            EastAsian::Neutral,
-            Category::Cn,
-            false,
-        ),
-        Some(1_998),
-    ),
-    (
-        1_999,
-        (
-            LineBreak::Quotation,
-            EastAsian::Neutral,
-            Category::Cn,
-            false,
-        ),
-        Some(1_999),
-    ),
-    (
-        2_000,
-        (
-            LineBreak::Ideographic,
-            EastAsian::Neutral,
-            Category::Cn,
-            false,
-        ),
-        Some(0x10_FFFF),
-    ),
-    (
-        0x10_FFFF,
-        (
-            LineBreak::Ideographic,
-            EastAsian::Neutral,
-            Category::Cn,
-            false,
-        ),
-        Some(0x10_FFFF),
-    ),
+    (0, (LineBreak::Alphabetic, EastAsian::Neutral, Category::Cn, false), Some(0)),
+    (1, (LineBreak::Ideographic, EastAsian::Neutral, Category::Cn, false), Some(1)),
+    (1_234, (LineBreak::Alphabetic, EastAsian::Neutral, Category::Cn, false), Some(1_234)),
+    (1_998, (LineBreak::Alphabetic, EastAsian::Neutral, Category::Cn, false), Some(1_998)),
+    (1_999, (LineBreak::Quotation, EastAsian::Neutral, Category::Cn, false), Some(1_999)),
+    (2_000, (LineBreak::Ideographic, EastAsian::Neutral, Category::Cn, false), Some(0x10_FFFF)),
+    (0x10_FFFF, (LineBreak::Ideographic, EastAsian::Neutral, Category::Cn, false), Some(0x10_FFFF)),
 ];
 
 /// Compares the values of a code point, and its range, looked up near the previous one. Returns where that was found.

@@ -9,39 +9,38 @@ use lbk_feed::{Sink, Source};
 use lbk_notation::{ReplayFault, Report};
 use lbk_passage::PassageFault;
 use lbk_rules::{CellPages, CellSource, Profile};
-use lbk_ucd::{UcdCause, UcdFault, Which};
+use lbk_ucd::{UcdFault, Which};
 use std::alloc::Global;
 use std::test::Fail;
 use test_support::calls::pages_by;
 
-/// Each value: one more or less is an error here.
+/// Each value, and the type of what it holds: one more or less is an error here.
 fn values(cmd_fault: CmdFault, load_fault: LoadFault, run_fault: RunFault) {
     match cmd_fault {
-        CmdFault::Passage(_) | CmdFault::Write | CmdFault::Memory => {}
+        CmdFault::Passage(fault) => {
+            let _: PassageFault = fault;
+        }
+        CmdFault::Write | CmdFault::Memory => {}
     }
     match load_fault {
         LoadFault::Unreadable | LoadFault::Memory => {}
     }
     match run_fault {
-        RunFault::Load(_)
-        | RunFault::Tables(_)
-        | RunFault::Cmd(_)
-        | RunFault::Replay(_)
-        | RunFault::Memory
-        | RunFault::Open
-        | RunFault::Claim(..) => {}
+        RunFault::Load(which) => {
+            let _: Which = which;
+        }
+        RunFault::Tables(fault) => {
+            let _: UcdFault = fault;
+        }
+        RunFault::Cmd(fault) => {
+            let _: CmdFault = fault;
+        }
+        RunFault::Replay(fault) => {
+            let _: ReplayFault = fault;
+        }
+        RunFault::Memory | RunFault::Open | RunFault::Claim(..) => {}
     }
 }
-
-const _: RunFault = RunFault::Tables(UcdFault {
-    file: Which::LineBreak,
-    line: 1,
-    cause: UcdCause::Range,
-});
-
-const _: RunFault = RunFault::Cmd(CmdFault::Write);
-
-const _: RunFault = RunFault::Replay(ReplayFault::Read);
 
 fn status(ending: Ending) -> u8 {
     let status: u8 = ending.status();

@@ -9,16 +9,20 @@ use std::process::Abort;
 use std::test::Fail;
 use test_support::calls::{next_passage, pages_by, segmenter_of};
 
-/// Each value: one more or less is an error here.
+/// Each value, and the type of what it holds: one more or less is an error here.
 fn values(passage_fault: PassageFault) {
     match passage_fault {
         PassageFault::Limit
         | PassageFault::Memory
         | PassageFault::Read
         | PassageFault::TextTooLong
-        | PassageFault::Spent
-        | PassageFault::NotUtf8 { at: _ }
-        | PassageFault::ParagraphTooLong { start: _ } => {}
+        | PassageFault::Spent => {}
+        PassageFault::NotUtf8 { at } => {
+            let _: u64 = at;
+        }
+        PassageFault::ParagraphTooLong { start } => {
+            let _: u64 = start;
+        }
     }
 }
 
