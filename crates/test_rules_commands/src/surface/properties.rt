@@ -8,15 +8,9 @@ use lbk_ucd::{
 };
 use std::alloc::Global;
 
-/// Each value: one more or less is an error here.
-fn values(
-    line_break: LineBreak,
-    east_asian: EastAsian,
-    category: Category,
-    which: Which,
-    ucd_cause: UcdCause,
-) {
-    match line_break {
+/// Each value: one more or less is an error here, and below.
+fn line_break(value: LineBreak) {
+    match value {
         LineBreak::Ambiguous
         | LineBreak::Alphabetic
         | LineBreak::BreakBoth
@@ -61,7 +55,10 @@ fn values(
         | LineBreak::ZWSpace
         | LineBreak::ZWJ => {}
     }
-    match east_asian {
+}
+
+fn east_asian(value: EastAsian) {
+    match value {
         EastAsian::Ambiguous
         | EastAsian::Fullwidth
         | EastAsian::Halfwidth
@@ -69,7 +66,10 @@ fn values(
         | EastAsian::Narrow
         | EastAsian::Wide => {}
     }
-    match category {
+}
+
+fn category(value: Category) {
+    match value {
         Category::Lu
         | Category::Ll
         | Category::Lt
@@ -101,10 +101,16 @@ fn values(
         | Category::Co
         | Category::Cn => {}
     }
-    match which {
+}
+
+fn which(value: Which) {
+    match value {
         Which::LineBreak | Which::EastAsianWidth | Which::Category | Which::Emoji => {}
     }
-    match ucd_cause {
+}
+
+fn ucd_cause(value: UcdCause) {
+    match value {
         UcdCause::FileTooLong
         | UcdCause::LineTooLong
         | UcdCause::RowSyntax

@@ -9,9 +9,9 @@ use lbk_rules::{
 use lbk_ucd::{Category, EastAsian, LineBreak, Tables};
 use test_support::calls::{cell_of, pages_of, tables_of};
 
-/// Each value: one more or less is an error here.
-fn values(class: Class, rule: Rule, quote: Quote, kind: Kind, profile: Profile) {
-    match class {
+/// Each value: one more or less is an error here, and below.
+fn class(value: Class) {
+    match value {
         Class::Alphabetic
         | Class::BreakBoth
         | Class::BreakAfter
@@ -51,7 +51,10 @@ fn values(class: Class, rule: Rule, quote: Quote, kind: Kind, profile: Profile) 
         | Class::ZWSpace
         | Class::ZWJ => {}
     }
-    match rule {
+}
+
+fn rule(value: Rule) {
+    match value {
         Rule::Lb2
         | Rule::Lb3
         | Rule::Lb4
@@ -91,13 +94,22 @@ fn values(class: Class, rule: Rule, quote: Quote, kind: Kind, profile: Profile) 
         | Rule::Lb30b
         | Rule::Lb31 => {}
     }
-    match quote {
+}
+
+fn quote(value: Quote) {
+    match value {
         Quote::Neither | Quote::Initial | Quote::Final => {}
     }
-    match kind {
+}
+
+fn kind(value: Kind) {
+    match value {
         Kind::No | Kind::May | Kind::Must => {}
     }
-    match profile {
+}
+
+fn profile(value: Profile) {
+    match value {
         Profile::First | Profile::Second => {}
     }
 }
