@@ -31,7 +31,7 @@ module _ (profile : Profile) (cell : ℕ → Cell) where
   last_class-in c [] = refl
   last_class-in c (d ∷ ds) = last_class-in d ds
 
-  no_must_here : (before : List ℕ) (c y : ℕ) (more : List ℕ) → ends_between (cell c).class (cell y).class ≡ false
+  pub no_must_here : (before : List ℕ) (c y : ℕ) (more : List ℕ) → ends_between (cell c).class (cell y).class ≡ false
       → is_must (verdict_between_in profile (map cell (before ++ c ∷ [])) (map cell (y ∷ more))).kind ≡ false
   no_must_here before c y more ends =
       ap (λ l. is_must (verdict_between_in profile l (map cell (y ∷ more))).kind) (map-append cell before (c ∷ []))

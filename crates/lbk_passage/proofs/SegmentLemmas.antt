@@ -37,7 +37,7 @@ pub cut-on : {profile : Profile} {cell : ℕ → Cell} {text : List ℕ} {from t
 cut-on {profile} {cell} {text} {from} {to} f before after start next cut =
     cut (left_after profile cell text to) ∙ ap (λ bs. before ++ cut_at start bs) (rest-on f)
 
-segments-cut : (start at : ℕ) (ms : List Marked) → segments_from start at ms ≡ cut_at start (breaks_from at ms)
+pub segments-cut : (start at : ℕ) (ms : List Marked) → segments_from start at ms ≡ cut_at start (breaks_from at ms)
 segments-cut start at [] = refl
 segments-cut start at (m ∷ ms) =
     let end = at + length (encode_utf8 m.scalar) in
