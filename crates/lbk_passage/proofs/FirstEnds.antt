@@ -27,7 +27,7 @@ use Rattle.lbk_passage.specs.Segments.{segments_of}
 use Rattle.lbk_passage.specs.Stays.{end_before, ends_at, last_class, stays}
 use Rattle.lbk_passage.proofs.Booleans.{and-true}
 use Rattle.lbk_passage.proofs.Marking.{last_class-in, no_must_here}
-use Rattle.lbk_passage.proofs.SegmentLemmas.{segments-cut}
+use Rattle.lbk_passage.proofs.SegmentLemmas.{breaks-below, segments-cut}
 use Rattle.lbk_passage.proofs.Taking.{IsUtf8-scalars, scalars-left, scalars-right}
 use Rattle.lbk_passage.proofs.Together.{segment_breaks-are}
 
@@ -180,6 +180,7 @@ module _ (profile : Profile) (cell : ℕ → Cell) where
     pub place : b.at ≡ length (encode_utf8_all taken)
     pub verdict : Some (record { kind = b.kind; rule = b.rule }) ≡ end_before (last_class cell None taken) true
     pub segments : cut_at 0 (front ++ b ∷ []) ≡ segments_of (ended (record { kind = b.kind; rule = b.rule }) (marks profile cell taken))
+    pub within : All (λ x. x.at < b.at + 1) (front ++ b ∷ [])
     pub rest_is : rest ≡ map (moved b.at) (breaks profile cell (next ∷ more))
 
   pub first_end : (text : List ℕ) (front : List Break) (b : Break) (rest : List Break) → breaks profile cell text ≡ front ++ b ∷ rest
@@ -217,6 +218,7 @@ module _ (profile : Profile) (cell : ℕ → Cell) where
         place = place;
         verdict = ap Some verdict ∙ sym (ap (λ o. end_before o true) class_is);
         segments = ap (cut_at 0) found ∙ sym (segments-cut 0 0 ms) ∙ ap (λ v. segments_of (ended v (marks profile cell taken))) (sym verdict);
+        within = subst (All (λ x. x.at < b.at + 1)) (sym found) (breaks-below (b.at + 1) 0 ms (omega (arith, size)));
         rest_is = append_cancel_left (front ++ b ∷ []) _ _ joined ∙ breaks-moved_from b.at (marks profile cell behind);
       }
 

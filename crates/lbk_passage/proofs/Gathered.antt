@@ -367,6 +367,29 @@ module _ (cell : ℕ → Cell) (old : Paragraph) (unread : Option (List ℕ)) (e
             due = h.due;
           })
 
+module _ (cell : ℕ → Cell) (old : Paragraph) (unread : Option (List ℕ)) (ended : Bool) (reads : Reads) where
+  -- all of the paragraph was known before any step
+  pub Gathers-told : (n : Paragraph) (r : Reach) (t : Takes cell None old n r) → string_bytes old.text ≡ [] → old.is_held ≡ false → old.is_spent ≡ false
+      → 0 < length old.feed.ready → (end : Option Verdict) → r.stop ≡ LineEnds → end ≡ end_before r.last true
+      → Gathers cell old n unread unread ended ended reads reads (Ok end)
+  Gathers-told n r t none open_end unspent some end is end_is =
+      let g = Gathering-none cell old unread ended reads none open_end unspent in
+      Gathers-line cell old unread ended reads old None unread ended reads n r t
+      (record {
+        limit = refl;
+        open_end = open_end;
+        given = g.given;
+        read = g.read;
+        each_gave = λ _. g.each_gave;
+        few = g.few;
+        agrees = g.agrees;
+        notices = g.notices;
+        quiet = λ h. ((g.quiet h).0, (g.quiet h).1, (g.quiet h).2, λ e. cc);
+        none_ends = g.none_ends;
+        last_is = g.last_is;
+      })
+      some end unspent is end_is
+
 -- what a step of the feed answered, where it did not stop
 pub stood : (P : Type 0) (r : Result Bool PassageFault) (b : Bool) → r ≡ Ok b → b ≡ true → IfOk r (λ stands. OnTrue stands P) → P
 stood P r b was is h = let r_is : r ≡ Ok true = was ∙ ap Ok is in rw r_is at h

@@ -21,6 +21,7 @@ pub mod FlagLemmas
 pub mod Passing
 pub mod SegmentLemmas
 pub mod Together
+pub mod AheadLemmas
 pub mod FirstEnds
 pub mod Joining
 pub mod SameCells

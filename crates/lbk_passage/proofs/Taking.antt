@@ -1,5 +1,5 @@
 -- What the text and the feed are once scalars went from the one to the other.
-use Rattle.std.proofs.Common.{◌≡◌, ℕ, ◌+◌, ◌-◌, ◌<◌, true, ◌&&◌, List, [], ◌∷◌, ◌++◌, length, take, drop, Option, Result, is_ok, if◌then◌else◌, encode_utf8, encode_utf8_all, string_bytes, string_len, String, IsUtf8, IsCharBoundary, chars, refl, sym, ap, subst, ◌∙◌, arith, length-append, append_assoc}
+use Rattle.std.proofs.Common.{◌≡◌, ℕ, ◌+◌, ◌-◌, ◌<◌, true, ◌&&◌, List, [], ◌∷◌, ◌++◌, length, take, drop, None, Option, Result, is_ok, if◌then◌else◌, encode_utf8, encode_utf8_all, string_bytes, string_len, String, IsUtf8, IsCharBoundary, chars, refl, sym, ap, subst, ◌∙◌, arith, length-append, append_assoc}
 use Rattle.std.specs.List.{slice_range}
 use Rattle.std.proofs.Math.Utf8.{scalars}
 use Rattle.std.proofs.Math.Seq.{take-append_seam, drop-append_seam}
@@ -7,8 +7,10 @@ use Rattle.std.proofs.lemmas.Str.{scalars-chars, chars-encodes, encodes-chars, e
 use Rattle.lbk_feed.specs.View.{LendsFront}
 use Rattle.lbk_rules.specs.declared.Class.{Class}
 use Rattle.lbk_rules.specs.declared.Cell.{Cell}
+use Rattle.lbk_passage.specs.Ahead.{IsTold}
 use Rattle.lbk_passage.specs.Gathering.{Reaches, Moves, Takes, StopsBefore}
 use Rattle.lbk_passage.specs.declared.paragraph.Paragraph.{Paragraph}
+use Rattle.lbk_passage.specs.declared.paragraph.Told.{Told}
 use Rattle.lbk_passage.specs.declared.reach.Reach.{Reach}
 use Rattle.lbk_passage.specs.declared.reach.ReachEnd.{ReachEnd}
 use Rattle.lbk_passage.specs.declared.reach.ReachEnd.TheVariants.{PieceEnds, LineEnds, NoRoom}
@@ -114,6 +116,16 @@ Takes-moves cell last old new r lends reaches moves =
       stop = StopsBefore-room cell r.last r.len room (string_len new.text) old.limit r.stop reaches.rest
           (λ n h. omega (arith, old_len, new_len, long, reaches.len, kept, reaches.within)) reaches.stop;
     }
+
+-- the paragraph that was told went to the text, of which nothing was gathered
+pub Takes-told : (cell : ℕ → Cell) (old mid new : Paragraph) (told : Told) (is : IsTold cell old told) → mid.feed ≡ old.feed → mid.limit ≡ old.limit
+    → string_len mid.text ≡ 0 → LendsFront mid.feed → Moves mid new told.len → Takes cell None mid new is.reach
+Takes-told cell old mid new told is feed_is limit_is none lends moves =
+    let room : old.limit ≡ mid.limit - string_len mid.text = omega (arith, limit_is, none) in
+    Takes-moves cell None mid new is.reach lends
+    (subst (λ f. Reaches cell None f.ready (mid.limit - string_len mid.text) is.reach) (sym feed_is)
+    (subst (λ n. Reaches cell None old.feed.ready n is.reach) room is.reaches))
+    (subst (Moves mid new) is.len moves)
 
 -- what a string is after a push that did not fail
 pub pushed : {E : Type 0} (r : Result (Unit {0}) E) (old new piece ready : List ℕ) (len : ℕ) → is_ok r ≡ true

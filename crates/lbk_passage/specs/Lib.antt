@@ -14,6 +14,7 @@ pub use Rattle.lbk_rules.specs.Joins
 pub mod Parts
 pub mod Lines
 pub mod Adding
+pub mod Ahead
 pub mod Placing
 -- What only carries proofs.
 pub mod Faults

@@ -7,6 +7,7 @@
 //! [`lines`] writes one as `lbk segment` does.
 #![tactic(auto)]
 
+mod ahead;
 mod breaks;
 mod ends;
 mod faults;

@@ -29,6 +29,15 @@ pub struct Paragraph {
     ghost spent: { (feed.is_spent && not is_spent) ≡ false },
 }
 
+/// A text at the front of the bytes that are ready that is a paragraph.
+#[derive(Clone, Copy)]
+pub struct Told {
+    /// How many bytes it has.
+    pub len: usize,
+    /// The verdict at its end.
+    pub end: Verdict,
+}
+
 impl Paragraph {
     ghost use Rattle.std.specs.Prelude.{ℕ, ◌-◌, ◌+◌, ◌<◌, ◌∷◌, true, [], drop, length, OnOk, IfOk, IsCharBoundary};
     ghost use Rattle.std.specs.Prelude.{string_bytes};
@@ -38,6 +47,8 @@ impl Paragraph {
     ghost use Rattle.lbk_passage.specs.Gathering.{Asks, Reaches, Takes, Moves, ReadsOn, Settles, Gathering, Gathers, Fills};
     ghost use Rattle.lbk_passage.specs.Gathering.{IsSame};
     ghost use Rattle.lbk_passage.specs.Next.{IsDone, IsOpen};
+    ghost use Rattle.lbk_passage.specs.Ahead.{GivesTold, IsTold};
+    ghost use Rattle.std.specs.Prelude.{◌||◌, IfSome};
     ghost use Rattle.lbk_rules.specs.declared.Cell.{Cell};
     ghost use Rattle.lbk_values.specs.declared.profile.Profile.{Profile};
 
@@ -88,13 +99,39 @@ impl Paragraph {
         self.is_held = false;
     }
 
+    /// The bytes that are ready.
+    #[inline(always)]
+    pub fn ready(&self) -> &str
+        ensures { result.now ≡ self.now.feed.ready }
+    {
+        self.feed.ready()
+    }
+
+    /// The most bytes that it may have.
+    #[inline(always)]
+    pub fn limit(&self) -> usize
+        ensures { result ≡ self.now.limit }
+    {
+        self.limit as usize
+    }
+
+    /// Whether its end was found, and it was not given, or a fault was answered.
+    #[inline(always)]
+    pub fn is_in_hand(&self) -> bool
+        ensures { result ≡ (self.now.is_held || self.now.is_spent) }
+    {
+        self.is_held || self.is_spent
+    }
+
     /// Gathers the paragraph, unless it is held already, and returns the verdict at its end, or `None` where no text
-    /// is left.
+    /// is left. `told`: the paragraph, where it is known already.
     pub fn fill<R: Source, C: CellSource>(
         &mut self,
         reader: &mut R,
         known: &KnownCells<'_, C>,
+        told: Option<Told>,
     ) -> Result<Option<Verdict>, PassageFault>
+        requires told { IfSome told (λ told. IsTold (C.cell_of known.now.cells.now) self.old told) }
         requires whole { self.old.is_held ≡ true → IsWhole (C.cell_of known.now.cells.now) self.old }
         ensures fills { (profile : Profile) → Fills (C.cell_of known.now.cells.now) profile self.old self.new
             (R.unread reader.old) (R.unread reader.new) (R.has_ended reader.old) (R.has_ended reader.new)
@@ -105,6 +142,7 @@ impl Paragraph {
             (R.reads_made reader.new).count result }
         ensures again { (profile : Profile) → IsDone (state_with (C.cell_of known.now.cells.now) profile self.old)
             → self.old.is_spent ≡ false → result ≡ Ok None }
+        ensures told { IfSome told (λ told. GivesTold self.old self.new told result) }
     {
         if self.is_spent {
             return Err(PassageFault::Spent);
@@ -113,6 +151,12 @@ impl Paragraph {
             return Ok(self.end);
         }
         self.text.clear();
+        if let Some(told) = told {
+            self.move_up(told.len);
+            self.end = Some(told.end);
+            self.is_held = true;
+            return Ok(self.end);
+        }
         let end = self.gather(reader, known)?;
         self.end = end;
         self.is_held = true;
@@ -211,7 +255,8 @@ impl Paragraph {
     fn move_up(&mut self, len: usize)
         requires place { IsCharBoundary self.old.feed.ready len }
         requires room { string_len self.old.text + len ≤ self.old.limit }
-        ensures { Moves self.old self.new len }
+        ensures moves { Moves self.old self.new len }
+        ensures lends { LendsFront self.old.feed }
     {
         let ready = self.feed.ready();
         if self.text.push_str(&ready[..len]).is_err() {

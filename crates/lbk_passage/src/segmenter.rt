@@ -5,15 +5,16 @@ ghost use Rattle.std.specs.Prelude.{string_bytes, IfOk, IfErr, IfSome, OnOk, IsE
 ghost use Rattle.std.specs.Borrow.{sem};
 ghost use Rattle.std.specs.Io.BufRead.{Rests};
 ghost use Rattle.std.specs.Str.{chars};
+ghost use Rattle.lbk_passage.specs.Ahead.{IsAhead};
 ghost use Rattle.lbk_passage.specs.Stays.{IsWhole};
 
+use crate::ahead::{Ahead, NOTHING};
 use crate::faults::PassageFault;
 use crate::known::KnownCells;
 use crate::paragraph::Paragraph;
 use crate::passage::{Passage, PassageText, Piece, Segment};
 use crate::pieces::{ENDS, cut_words};
-use crate::segments::{BLOCK, NO_BREAKS, cut_lines};
-use lbk_bytes::RawBreak;
+use crate::segments::cut_lines;
 use lbk_feed::{LIMIT_MAX, Source};
 use lbk_rules::{CellSource, Profile, Verdict};
 use std::alloc::{AllocError, Global};
@@ -35,12 +36,13 @@ pub struct Segmenter<'a, C: CellSource> {
     known: KnownCells<'a, C>,
     profile: Profile,
     paragraph: Paragraph,
-    /// Where breaks are found into.
-    block: [RawBreak; BLOCK],
+    /// Breaks that are found ahead of the passages that they end.
+    ahead: Ahead,
     /// Where the ends of pieces are found into.
     ends: [usize; ENDS],
     segments: Vec<Segment>,
     pieces: Vec<Piece>,
+    ghost found: { IsAhead profile (C.cell_of known.cells.now) paragraph.feed.ready ahead },
     ghost whole: { paragraph.is_held ≡ true → IsWhole (C.cell_of known.cells.now) paragraph },
 }
 
@@ -76,7 +78,7 @@ impl<'a, C: CellSource> Segmenter<'a, C> {
             known: KnownCells::of(cells),
             profile,
             paragraph,
-            block: NO_BREAKS,
+            ahead: NOTHING,
             ends: [0; ENDS],
             segments: Vec::new(alloc),
             pieces: Vec::new(alloc),
@@ -103,13 +105,15 @@ impl<'a, C: CellSource> Segmenter<'a, C> {
         // `Read` is returned exactly where a read failed.
         ensures failures { R.failure_count reader.new ≡ failures_with (R.failure_count reader.old) (fault_in result) }
     {
-        let Some(end) = self.paragraph.fill(reader, &self.known)? else {
+        let count = self.segments.len();
+        let told = (self.ahead).tell(&self.known, self.profile, &self.paragraph, count);
+        let Some(end) = self.paragraph.fill(reader, &self.known, told)? else {
             return Ok(None);
         };
         let text = self.paragraph.text();
-        let block = &mut self.block;
+        let ahead = &mut self.ahead;
         let segments = &mut self.segments;
-        if cut_lines(self.known.cells, self.profile, text, end, block, segments).is_err() {
+        if cut_lines(self.known.cells, self.profile, text, end, ahead, segments).is_err() {
             return Err(PassageFault::Memory);
         }
         let (ends, pieces) = (&mut self.ends, &mut self.pieces);
@@ -138,7 +142,8 @@ impl<'a, C: CellSource> Segmenter<'a, C> {
         ensures memory { ¬ (result ≡ Err PassageFault.Memory) }
         ensures failures { R.failure_count reader.new ≡ failures_with (R.failure_count reader.old) (fault_in result) }
     {
-        let Some(end) = self.paragraph.fill(reader, &self.known)? else {
+        self.ahead.forget();
+        let Some(end) = self.paragraph.fill(reader, &self.known, None)? else {
             return Ok(None);
         };
         self.paragraph.release();
@@ -163,7 +168,8 @@ impl<'a, C: CellSource> Segmenter<'a, C> {
         ensures found { found_by self.new ≡ found_by self.old }
         ensures failures { R.failure_count reader.new ≡ failures_with (R.failure_count reader.old) (fault_in result) }
     {
-        let Some(_) = self.paragraph.fill(reader, &self.known)? else {
+        self.ahead.forget();
+        let Some(_) = self.paragraph.fill(reader, &self.known, None)? else {
             return Ok(None);
         };
         self.paragraph.release();
@@ -178,6 +184,7 @@ impl<'a, C: CellSource> Segmenter<'a, C> {
         ensures remains { result ≡ false → IsOpen (state_of C.cell_of self.old) }
         ensures found { found_by self.new ≡ found_by self.old }
     {
+        self.ahead.forget();
         self.paragraph.look_ahead(&self.known)
     }
 

@@ -6,38 +6,37 @@ ghost use Rattle.std.specs.Str.{chars};
 ghost use Rattle.lbk_rules.specs.declared.Break.{Break};
 ghost use Rattle.lbk_bytes.specs.Order.{AreBreaks};
 ghost use Rattle.lbk_bytes.specs.Shown.{shown};
+ghost use Rattle.lbk_passage.specs.Ahead.{HasTold, IsSameBut};
+ghost use Rattle.lbk_rules.specs.Joins.{moved};
 ghost use Rattle.lbk_passage.specs.Breaks.{breaks, is_no};
 ghost use Rattle.lbk_passage.specs.Cuts.{cut_at, ending_by};
 ghost use Rattle.lbk_passage.specs.Marks.{marks, ended};
 ghost use Rattle.lbk_passage.specs.Room.{Grows};
 ghost use Rattle.lbk_passage.specs.Segments.{segments_of};
 
-use crate::found::{NO_BREAK, START, break_of, find};
+use crate::ahead::Ahead;
+use crate::found::{START, break_of, find};
 use crate::passage::Segment;
 use crate::room::make_room;
 use lbk_bytes::RawBreak;
 use lbk_rules::{CellSource, Kind, Profile, Verdict};
 use std::alloc::AllocError;
 
-/// How many breaks are found at a time.
-pub(crate) const BLOCK: usize = 64;
-
-/// A block that nothing was found into. It is filled again and again, since to make one costs as much as some breaks
-/// do.
-pub(crate) const NO_BREAKS: [RawBreak; BLOCK] = [NO_BREAK; BLOCK];
-
 /// Writes the segments of a passage in place of what the list held: those of its text by itself, the last with the
-/// verdict `end` (UAX #14, section 6). What the block held does not matter, and what it holds then is unspecified.
-/// Where memory could not grow the list holds some of them.
+/// verdict `end` (UAX #14, section 6). Their breaks are those that the block has of a passage taken last, if it has any;
+/// else they are found into it. Where memory could not grow the list holds some of them.
 pub fn cut_lines<C: CellSource>(
     cells: &C,
     profile: Profile,
     text: &str,
     end: Verdict,
-    block: &mut [RawBreak; BLOCK],
+    ahead: &mut Ahead,
     segments: &mut Vec<Segment>,
 ) -> Result<(), AllocError>
-    requires { length text.now < 2 ^ 32 }
+    requires few { length text.now < 2 ^ 32 }
+    requires sizes { (ahead.old.told ≤ ahead.old.next) × (ahead.old.next ≤ 128) × (length ahead.old.block ≡ 128) }
+    requires told { 0 < ahead.old.told → HasTold profile (C.cell_of cells.now) text.now end ahead.old }
+    ensures ahead { IsSameBut ahead.old ahead.new }
     ensures cut { OnOk result (segments.new.items
         ≡ segments_of (ended end (marks profile (C.cell_of cells.now) (chars text.now)))) }
     ensures room { vec_capacity segments.old ≤ vec_capacity segments.new }
@@ -47,7 +46,12 @@ pub fn cut_lines<C: CellSource>(
         < length (segments_of (ended end (marks profile (C.cell_of cells.now) (chars text.now))))) }
 {
     segments.clear();
-    cut_alone(cells, profile, text, block, segments)?;
+    let found = ahead.found();
+    if found.len() != 0 {
+        cut_block(found, ahead.start(text.len()), 0, segments)?;
+        return Ok(());
+    }
+    cut_alone(cells, profile, text, &mut ahead.block, segments)?;
     if let Some(last) = segments.pop() {
         push_ended(segments, last, end);
     }
@@ -75,10 +79,11 @@ fn cut_alone<C: CellSource>(
     cells: &C,
     profile: Profile,
     text: &str,
-    block: &mut [RawBreak; BLOCK],
+    block: &mut [RawBreak],
     segments: &mut Vec<Segment>,
 ) -> Result<(), AllocError>
-    requires { length text.now < 2 ^ 32 }
+    requires few { length text.now < 2 ^ 32 }
+    requires some { 0 < length block.old }
     ensures cut { OnOk result (segments.new.items
         ≡ segments.old.items ++ cut_at 0 (breaks profile (C.cell_of cells.now) (chars text.now))) }
     ensures count { OnOk result (vec_len segments.new
@@ -92,7 +97,7 @@ fn cut_alone<C: CellSource>(
     loop {
         let next = find(cells, profile, text, here, block);
         let count = next.state.count - here.state.count;
-        start = cut_block(&block[..count], start, segments)?;
+        start = cut_block(&block[..count], 0, start, segments)?;
         if next.ended {
             return Ok(());
         }
@@ -101,13 +106,18 @@ fn cut_alone<C: CellSource>(
 }
 
 /// Puts the segments that end at these breaks after those in the list, the first from `start` on, and returns where
-/// the next begins.
+/// the next begins. The breaks count `base` bytes more than the segments.
 #[inline(always)]
-fn cut_block(block: &[RawBreak], start: u32, segments: &mut Vec<Segment>) -> Result<u32, AllocError>
+fn cut_block(
+    block: &[RawBreak],
+    base: usize,
+    start: u32,
+    segments: &mut Vec<Segment>,
+) -> Result<u32, AllocError>
     requires breaks { AreBreaks block.now (length block.now) }
-    requires few { All (λ one. one.at < 2 ^ 32) block.now }
-    ensures cut { IfOk result (λ next. (more : List Break)
-        → segments.new.items ++ cut_at next more ≡ segments.old.items ++ cut_at start (map shown block.now ++ more)) }
+    requires few { All (λ one. (base ≤ one.at) × (one.at < base + 2 ^ 32)) block.now }
+    ensures cut { IfOk result (λ next. (found more : List Break) → map shown block.now ≡ map (moved base) found
+        → segments.new.items ++ cut_at next more ≡ segments.old.items ++ cut_at start (found ++ more)) }
     ensures count { OnOk result (vec_len segments.new ≡ vec_len segments.old + length block.now) }
     ensures grows { Grows segments.old segments.new }
     ensures full { OnErr result (vec_capacity segments.old < vec_len segments.old + length block.now) }
@@ -116,7 +126,7 @@ fn cut_block(block: &[RawBreak], start: u32, segments: &mut Vec<Segment>) -> Res
     let mut start = start;
     for one in block {
         let found = break_of(*one);
-        let end = one.at as u32;
+        let end = (one.at - base) as u32;
         segments.push_reserved(Segment {
             start,
             end,

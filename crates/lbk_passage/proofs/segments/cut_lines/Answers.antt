@@ -1,9 +1,15 @@
-use Rattle.std.proofs.Common.{◌≡◌, ◌++◌, length, sym, ap, arith, rules, ◌∙◌}
+use Rattle.std.proofs.Common.{◌≡◌, ◌+◌, ◌-◌, ◌<◌, ◌≤◌, All, List, [], ◌++◌, drop, length, map, subst, sym, take, ap, arith, rules, ◌∙◌}
 use Rattle.std.specs.Str.{chars}
 use Rattle.std.proofs.lemmas.List.{append-nil}
 use Rattle.std.proofs.lemmas.Result.{err_from_is_err_and}
 use Rattle.lbk_rules.specs.Breaks.{breaks}
+use Rattle.lbk_rules.specs.Joins.{moved}
+use Rattle.lbk_bytes.specs.declared.raw_break.RawBreak.{RawBreak}
+use Rattle.lbk_bytes.specs.Order.{AreBreaks}
+use Rattle.lbk_bytes.specs.Shown.{shown}
+use Rattle.lbk_passage.specs.declared.ahead.Ahead.{Ahead}
 use Rattle.lbk_passage.specs.Cuts.{cut_at}
+use Rattle.lbk_passage.proofs.AheadLemmas.{IsSameBut-found, lines-many, slice-breaks, slice-many, slice-near}
 use Rattle.lbk_passage.proofs.SegmentLemmas.{segments-many, segments-none, segments-replaced}
 use Rattle.lbk_passage.proofs.segments.cut_lines.Goals as goal
 
@@ -26,6 +32,60 @@ returns-in-Some-clause-cut g c =
 pub returns-in_err-cut_alone-clause-full : goal.returns-in_err-cut_alone-clause-full
 returns-in_err-cut_alone-clause-full g c = λ broken.
     let many = segments-many c.args.profile (g.C.CellSource.cell_of c.args.cells.now) (chars c.args.text.now) c.args.end broken in
-    let p = err_from_is_err_and c.from_residual.result c.from_residual.ensures.1 in
+    let p = err_from_is_err_and c.from_residual-in_err-cut_alone.result c.from_residual-in_err-cut_alone.ensures.1 in
     let full = c.in_err-cut_alone.ensures.full in
     rw p.1 (omega (arith, many, full, c.clear.ensures))
+
+-- whether the block has breaks of the passage
+some_told : {found : List RawBreak} (a : Ahead) (sizes : (a.told ≤ a.next) × (a.next ≤ 128) × (length a.block ≡ 128))
+    → found ≡ take a.told (drop (a.next - a.told) a.block) → ¬ (length found ≡ 0) → 0 < a.told
+some_told a sizes is some = omega (arith, ap length is, slice-many a sizes, some)
+
+none_told : {found : List RawBreak} (a : Ahead) (sizes : (a.told ≤ a.next) × (a.next ≤ 128) × (length a.block ≡ 128))
+    → found ≡ take a.told (drop (a.next - a.told) a.block) → length found ≡ 0 → a.told ≡ 0
+none_told a sizes is none = omega (arith, ap length is, slice-many a sizes, none)
+
+pub cut_block-requires-clause-breaks : goal.cut_block-requires-clause-breaks
+cut_block-requires-clause-breaks g c =
+    let a = c.args.ahead.now in
+    let told = c.requires.told (some_told a c.requires.sizes c.found-found.ensures c.if-found-ne0.true) in
+    subst (λ bs. AreBreaks bs (length bs)) (sym c.found-found.ensures) (slice-breaks told c.requires.sizes)
+
+pub cut_block-requires-clause-few : goal.cut_block-requires-clause-few
+cut_block-requires-clause-few g c =
+    let a = c.args.ahead.now in
+    let told = c.requires.told (some_told a c.requires.sizes c.found-found.ensures c.if-found-ne0.true) in
+    subst (λ n. All (λ one. (n ≤ one.at) × (one.at < n + 4294967296)) c.found-found.result.now) (sym c.start.ensures)
+    (subst (All (λ one. (a.base - length c.args.text.now ≤ one.at) × (one.at < a.base - length c.args.text.now + 4294967296))) (sym c.found-found.ensures)
+    (slice-near told c.requires.sizes c.requires.few))
+
+pub returns-in_err-cut_block-clause-full : goal.returns-in_err-cut_block-clause-full
+returns-in_err-cut_block-clause-full g c = λ broken.
+    let a = c.args.ahead.now in
+    let told = c.requires.told (some_told a c.requires.sizes c.found-found.ensures c.if-found-ne0.true) in
+    let p = err_from_is_err_and c.from_residual.result c.from_residual.ensures.1 in
+    let full = c.in_err-cut_block.ensures.full in
+    rw p.1 (omega (arith, full, ap length c.found-found.ensures, lines-many told c.requires.sizes, c.clear.ensures))
+
+pub returns-then-found-ne0-clause-cut : goal.returns-then-found-ne0-clause-cut
+returns-then-found-ne0-clause-cut g c =
+    let a = c.args.ahead.now in
+    let told = c.requires.told (some_told a c.requires.sizes c.found-found.ensures c.if-found-ne0.true) in
+    let given = ap (map shown) c.found-found.ensures ∙ told.given ∙ ap (λ n. map (moved n) told.found) (sym c.start.ensures) in
+    sym (append-nil c.cut_block.new.segments.items) ∙ c.in_ok-cut_block.ensures.cut told.found [] given
+    ∙ ap (λ l. l ++ cut_at 0 (told.found ++ [])) c.clear.ensures.items ∙ ap (cut_at 0) (append-nil told.found) ∙ told.cut
+
+pub returns-in_err-cut_alone-clause-ahead : goal.returns-in_err-cut_alone-clause-ahead
+returns-in_err-cut_alone-clause-ahead g c =
+    IsSameBut-found c.args.ahead.now c.cut_alone.new.block c.cut_alone.auto.block
+    (none_told c.args.ahead.now c.requires.sizes c.found-found.ensures c.if-found-ne0.false)
+
+pub returns-in-Some-clause-ahead : goal.returns-in-Some-clause-ahead
+returns-in-Some-clause-ahead g c =
+    IsSameBut-found c.args.ahead.now c.cut_alone.new.block c.cut_alone.auto.block
+    (none_told c.args.ahead.now c.requires.sizes c.found-found.ensures c.if-found-ne0.false)
+
+pub returns-in_default-clause-ahead : goal.returns-in_default-clause-ahead
+returns-in_default-clause-ahead g c =
+    IsSameBut-found c.args.ahead.now c.cut_alone.new.block c.cut_alone.auto.block
+    (none_told c.args.ahead.now c.requires.sizes c.found-found.ensures c.if-found-ne0.false)

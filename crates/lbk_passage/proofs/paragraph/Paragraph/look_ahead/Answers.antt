@@ -8,14 +8,14 @@ pub returns-clause-state : goal.returns-clause-state
 returns-clause-state g c = λ cell profile.
     let by = g.C.CellSource.cell_of c.args.known.now.cells.now in
     let fresh = ap (λ b. b || c.args.self.now.is_spent) c.if-self.false ∙ c.if-self-2.false in
-    let takes = Takes-moves by None _ c.move_up.new.self c.reach-reach.result c.reach-reach.ensures.lends c.reach-reach.ensures.reaches c.move_up.ensures in
+    let takes = Takes-moves by None _ c.move_up.new.self c.reach-reach.result c.reach-reach.ensures.lends c.reach-reach.ensures.reaches c.move_up.ensures.moves in
     looked_line cell profile c.args.self.now fresh _ c.clear.ensures.bytes refl refl refl by c.move_up.new.self c.reach-reach.result takes
 
 pub returns-clause-whole : goal.returns-clause-whole
 returns-clause-whole g c = λ held.
     let by = g.C.CellSource.cell_of c.args.known.now.cells.now in
     let fresh = ap (λ b. b || c.args.self.now.is_spent) c.if-self.false ∙ c.if-self-2.false in
-    let takes = Takes-moves by None _ c.move_up.new.self c.reach-reach.result c.reach-reach.ensures.lends c.reach-reach.ensures.reaches c.move_up.ensures in
+    let takes = Takes-moves by None _ c.move_up.new.self c.reach-reach.result c.reach-reach.ensures.lends c.reach-reach.ensures.reaches c.move_up.ensures.moves in
     whole_line by First c.args.self.now fresh _ c.clear.ensures.bytes refl refl refl by c.move_up.new.self c.reach-reach.result takes
     c.end_before-self.result c.in-LineEnds.is c.end_before-self.ensures
 

@@ -5,8 +5,8 @@ use Rattle.lbk_passage.proofs.paragraph.Paragraph.move_up.Goals as goal
 pub range-requires-clause-end_boundary : goal.range-requires-clause-end_boundary
 range-requires-clause-end_boundary c = subst (λ l. IsCharBoundary l c.args.len) (sym c.ready-ready.ensures.ready) c.requires.place
 
-pub returns : goal.returns
-returns c = record {
+pub returns-clause-moves : goal.returns-clause-moves
+returns-clause-moves c = record {
   feed = c.advance.ensures.used;
   text = pushed c.push_str.result _ _ c.ready-ready.result.now _ c.args.len
       (c.is_err.ensures.negation ∙ ap not c.if-is_err.false)

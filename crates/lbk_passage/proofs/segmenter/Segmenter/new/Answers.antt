@@ -1,10 +1,12 @@
-use Rattle.std.proofs.Common.{◌||◌, sym, ap, ◌∙◌}
+use Rattle.std.proofs.Common.{◌||◌, refl, sym, ap, ◌∙◌}
+use Rattle.lbk_passage.proofs.AheadLemmas.{HasAhead-nothing}
 use Rattle.std.proofs.lemmas.Bool.{false≢true}
 use Rattle.lbk_passage.specs.State.{new_state}
 use Rattle.lbk_passage.proofs.segmenter.Segmenter.new.Goals as goal
 
 pub invariant_of-result : goal.invariant_of-result
 invariant_of-result g c = record {
+  found = HasAhead-nothing _ refl;
   whole = λ held. absurd (false≢true (
       sym (ap (λ s. s.is_settled) (c.in-Ok.ensures.state (g.C.CellSource.cell_of c.args.cells.now) c.args.profile))
       ∙ ap (λ b. b || c.in-Ok.paragraph.is_spent) held

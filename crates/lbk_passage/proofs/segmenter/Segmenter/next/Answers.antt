@@ -10,6 +10,8 @@ use Rattle.lbk_passage.specs.Shown.{found_by}
 use Rattle.lbk_passage.specs.State.{state_with}
 use Rattle.lbk_passage.specs.Gathering.{IsFirst}
 use Rattle.lbk_passage.proofs.Giving.{After-fault, After-lent, After-memory, After-none, Goes-fault, Goes-lent, Goes-none, Goes-some, Keeps-same, lacks_room, most_of, never_memory, no_fault, on_err, on_ok}
+use Rattle.lbk_passage.specs.Ahead.{IsAhead}
+use Rattle.lbk_passage.proofs.AheadLemmas.{IsAhead-kept}
 use Rattle.lbk_passage.proofs.Taking.{string_len-is}
 use Rattle.lbk_passage.proofs.segmenter.Segmenter.next.Goals as goal
 
@@ -166,3 +168,27 @@ returns g c =
         failures = c.fill.ensures.asks.failures ∙ ap (λ r. failures_with (g.R.Source.failure_count c.args.reader.now) (fault_in r)) was;
       },
     )
+
+pub invariant_of-self-then-is_err : goal.invariant_of-self-then-is_err
+invariant_of-self-then-is_err g c = record {
+  found = IsAhead-kept c.args.self.now.profile (g.C.CellSource.cell_of c.args.self.now.known.cells.now) c.args.self.now.paragraph c.fill.new.self
+      c.tell-told.new.self c.cut_lines.new.ahead c.tell-told.result c.fill.result c.tell-told.ensures c.fill.ensures.told c.cut_lines.ensures.ahead;
+  whole = c.fill.ensures.whole;
+}
+
+pub invariant_of-self-then-is_err-2 : goal.invariant_of-self-then-is_err-2
+invariant_of-self-then-is_err-2 g c = record {
+  found = IsAhead-kept c.args.self.now.profile (g.C.CellSource.cell_of c.args.self.now.known.cells.now) c.args.self.now.paragraph c.fill.new.self
+      c.tell-told.new.self c.cut_lines.new.ahead c.tell-told.result c.fill.result c.tell-told.ensures c.fill.ensures.told c.cut_lines.ensures.ahead;
+  whole = c.fill.ensures.whole;
+}
+
+pub invariant_of-self-2 : goal.invariant_of-self-2
+invariant_of-self-2 g c =
+    let cell = g.C.CellSource.cell_of c.args.self.now.known.cells.now in
+    record {
+      found = subst (λ f. IsAhead c.args.self.now.profile cell f.ready c.cut_lines.new.ahead) (sym c.release.ensures.feed)
+          (IsAhead-kept c.args.self.now.profile (g.C.CellSource.cell_of c.args.self.now.known.cells.now) c.args.self.now.paragraph c.fill.new.self
+          c.tell-told.new.self c.cut_lines.new.ahead c.tell-told.result c.fill.result c.tell-told.ensures c.fill.ensures.told c.cut_lines.ensures.ahead);
+      whole = λ held. absurd (let no = sym c.release.ensures.held ∙ held in cc);
+    }

@@ -1,0 +1,375 @@
+-- Breaks of the bytes that are ready, found ahead of the passages that they end.
+use Rattle.std.proofs.Common.{◌≡◌, ℕ, ◌+◌, ◌-◌, ◌<◌, ◌≤◌, ◌||◌, false, All, IfSome, Option, Result, List, [], ◌∷◌, ◌++◌, length, map, drop, take, get_or, None, Some, chars, IsCharBoundary, IsUtf8, refl, sym, ap, subst, ◌∙◌, arith, append_assoc}
+use Rattle.std.proofs.Math.Seq.{get_or-append_seam, take-add}
+use Rattle.std.proofs.lemmas.List.Elements.{All-append, All-cons, All-nil}
+use Rattle.std.specs.List.{take-map}
+use Rattle.std.proofs.lemmas.Str.{chars-nil}
+use Rattle.std.proofs.lemmas.List.{append_cancel_left, drop_more, get_or-drop, get_or-map, get_or-take, length-append, length-drop, length-map, length-take, length-take-le, length_push, map-append, take-append-drop, take_at}
+use Rattle.lbk_rules.specs.declared.Break.{Break}
+use Rattle.lbk_rules.specs.declared.Cell.{Cell}
+use Rattle.lbk_rules.specs.declared.Kind.{Kind}
+use Rattle.lbk_rules.specs.declared.Kind.TheVariants.{No, May, Must}
+use Rattle.lbk_rules.specs.declared.Verdict.{Verdict}
+use Rattle.lbk_values.specs.declared.profile.Profile.{Profile}
+use Rattle.lbk_rules.specs.Breaks.{breaks, is_no}
+use Rattle.lbk_rules.specs.Joins.{moved}
+use Rattle.lbk_rules.proofs.JoinLemmas.{map-moved, map-moved-none}
+use Rattle.lbk_bytes.specs.declared.raw_break.RawBreak.{RawBreak}
+use Rattle.lbk_bytes.specs.Order.{AreBreaks, IsBreak, no_break}
+use Rattle.lbk_bytes.specs.Shown.{given_in, raw_of, shown}
+use Rattle.lbk_bytes.proofs.ShownLemmas.{shown-raw}
+use Rattle.lbk_passage.specs.Ahead.{EndsFirst, GivesTold, HasAhead, HasTold, IsAhead, IsSameBut, IsTold, ShowBreaks, TakesBy, TakesTold, Tells}
+use Rattle.lbk_passage.specs.Found.{FindsNext}
+use Rattle.lbk_rules.specs.Marks.{ended, marks}
+use Rattle.lbk_passage.specs.Passages.{is_must}
+use Rattle.lbk_passage.specs.Segments.{segments_of}
+use Rattle.lbk_passage.specs.Stays.{last_class}
+use Rattle.lbk_passage.specs.declared.ahead.Ahead.{Ahead}
+use Rattle.lbk_passage.specs.declared.faults.PassageFault.{PassageFault}
+use Rattle.lbk_passage.specs.declared.found.Progress.{Progress}
+use Rattle.lbk_passage.specs.declared.paragraph.Paragraph.{Paragraph}
+use Rattle.lbk_passage.specs.declared.paragraph.Told.{Told}
+use Rattle.lbk_passage.specs.declared.reach.ReachEnd.TheVariants.{LineEnds}
+use Rattle.lbk_bytes.proofs.ReachedLemmas.{given-many}
+use Rattle.lbk_passage.proofs.FirstEnds.{FirstEndIn, NoneMust, first_end_in}
+use Rattle.lbk_passage.proofs.KeptLemmas.{each-behind, given-split}
+use Rattle.lbk_passage.proofs.SegmentLemmas.{length-cut}
+
+-- What a block shows
+
+pub shows-breaks : (block : List RawBreak) (count : ℕ) → AreBreaks block count → ShowBreaks block count
+shows-breaks block count are = λ k less.
+    let known = are k less in
+    let same : shown (get_or block k no_break) ≡ known.0 = ap shown known.1 ∙ shown-raw known.0 in
+    (known.1 ∙ ap raw_of (sym same), ap (λ b. is_no b.kind) same ∙ known.2)
+
+pub breaks-shown : (block : List RawBreak) (count : ℕ) → ShowBreaks block count → AreBreaks block count
+breaks-shown block count show = λ k less. (shown (get_or block k no_break), (show k less).0, (show k less).1)
+
+-- a break that the numbers stand for is the one that they show
+pub shown_by : (raw : RawBreak) (b : Break) → IsBreak raw → ((found : Break) → raw ≡ raw_of found → b ≡ found) → b ≡ shown raw
+shown_by raw b known is = is known.0 known.1 ∙ sym (ap shown known.1 ∙ shown-raw known.0)
+
+-- the first breaks of a text were found into a block
+pub IsAhead-found : {profile : Profile} {cell : ℕ → Cell} {text : List ℕ} {to : Progress} {room : ℕ} {block : List RawBreak}
+    → FindsNext profile cell text (record { state = record { count = 0; row = 0; at = 0 }; ended = false }) to room block → room ≡ 128 → length block ≡ 128
+    → HasAhead (record { block = block; next = 0; left = to.state.count; told = 0; base = 0 }) (take to.state.count (breaks profile cell (chars text)))
+IsAhead-found {profile} {cell} {text} {to} {room} {block} f room_is size =
+    let whole : to.state.count - 0 ≡ to.state.count = omega arith in
+    record {
+      size = size;
+      within = omega (arith, f.count, room_is);
+      before = omega arith;
+      each = subst (ShowBreaks block) whole (shows-breaks block (to.state.count - 0) f.breaks);
+      given = ap (given_in block) (sym whole) ∙ f.front ∙ ap (λ n. take n (breaks profile cell (chars text))) whole
+          ∙ sym (map-moved-none (take to.state.count (breaks profile cell (chars text))));
+    }
+
+-- none of the bytes that are ready
+pub HasAhead-none : {a : Ahead} {found : List Break} → HasAhead a found → HasAhead (record a { left = 0; told = 0 }) []
+HasAhead-none h = record {
+  size = h.size;
+  within = omega (arith, h.within);
+  before = omega arith;
+  each = λ k less. absurd (omega (arith, less));
+  given = refl;
+}
+
+module _ {a : Ahead} {found : List Break} (h : HasAhead a found) where
+  held-many : length (given_in (drop a.next a.block) a.left) ≡ a.left
+  held-many = given-many (drop a.next a.block) a.left (omega (arith, h.within, h.size, length-drop a.next a.block))
+
+  pub found-many : length found ≡ a.left
+  found-many = sym (length-map found (moved a.base)) ∙ sym (ap length h.given) ∙ held-many
+
+  -- one of them
+  module _ (k : ℕ) (below : k < a.left) where
+    abbrev one : RawBreak
+    one = get_or a.block (a.next + k) no_break
+
+    there : get_or (drop a.next a.block) k no_break ≡ get_or a.block (a.next + k) no_break
+    there = get_or-drop a.next a.block k no_break
+
+    pub is_break : IsBreak (get_or a.block (a.next + k) no_break)
+    is_break = subst IsBreak there (breaks-shown (drop a.next a.block) a.left h.each k below)
+
+    pub is_moved : shown (get_or a.block (a.next + k) no_break) ≡ moved a.base (get_or found k (shown no_break))
+    is_moved =
+        let front = take a.left (drop a.next a.block) in
+        let long : length front ≡ a.left = sym (length-map front shown) ∙ held-many in
+        ap shown (sym there ∙ sym (get_or-take a.left (drop a.next a.block) k no_break below))
+        ∙ sym (get_or-map shown front k no_break (shown no_break) (omega (arith, long, below)))
+        ∙ ap (λ l. get_or l k (shown no_break)) h.given
+        ∙ get_or-map (moved a.base) found k (shown no_break) (shown no_break) (omega (arith, found-many, below))
+
+    pub is_split : found ≡ take k found ++ get_or found k (shown no_break) ∷ drop (k + 1) found
+    is_split = sym (take-append-drop k found) ∙ ap (λ l. take k found ++ l) (drop_more found k (shown no_break) (omega (arith, found-many, below)))
+
+    -- what it is as a break
+    module _ (b : Break) (is : (other : Break) → get_or a.block (a.next + k) no_break ≡ raw_of other → b ≡ other) where
+      pub one_moved : b ≡ moved a.base (get_or found k (shown no_break))
+      one_moved = shown_by (get_or a.block (a.next + k) no_break) b is_break is ∙ is_moved
+
+      pub next_quiet : is_must b.kind ≡ false → NoneMust (take k found) → NoneMust (take (k + 1) found)
+      next_quiet quiet none =
+          let one = get_or found k (shown no_break) in
+          let front : take (k + 1) found ≡ take k found ++ one ∷ [] =
+          take-add k 1 found ∙ ap (λ l. take k found ++ take 1 l) (drop_more found k (shown no_break) (omega (arith, found-many, below))) in
+          subst NoneMust (sym front)
+          (All-append (λ x. is_must x.kind ≡ false) (take k found) (one ∷ []) none
+          (All-cons (λ x. is_must x.kind ≡ false) one [] (sym (ap (λ x. is_must x.kind) one_moved) ∙ quiet) (All-nil (λ x. is_must x.kind ≡ false))))
+
+-- a verdict of another kind than `Must`
+pub other_kind : (k : Kind) → ¬ (k ≡ Must) → is_must k ≡ false
+other_kind No other = refl
+other_kind May other = refl
+other_kind Must other = absurd (other refl)
+
+-- the first of them are taken
+module _ {a : Ahead} (front : List Break) (last : Break) (rest : List Break) (h : HasAhead a (front ++ last ∷ rest)) (count : ℕ)
+    (counted : count ≡ length front + 1) where
+  many : length (front ++ last ∷ rest) ≡ count + length rest
+  many = omega (arith, length-append front (last ∷ rest), counted)
+
+  pub few : count + length rest ≡ a.left
+  few = sym many ∙ found-many h
+
+  halves : given_in (drop a.next a.block) count ++ given_in (drop (a.next + count) a.block) (a.left - count) ≡ map (moved a.base) (front ++ last ∷ []) ++ map (moved a.base) rest
+  halves =
+      sym (given-split a.block a.next count a.left (omega (arith, few))) ∙ h.given
+      ∙ ap (map (moved a.base)) (sym (append_assoc front (last ∷ []) rest)) ∙ map-append (moved a.base) (front ++ last ∷ []) rest
+
+  front-many : length (given_in (drop a.next a.block) count) ≡ count
+  front-many = given-many (drop a.next a.block) count (omega (arith, few, h.within, h.size, length-drop a.next a.block))
+
+  moved-many : length (map (moved a.base) (front ++ last ∷ [])) ≡ count
+  moved-many = length-map (front ++ last ∷ []) (moved a.base) ∙ length_push front last ∙ (omega (arith, counted))
+
+  pub front_is : given_in (drop a.next a.block) count ≡ map (moved a.base) (front ++ last ∷ [])
+  front_is =
+      sym (take_at (given_in (drop a.next a.block) count) (given_in (drop (a.next + count) a.block) (a.left - count)) count front-many)
+      ∙ ap (take count) halves ∙ take_at (map (moved a.base) (front ++ last ∷ [])) (map (moved a.base) rest) count moved-many
+
+  rest_is : given_in (drop (a.next + count) a.block) (a.left - count) ≡ map (moved a.base) rest
+  rest_is = append_cancel_left (map (moved a.base) (front ++ last ∷ [])) _ _ (ap (λ l. l ++ given_in (drop (a.next + count) a.block) (a.left - count)) (sym front_is) ∙ halves)
+
+  pub TakesBy-counted : TakesBy a (record { block = a.block; next = a.next + count; left = a.left - count; told = count; base = a.base + last.at })
+      (record { len = last.at; end = record { kind = last.kind; rule = last.rule } }) front last rest
+  TakesBy-counted =
+      let back : a.next + count - count ≡ a.next = omega arith in
+      record {
+        len = refl;
+        end = refl;
+        some = omega (arith, counted);
+        base = refl;
+        each = λ k less. subst (λ n. IsBreak (get_or (drop n a.block) k no_break)) (sym back)
+            (breaks-shown (drop a.next a.block) a.left h.each k (omega (arith, less, few)));
+        given = ap (λ n. given_in (drop n a.block) count) back ∙ front_is;
+        behind = λ others is. record {
+          size = h.size;
+          within = omega (arith, few, h.within);
+          before = omega arith;
+          each = shows-breaks (drop (a.next + count) a.block) (a.left - count)
+              (each-behind a.block a.next count a.left (breaks-shown (drop a.next a.block) a.left h.each));
+          given = rest_is ∙ ap (map (moved a.base)) is ∙ map-moved a.base last.at others;
+        };
+      }
+
+  pub last_below : length front < a.left
+  last_below = omega (arith, few, counted)
+
+  place : a.next + length front ≡ a.next + count - 1
+  place = omega (arith, counted)
+
+  pub last_break : IsBreak (get_or a.block (a.next + count - 1) no_break)
+  last_break = subst (λ n. IsBreak (get_or a.block n no_break)) place (is_break h (length front) last_below)
+
+  pub last_moved : shown (get_or a.block (a.next + count - 1) no_break) ≡ moved a.base last
+  last_moved =
+      ap (λ n. shown (get_or a.block n no_break)) (sym place) ∙ is_moved h (length front) last_below
+      ∙ ap (moved a.base) (get_or-append_seam front last rest (shown no_break))
+
+  pub TakesBy-shown : (b : Break) → b ≡ moved a.base last
+      → TakesBy a (record { block = a.block; next = a.next + count; left = a.left - count; told = count; base = b.at })
+      (record { len = b.at - a.base; end = record { kind = b.kind; rule = b.rule } }) front last rest
+  TakesBy-shown b is =
+      let len : a.base + last.at - a.base ≡ last.at = omega arith in
+      subst
+      (λ b. TakesBy a (record { block = a.block; next = a.next + count; left = a.left - count; told = count; base = b.at })
+      (record { len = b.at - a.base; end = record { kind = b.kind; rule = b.rule } }) front last rest)
+      (sym is)
+      (subst
+      (λ n. TakesBy a (record { block = a.block; next = a.next + count; left = a.left - count; told = count; base = a.base + last.at })
+      (record { len = n; end = record { kind = last.kind; rule = last.rule } }) front last rest)
+      (sym len) TakesBy-counted)
+
+-- a passage was taken by breaks, or none was
+module _ (profile : Profile) (cell : ℕ → Cell) (p : Paragraph) (a new : Ahead) (count : ℕ) (utf8 : IsUtf8 p.feed.ready) (fresh : (p.is_held || p.is_spent) ≡ false)
+    (h : IsAhead profile cell p.feed.ready a) (e : EndsFirst (take a.left (breaks profile cell (chars p.feed.ready))) (length p.feed.ready) count) where
+  has : HasAhead a (e.front ++ e.last ∷ e.rest)
+  has = subst (HasAhead a) e.all h
+
+  are : breaks profile cell (chars p.feed.ready) ≡ e.front ++ e.last ∷ (e.rest ++ drop a.left (breaks profile cell (chars p.feed.ready)))
+  are = sym (take-append-drop a.left (breaks profile cell (chars p.feed.ready))) ∙ ap (λ l. l ++ drop a.left (breaks profile cell (chars p.feed.ready))) e.all
+      ∙ append_assoc e.front (e.last ∷ e.rest) (drop a.left (breaks profile cell (chars p.feed.ready)))
+
+  first : FirstEndIn profile cell p.feed.ready e.front e.last (e.rest ++ drop a.left (breaks profile cell (chars p.feed.ready)))
+  first = first_end_in profile cell p.feed.ready e.front e.last _ utf8 are e.none e.must e.near
+
+  module _ (told : Told) (takes : TakesTold a new count p.limit (Some told)) where
+    by : TakesBy a new told e.front e.last e.rest
+    by = takes.1 e.front e.last e.rest has e.counted
+
+    abbrev others : List Break
+    others = take (length e.rest) (breaks profile cell (first.cut.next ∷ first.cut.more))
+
+    rest_moved : e.rest ≡ map (moved e.last.at) others
+    rest_moved =
+        sym (take_at e.rest (drop a.left (breaks profile cell (chars p.feed.ready))) (length e.rest) refl)
+        ∙ ap (take (length e.rest)) first.cut.rest_is
+        ∙ take-map (moved e.last.at) (length e.rest) (breaks profile cell (first.cut.next ∷ first.cut.more))
+
+    after : HasAhead new others
+    after = by.behind others rest_moved
+
+    left_is : length e.rest ≡ new.left
+    left_is = ap length rest_moved ∙ length-map others (moved e.last.at) ∙ found-many after
+
+    text_len : length (take told.len p.feed.ready) ≡ e.last.at
+    text_len = length-take-le told.len p.feed.ready (omega (arith, by.len, e.near)) ∙ by.len
+
+    text_chars : chars (take told.len p.feed.ready) ≡ first.cut.taken
+    text_chars = ap (λ n. chars (take n p.feed.ready)) by.len ∙ first.front_chars
+
+    tells_paragraph : IsTold cell p told
+    tells_paragraph = record {
+      fresh = fresh;
+      some = omega (arith, e.near);
+      boundary = subst (IsCharBoundary p.feed.ready) (sym by.len) first.boundary;
+      reach = record { len = e.last.at; last = last_class cell None first.cut.taken; stop = LineEnds };
+      reaches = record {
+        taken = first.cut.taken;
+        rest = first.cut.next ∷ first.cut.more;
+        all = first.cut.is;
+        len = first.cut.place;
+        within = omega (arith, by.len, takes.0);
+        none_ends = first.cut.none_ends;
+        last_is = refl;
+        stop = (first.cut.next, first.cut.more, refl, first.cut.ends);
+      };
+      len = by.len;
+      stop = refl;
+      end = ap Some by.end ∙ first.cut.verdict;
+    }
+
+    keeps_ahead : IsAhead profile cell (drop told.len p.feed.ready) new
+    keeps_ahead = subst (HasAhead new)
+        (ap (λ n. take n (breaks profile cell (first.cut.next ∷ first.cut.more))) left_is
+        ∙ ap (λ cs. take new.left (breaks profile cell cs)) (sym (ap (λ n. chars (drop n p.feed.ready)) by.len ∙ first.behind_chars)))
+        after
+
+    has_told : HasTold profile cell (take told.len p.feed.ready) told.end new
+    has_told =
+        let base : a.base ≡ new.base - length (take told.len p.feed.ready) = omega (arith, by.base, text_len) in
+        record {
+          some = by.some;
+          found = e.front ++ e.last ∷ [];
+          each = by.each;
+          before = omega (arith, by.base, text_len);
+          given = by.given ∙ ap (λ n. map (moved n) (e.front ++ e.last ∷ [])) base;
+          within = subst (λ n. All (λ b. b.at < n + 1) (e.front ++ e.last ∷ [])) (sym text_len) first.cut.within;
+          cut = first.cut.segments ∙ ap (λ v. segments_of (ended v (marks profile cell first.cut.taken))) (sym by.end)
+              ∙ ap (λ cs. segments_of (ended told.end (marks profile cell cs))) (sym text_chars);
+        }
+
+  pub Tells-taken : (r : Option Told) → TakesTold a new count p.limit r → Tells profile cell p new r
+  Tells-taken None is = (λ ready. subst (λ n. IsAhead profile cell ready n) (sym is) (HasAhead-none h), ap (λ n. n.told) is)
+  Tells-taken (Some told) takes = (tells_paragraph told takes, keeps_ahead told takes, has_told told takes)
+
+-- the breaks of the passage taken last
+pub slice-many : (a : Ahead) → (a.told ≤ a.next) × (a.next ≤ 128) × (length a.block ≡ 128) → length (take a.told (drop (a.next - a.told) a.block)) ≡ a.told
+slice-many a sizes =
+    length-take-le a.told (drop (a.next - a.told) a.block)
+    (omega (arith, length-drop (a.next - a.told) a.block, sizes.0, sizes.1, sizes.2))
+
+-- the block alone is another one, where it has none of a passage
+pub IsSameBut-found : (a : Ahead) (block : List RawBreak) → length block ≡ length a.block → a.told ≡ 0
+    → IsSameBut a (record { block = block; next = a.next; left = a.left; told = a.told; base = a.base })
+IsSameBut-found a block size none =
+    record { size = size; next = refl; left = refl; told = refl; base = refl; block = λ some. absurd (omega (arith, some, none)) }
+
+module _ {profile : Profile} {cell : ℕ → Cell} {text : List ℕ} {end : Verdict} {a : Ahead} (h : HasTold profile cell text end a)
+    (sizes : (a.told ≤ a.next) × (a.next ≤ 128) × (length a.block ≡ 128)) where
+  pub slice-breaks : AreBreaks (take a.told (drop (a.next - a.told) a.block)) (length (take a.told (drop (a.next - a.told) a.block)))
+  slice-breaks k less =
+      let below : k < a.told = omega (arith, less, slice-many a sizes) in
+      subst IsBreak (sym (get_or-take a.told (drop (a.next - a.told) a.block) k no_break below)) (h.each k below)
+
+  found-told : length h.found ≡ a.told
+  found-told = sym (length-map h.found (moved (a.base - length text))) ∙ sym (ap length h.given)
+      ∙ length-map (take a.told (drop (a.next - a.told) a.block)) shown ∙ slice-many a sizes
+
+  pub slice-near : length text < 4294967296
+      → All (λ one. (a.base - length text ≤ one.at) × (one.at < a.base - length text + 4294967296)) (take a.told (drop (a.next - a.told) a.block))
+  slice-near few k d less =
+      let slice = take a.told (drop (a.next - a.told) a.block) in
+      let there : k < length h.found = omega (arith, less, slice-many a sizes, found-told) in
+      let same : shown (get_or slice k d) ≡ moved (a.base - length text) (get_or h.found k (shown d)) =
+      sym (get_or-map shown slice k d (shown d) less) ∙ ap (λ bs. get_or bs k (shown d)) h.given
+      ∙ get_or-map (moved (a.base - length text)) h.found k (shown d) (shown d) there in
+      let at = ap (λ b. b.at) same in
+      let near = h.within k (shown d) there in
+      (omega (arith, at), omega (arith, at, near, few))
+
+  pub lines-many : length (segments_of (ended end (marks profile cell (chars text)))) ≡ length (take a.told (drop (a.next - a.told) a.block))
+  lines-many = sym (ap length h.cut) ∙ length-cut 0 h.found ∙ found-told ∙ sym (slice-many a sizes)
+
+-- after the call that filled a paragraph, and the one that cut it into lines
+module _ (profile : Profile) (cell : ℕ → Cell) (p q : Paragraph) (a b : Ahead) where
+  kept-none : a.left ≡ 0 → a.told ≡ 0 → IsSameBut a b → (ready : List ℕ) → IsAhead profile cell ready a → IsAhead profile cell ready b
+  kept-none left told same ready h =
+      let none : b.left ≡ 0 = same.left ∙ left in
+      record {
+        size = same.size ∙ h.size;
+        within = omega (arith, same.next, none, h.within);
+        before = omega (arith, same.told, told);
+        each = λ k less. absurd (omega (arith, less, none));
+        given = ap (given_in (drop b.next b.block)) none ∙ sym (ap (λ n. map (moved b.base) (take n (breaks profile cell (chars ready)))) none);
+      }
+
+  kept-some : 0 < a.told → IsSameBut a b → (ready : List ℕ) → IsAhead profile cell ready a → IsAhead profile cell ready b
+  kept-some some same ready h =
+      let block : b.block ≡ a.block = same.block some in
+      record {
+        size = same.size ∙ h.size;
+        within = omega (arith, same.next, same.left, h.within);
+        before = omega (arith, same.next, same.told, h.before);
+        each = λ k less. subst (λ l. ShowBreaks l b.left) (sym (ap (drop b.next) block ∙ ap (λ n. drop n a.block) same.next))
+            (subst (ShowBreaks (drop a.next a.block)) (sym same.left) h.each) k less;
+        given = ap (λ l. given_in (drop b.next l) b.left) block ∙ ap (λ n. given_in (drop n a.block) b.left) same.next
+            ∙ ap (given_in (drop a.next a.block)) same.left ∙ h.given
+            ∙ ap (λ n. map (moved n) (take a.left (breaks profile cell (chars ready)))) (sym same.base)
+            ∙ ap (λ n. map (moved b.base) (take n (breaks profile cell (chars ready)))) (sym same.left);
+      }
+
+  pub IsAhead-kept : (r : Option Told) (answer : Result (Option Verdict) PassageFault) → Tells profile cell p a r → IfSome r (λ told. GivesTold p q told answer)
+      → IsSameBut a b → IsAhead profile cell q.feed.ready b
+  IsAhead-kept None answer tells gives same =
+      let none = tells.0 [] in
+      let left : a.left ≡ 0 = sym (found-many none) ∙ ap (λ cs. length (take a.left (breaks profile cell cs))) chars-nil ∙ no_breaks a.left in
+      kept-none left tells.1 same q.feed.ready (tells.0 q.feed.ready)
+    where
+      no_breaks : (n : ℕ) → length (take n (breaks profile cell [])) ≡ 0
+      no_breaks n = omega (arith, length-take n (breaks profile cell []))
+  IsAhead-kept (Some told) answer tells gives same =
+      kept-some tells.2.some same q.feed.ready (subst (λ l. IsAhead profile cell l a) (sym gives.ready) tells.1)
+
+-- nothing was found yet
+pub HasAhead-nothing : (block : List RawBreak) → length block ≡ 128 → HasAhead (record { block = block; next = 0; left = 0; told = 0; base = 0 }) []
+HasAhead-nothing block size = record {
+  size = size;
+  within = omega arith;
+  before = omega arith;
+  each = λ k less. absurd (omega (arith, less));
+  given = refl;
+}

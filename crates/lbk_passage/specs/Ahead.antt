@@ -1,0 +1,111 @@
+-- Breaks of the bytes that are ready, found ahead of the passages that they end.
+use Rattle.std.specs.Prelude.{◌≡◌, ℕ, ◌+◌, ◌-◌, ◌<◌, ◌≤◌, ◌||◌, false, true, Some, None, Option, Result, Ok, string_bytes, IsCharBoundary, All, List, [], ◌∷◌, ◌++◌, length, map, drop, take, slice_index_or}
+use Rattle.std.specs.Str.{chars}
+use Rattle.lbk_rules.specs.declared.Break.{Break}
+use Rattle.lbk_rules.specs.declared.Cell.{Cell}
+use Rattle.lbk_rules.specs.declared.Verdict.{Verdict}
+use Rattle.lbk_values.specs.declared.profile.Profile.{Profile}
+use Rattle.lbk_rules.specs.Breaks.{breaks, is_no}
+use Rattle.lbk_rules.specs.Joins.{moved}
+use Rattle.lbk_rules.specs.Marks.{marks, ended}
+use Rattle.lbk_bytes.specs.Order.{AreBreaks, no_break}
+use Rattle.lbk_bytes.specs.Shown.{given_in, raw_of, shown}
+use Rattle.lbk_bytes.specs.declared.raw_break.RawBreak.{RawBreak}
+use Rattle.lbk_passage.specs.Cuts.{cut_at}
+use Rattle.lbk_passage.specs.Gathering.{Reaches}
+use Rattle.lbk_passage.specs.Passages.{is_must}
+use Rattle.lbk_passage.specs.Segments.{segments_of}
+use Rattle.lbk_passage.specs.Stays.{end_before}
+use Rattle.lbk_passage.specs.declared.ahead.Ahead.{Ahead}
+use Rattle.lbk_passage.specs.declared.faults.PassageFault.{PassageFault}
+use Rattle.lbk_passage.specs.declared.paragraph.Paragraph.{Paragraph}
+use Rattle.lbk_passage.specs.declared.paragraph.Told.{Told}
+use Rattle.lbk_passage.specs.declared.reach.Reach.{Reach}
+use Rattle.lbk_passage.specs.declared.reach.ReachEnd.TheVariants.{LineEnds}
+
+-- what stands in the front of a block are breaks, as `AreBreaks` says, told by what the numbers show
+abbrev pub ShowBreaks : List RawBreak → ℕ → Type 0
+ShowBreaks block count = (k : ℕ) → k < count → (slice_index_or block k no_break ≡ raw_of (shown (slice_index_or block k no_break)))
+    × (is_no (shown (slice_index_or block k no_break)).kind ≡ false)
+
+-- a block has these breaks of the bytes that are ready, each `base` bytes further on
+pub record HasAhead (a : Ahead) (found : List Break) : Type 0 where
+  pub size : length a.block ≡ 128
+  pub within : a.next + a.left ≤ 128
+  pub before : a.told ≤ a.next
+  pub each : ShowBreaks (drop a.next a.block) a.left
+  pub given : given_in (drop a.next a.block) a.left ≡ map (moved a.base) found
+
+-- they are the first breaks of these bytes
+abbrev pub IsAhead : Profile → (ℕ → Cell) → List ℕ → Ahead → Type 0
+IsAhead profile cell ready a = HasAhead a (take a.left (breaks profile cell (chars ready)))
+
+-- of some breaks so many are those up to the first at which a line must end, which stands before byte `len`
+pub record EndsFirst (found : List Break) (len count : ℕ) : Type 0 where
+  pub front : List Break
+  pub last : Break
+  pub rest : List Break
+  pub all : found ≡ front ++ last ∷ rest
+  pub counted : count ≡ length front + 1
+  pub none : All (λ b. is_must b.kind ≡ false) front
+  pub must : is_must last.kind ≡ true
+  pub near : last.at < len
+
+-- so many of the bytes that are ready are the text of a paragraph, of which nothing is gathered
+pub record IsTold (cell : ℕ → Cell) (p : Paragraph) (told : Told) : Type 0 where
+  pub fresh : (p.is_held || p.is_spent) ≡ false
+  pub some : 0 < length p.feed.ready
+  pub boundary : IsCharBoundary p.feed.ready told.len
+  pub reach : Reach
+  pub reaches : Reaches cell None p.feed.ready p.limit reach
+  pub len : told.len ≡ reach.len
+  pub stop : reach.stop ≡ LineEnds
+  pub end : Some told.end ≡ end_before reach.last true
+
+-- the paragraph told was taken
+pub record GivesTold (old new : Paragraph) (told : Told) (r : Result (Option Verdict) PassageFault) : Type 0 where
+  pub answer : r ≡ Ok (Some told.end)
+  pub text : string_bytes new.text ≡ take told.len old.feed.ready
+  pub ready : new.feed.ready ≡ drop told.len old.feed.ready
+
+-- a block has the breaks of a passage of this text, before those of the bytes that are ready
+pub record HasTold (profile : Profile) (cell : ℕ → Cell) (text : List ℕ) (end : Verdict) (a : Ahead) : Type 0 where
+  pub some : 0 < a.told
+  pub found : List Break
+  pub each : AreBreaks (drop (a.next - a.told) a.block) a.told
+  pub before : length text ≤ a.base
+  pub given : given_in (drop (a.next - a.told) a.block) a.told ≡ map (moved (a.base - length text)) found
+  pub within : All (λ b. b.at < length text + 1) found
+  pub cut : cut_at 0 found ≡ segments_of (ended end (marks profile cell (chars text)))
+
+-- the passage of these breaks was taken
+pub record TakesBy (old new : Ahead) (told : Told) (front : List Break) (last : Break) (rest : List Break) : Type 0 where
+  pub len : told.len ≡ last.at
+  pub end : told.end ≡ record { kind = last.kind; rule = last.rule }
+  pub some : 0 < new.told
+  pub base : new.base ≡ old.base + last.at
+  pub each : AreBreaks (drop (new.next - new.told) new.block) new.told
+  pub given : given_in (drop (new.next - new.told) new.block) new.told ≡ map (moved old.base) (front ++ last ∷ [])
+  pub behind : (others : List Break) → rest ≡ map (moved last.at) others → HasAhead new others
+
+-- the passage of the first `count` breaks was taken, unless it has more than `limit` bytes
+abbrev pub TakesTold : Ahead → Ahead → ℕ → ℕ → Option Told → Type 0
+TakesTold old new count limit None = new ≡ record old { left = 0; told = 0 }
+TakesTold old new count limit (Some told) = (told.len ≤ limit)
+    × ((front : List Break) (last : Break) (rest : List Break) → HasAhead old (front ++ last ∷ rest)
+    → count ≡ length front + 1 → TakesBy old new told front last rest)
+
+-- breaks told of a passage at the front of the bytes that are ready, or they told nothing and none is held
+abbrev pub Tells : Profile → (ℕ → Cell) → Paragraph → Ahead → Option Told → Type 0
+Tells profile cell p new None = ((ready : List ℕ) → IsAhead profile cell ready new) × (new.told ≡ 0)
+Tells profile cell p new (Some told) = IsTold cell p told × IsAhead profile cell (drop told.len p.feed.ready) new
+    × HasTold profile cell (take told.len p.feed.ready) told.end new
+
+-- the same, but for what its block holds
+pub record IsSameBut (old new : Ahead) : Type 0 where
+  pub size : length new.block ≡ length old.block
+  pub next : new.next ≡ old.next
+  pub left : new.left ≡ old.left
+  pub told : new.told ≡ old.told
+  pub base : new.base ≡ old.base
+  pub block : 0 < old.told → new.block ≡ old.block

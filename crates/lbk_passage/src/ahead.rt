@@ -1,0 +1,167 @@
+//! Breaks of the bytes that are ready, found ahead of the passages that they end.
+
+ghost use Rattle.std.specs.Prelude.{◌≡◌, ◌-◌, ◌≤◌, ◌<◌, length, drop, take};
+ghost use Rattle.lbk_passage.specs.Ahead.{EndsFirst, HasAhead, IsAhead, TakesTold, Tells};
+
+use crate::found::{NO_BREAK, START, break_of, find};
+use crate::known::KnownCells;
+use crate::paragraph::{Paragraph, Told};
+use lbk_bytes::RawBreak;
+use lbk_rules::{CellSource, Kind, Profile, Verdict};
+
+/// How many breaks are found at a time.
+pub(crate) const BLOCK: usize = 128;
+
+/// Where fewer bytes are ready, most belong to a passage that does not end among them.
+const FEW: usize = 64;
+
+/// After a passage of so many segments the next one is likely to have more than the block.
+const MANY: usize = 48;
+
+/// Breaks of the bytes that are ready, as many as were found.
+#[derive(Drop)]
+pub(crate) struct Ahead {
+    /// Where breaks are found into. To make it costs as much as some breaks do, so it is kept.
+    pub(crate) block: [RawBreak; BLOCK],
+    /// The place in the block of the first break of the bytes that are ready.
+    next: usize,
+    /// How many there are from there on.
+    left: usize,
+    /// How many there are before it that are of the passage taken last.
+    told: usize,
+    /// The first byte that is ready, as these breaks count.
+    base: usize,
+}
+
+/// No break was found.
+pub(crate) const NOTHING: Ahead = Ahead {
+    block: [NO_BREAK; BLOCK],
+    next: 0,
+    left: 0,
+    told: 0,
+    base: 0,
+};
+
+impl Ahead {
+    ghost use Rattle.std.specs.Prelude.{[], List, ℕ, IsUtf8};
+    ghost use Rattle.lbk_rules.specs.declared.Break.{Break};
+    ghost use Rattle.lbk_rules.specs.declared.Cell.{Cell};
+    ghost use Rattle.lbk_values.specs.declared.profile.Profile.{Profile};
+
+    /// Forgets the breaks of the bytes that are ready.
+    pub(crate) fn forget(&mut self)
+        ensures { self.new ≡ record self.old { left = 0; told = 0 } }
+    {
+        self.left = 0;
+        self.told = 0;
+    }
+
+    /// The passage at the front of the bytes that are ready, where breaks tell that a line must end behind it, before
+    /// the last of these bytes. It passes over the breaks of that passage. `segments`: how many the one before has.
+    #[inline(always)]
+    pub(crate) fn tell<C: CellSource>(
+        &mut self,
+        known: &KnownCells<'_, C>,
+        profile: Profile,
+        paragraph: &Paragraph,
+        segments: usize,
+    ) -> Option<Told>
+        requires { IsAhead profile (C.cell_of known.now.cells.now) paragraph.now.feed.ready self.old }
+        ensures { Tells profile (C.cell_of known.now.cells.now) paragraph.now self.new result }
+    {
+        if paragraph.is_in_hand() {
+            self.forget();
+            return None;
+        }
+        let ready = paragraph.ready();
+        let count = self.first_end(ready.len());
+        if 0 < count {
+            return self.take(count, paragraph.limit());
+        }
+        if MANY < segments || ready.len() < FEW {
+            self.forget();
+            return None;
+        }
+        self.find(known.cells, profile, ready);
+        let count = self.first_end(ready.len());
+        if count == 0 {
+            self.forget();
+            return None;
+        }
+        self.take(count, paragraph.limit())
+    }
+
+    /// Finds the first breaks of the bytes that are ready.
+    fn find<C: CellSource>(&mut self, cells: &C, profile: Profile, ready: &str)
+        requires { length self.old.block ≡ 128 }
+        ensures { IsAhead profile (C.cell_of cells.now) ready.now self.new }
+    {
+        let found = find(cells, profile, ready, START, &mut self.block);
+        self.next = 0;
+        self.left = found.state.count;
+        self.told = 0;
+        self.base = 0;
+    }
+
+    /// How many breaks there are up to the first at which a line must end, or 0 where none of them is such, or it does
+    /// not stand before the byte `len`.
+    #[inline(always)]
+    fn first_end(&self, len: usize) -> usize
+        requires { (found : List Break) × HasAhead self.now found }
+        ensures { (found : List Break) → HasAhead self.now found → 0 < result → EndsFirst found len result }
+    {
+        for k in 0..self.left {
+            let one = break_of(self.block[self.next + k]);
+            if matches!(one.kind, Kind::Must) {
+                if one.at - self.base < len {
+                    return k + 1;
+                }
+                return 0;
+            }
+        }
+        0
+    }
+
+    /// Takes the passage of the first `count` breaks, if it has at most `limit` bytes.
+    #[inline(always)]
+    fn take(&mut self, count: usize, limit: usize) -> Option<Told>
+        requires { (found : List Break) × (len : ℕ) × HasAhead self.old found × EndsFirst found len count }
+        ensures { TakesTold self.old self.new count limit result }
+    {
+        let last = break_of(self.block[self.next + count - 1]);
+        let len = last.at - self.base;
+        if limit < len {
+            self.forget();
+            return None;
+        }
+        self.next += count;
+        self.left -= count;
+        self.told = count;
+        self.base = last.at;
+        Some(Told {
+            len,
+            end: Verdict {
+                kind: last.kind,
+                rule: last.rule,
+            },
+        })
+    }
+
+    /// The breaks of the passage taken last, if it was taken by them.
+    #[inline(always)]
+    pub(crate) fn found(&self) -> &[RawBreak]
+        requires { self.now.told ≤ self.now.next × (self.now.next ≤ length self.now.block) }
+        ensures { result.now ≡ take self.now.told (drop (self.now.next - self.now.told) self.now.block) }
+    {
+        &self.block[self.next - self.told..self.next]
+    }
+
+    /// Where a passage of `len` bytes begins that was taken last, as its breaks count.
+    #[inline(always)]
+    pub(crate) fn start(&self, len: usize) -> usize
+        requires { len ≤ self.now.base }
+        ensures { result ≡ self.now.base - len }
+    {
+        self.base - len
+    }
+}
