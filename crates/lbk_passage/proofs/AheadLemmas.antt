@@ -1,10 +1,9 @@
 -- Breaks of the bytes that are ready, found ahead of the passages that they end.
-use Rattle.std.proofs.Common.{◌≡◌, ℕ, ◌+◌, ◌-◌, ◌<◌, ◌≤◌, ◌||◌, false, All, IfSome, Option, Result, List, [], ◌∷◌, ◌++◌, length, map, drop, take, get_or, None, Some, chars, IsCharBoundary, IsUtf8, refl, sym, ap, subst, ◌∙◌, arith, append_assoc}
+use Rattle.std.proofs.Common.{true, ◌≡◌, ℕ, ◌+◌, ◌-◌, ◌<◌, ◌≤◌, ◌||◌, false, All, IfSome, Option, List, [], ◌∷◌, ◌++◌, length, map, drop, take, get_or, None, Some, chars, IsCharBoundary, IsUtf8, refl, sym, ap, subst, inr, ⊎_elim, ◌∙◌, arith, append_assoc}
 use Rattle.std.proofs.Math.Seq.{get_or-append_seam, take-add}
 use Rattle.std.proofs.lemmas.List.Elements.{All-append, All-cons, All-nil}
 use Rattle.std.specs.List.{take-map}
-use Rattle.std.proofs.lemmas.Str.{chars-nil}
-use Rattle.std.proofs.lemmas.List.{append_cancel_left, drop_more, get_or-drop, get_or-map, get_or-take, length-append, length-drop, length-map, length-take, length-take-le, length_push, map-append, take-append-drop, take_at}
+use Rattle.std.proofs.lemmas.List.{append_cancel_left, drop_more, get_or-drop, get_or-map, get_or-take, length-append, length-drop, length-map, length-take-le, length_push, map-append, take-append-drop, take_at}
 use Rattle.lbk_rules.specs.declared.Break.{Break}
 use Rattle.lbk_rules.specs.declared.Cell.{Cell}
 use Rattle.lbk_rules.specs.declared.Kind.{Kind}
@@ -18,14 +17,14 @@ use Rattle.lbk_bytes.specs.declared.raw_break.RawBreak.{RawBreak}
 use Rattle.lbk_bytes.specs.Order.{AreBreaks, IsBreak, no_break}
 use Rattle.lbk_bytes.specs.Shown.{given_in, raw_of, shown}
 use Rattle.lbk_bytes.proofs.ShownLemmas.{shown-raw}
-use Rattle.lbk_passage.specs.Ahead.{EndsFirst, GivesTold, HasAhead, HasTold, IsAhead, IsSameBut, IsTold, ShowBreaks, TakesBy, TakesTold, Tells}
+use Rattle.lbk_passage.specs.Ahead.{EndsFirst, GivesTold, HasAhead, HasTold, IsAhead, IsTold, KeepsTold, ShowBreaks, TakesBy, TakesTold, Tells, told_in}
+use Rattle.lbk_passage.specs.Cuts.{cut_at}
 use Rattle.lbk_passage.specs.Found.{FindsNext}
 use Rattle.lbk_rules.specs.Marks.{ended, marks}
 use Rattle.lbk_passage.specs.Passages.{is_must}
 use Rattle.lbk_passage.specs.Segments.{segments_of}
 use Rattle.lbk_passage.specs.Stays.{last_class}
 use Rattle.lbk_passage.specs.declared.ahead.Ahead.{Ahead}
-use Rattle.lbk_passage.specs.declared.faults.PassageFault.{PassageFault}
 use Rattle.lbk_passage.specs.declared.found.Progress.{Progress}
 use Rattle.lbk_passage.specs.declared.paragraph.Paragraph.{Paragraph}
 use Rattle.lbk_passage.specs.declared.paragraph.Told.{Told}
@@ -203,6 +202,19 @@ module _ {a : Ahead} (front : List Break) (last : Break) (rest : List Break) (h 
       (record { len = n; end = record { kind = last.kind; rule = last.rule } }) front last rest)
       (sym len) TakesBy-counted)
 
+-- breaks that stand so many bytes further on, moved back
+moved-back : (n : ℕ) (bs : List Break) → map (λ b. record { at = b.at - n; kind = b.kind; rule = b.rule }) (map (moved n) bs) ≡ bs
+moved-back n [] = refl
+moved-back n (b ∷ bs) =
+    let at : n + b.at - n ≡ b.at = omega arith in
+    ap (λ k. record { at = k; kind = b.kind; rule = b.rule } ∷ map (λ b. record { at = b.at - n; kind = b.kind; rule = b.rule }) (map (moved n) bs)) at
+    ∙ ap (λ l. b ∷ l) (moved-back n bs)
+
+told_in-moved : (a : Ahead) (len : ℕ) (found : List Break) → given_in (drop (a.next - a.told) a.block) a.told ≡ map (moved (a.base - len)) found
+    → told_in a len ≡ found
+told_in-moved a len found given =
+    ap (map (λ b. record { at = b.at - (a.base - len); kind = b.kind; rule = b.rule })) given ∙ moved-back (a.base - len) found
+
 -- a passage was taken by breaks, or none was
 module _ (profile : Profile) (cell : ℕ → Cell) (p : Paragraph) (a new : Ahead) (count : ℕ) (utf8 : IsUtf8 p.feed.ready) (fresh : (p.is_held || p.is_spent) ≡ false)
     (h : IsAhead profile cell p.feed.ready a) (e : EndsFirst (take a.left (breaks profile cell (chars p.feed.ready))) (length p.feed.ready) count) where
@@ -270,21 +282,24 @@ module _ (profile : Profile) (cell : ℕ → Cell) (p : Paragraph) (a new : Ahea
 
     has_told : HasTold profile cell (take told.len p.feed.ready) told.end new
     has_told =
+        let found = e.front ++ e.last ∷ [] in
         let base : a.base ≡ new.base - length (take told.len p.feed.ready) = omega (arith, by.base, text_len) in
+        let given = by.given ∙ ap (λ n. map (moved n) found) base in
+        let same : told_in new (length (take told.len p.feed.ready)) ≡ found = told_in-moved new (length (take told.len p.feed.ready)) found given in
         record {
           some = by.some;
-          found = e.front ++ e.last ∷ [];
-          each = by.each;
+          each = shows-breaks (drop (new.next - new.told) new.block) new.told by.each;
           before = omega (arith, by.base, text_len);
-          given = by.given ∙ ap (λ n. map (moved n) (e.front ++ e.last ∷ [])) base;
-          within = subst (λ n. All (λ b. b.at < n + 1) (e.front ++ e.last ∷ [])) (sym text_len) first.cut.within;
-          cut = first.cut.segments ∙ ap (λ v. segments_of (ended v (marks profile cell first.cut.taken))) (sym by.end)
+          given = given ∙ ap (map (moved (new.base - length (take told.len p.feed.ready)))) (sym same);
+          within = subst (All (λ b. b.at < length (take told.len p.feed.ready) + 1)) (sym same)
+              (subst (λ n. All (λ b. b.at < n + 1) found) (sym text_len) first.cut.within);
+          cut = ap (cut_at 0) same ∙ first.cut.segments ∙ ap (λ v. segments_of (ended v (marks profile cell first.cut.taken))) (sym by.end)
               ∙ ap (λ cs. segments_of (ended told.end (marks profile cell cs))) (sym text_chars);
         }
 
-  pub Tells-taken : (r : Option Told) → TakesTold a new count p.limit r → Tells profile cell p new r
-  Tells-taken None is = (λ ready. subst (λ n. IsAhead profile cell ready n) (sym is) (HasAhead-none h), ap (λ n. n.told) is)
-  Tells-taken (Some told) takes = (tells_paragraph told takes, keeps_ahead told takes, has_told told takes)
+  pub Tells-taken : (r : Option Told) (old : Ahead) → TakesTold a new count p.limit r → Tells profile cell p old new r
+  Tells-taken None old is = inr (fresh, λ ready. subst (λ n. IsAhead profile cell ready n) (sym is) (HasAhead-none h), ap (λ n. n.told) is)
+  Tells-taken (Some told) old takes = (tells_paragraph told takes, keeps_ahead told takes, has_told told takes)
 
 -- the breaks of the passage taken last
 pub slice-many : (a : Ahead) → (a.told ≤ a.next) × (a.next ≤ 128) × (length a.block ≡ 128) → length (take a.told (drop (a.next - a.told) a.block)) ≡ a.told
@@ -292,77 +307,49 @@ slice-many a sizes =
     length-take-le a.told (drop (a.next - a.told) a.block)
     (omega (arith, length-drop (a.next - a.told) a.block, sizes.0, sizes.1, sizes.2))
 
--- the block alone is another one, where it has none of a passage
-pub IsSameBut-found : (a : Ahead) (block : List RawBreak) → length block ≡ length a.block → a.told ≡ 0
-    → IsSameBut a (record { block = block; next = a.next; left = a.left; told = a.told; base = a.base })
-IsSameBut-found a block size none =
-    record { size = size; next = refl; left = refl; told = refl; base = refl; block = λ some. absurd (omega (arith, some, none)) }
-
 module _ {profile : Profile} {cell : ℕ → Cell} {text : List ℕ} {end : Verdict} {a : Ahead} (h : HasTold profile cell text end a)
     (sizes : (a.told ≤ a.next) × (a.next ≤ 128) × (length a.block ≡ 128)) where
   pub slice-breaks : AreBreaks (take a.told (drop (a.next - a.told) a.block)) (length (take a.told (drop (a.next - a.told) a.block)))
   slice-breaks k less =
       let below : k < a.told = omega (arith, less, slice-many a sizes) in
-      subst IsBreak (sym (get_or-take a.told (drop (a.next - a.told) a.block) k no_break below)) (h.each k below)
+      subst IsBreak (sym (get_or-take a.told (drop (a.next - a.told) a.block) k no_break below)) (breaks-shown (drop (a.next - a.told) a.block) a.told h.each k below)
 
-  found-told : length h.found ≡ a.told
-  found-told = sym (length-map h.found (moved (a.base - length text))) ∙ sym (ap length h.given)
+  found-told : length (told_in a (length text)) ≡ a.told
+  found-told = sym (length-map (told_in a (length text)) (moved (a.base - length text))) ∙ sym (ap length h.given)
       ∙ length-map (take a.told (drop (a.next - a.told) a.block)) shown ∙ slice-many a sizes
 
   pub slice-near : length text < 4294967296
       → All (λ one. (a.base - length text ≤ one.at) × (one.at < a.base - length text + 4294967296)) (take a.told (drop (a.next - a.told) a.block))
   slice-near few k d less =
       let slice = take a.told (drop (a.next - a.told) a.block) in
-      let there : k < length h.found = omega (arith, less, slice-many a sizes, found-told) in
-      let same : shown (get_or slice k d) ≡ moved (a.base - length text) (get_or h.found k (shown d)) =
+      let there : k < length (told_in a (length text)) = omega (arith, less, slice-many a sizes, found-told) in
+      let same : shown (get_or slice k d) ≡ moved (a.base - length text) (get_or (told_in a (length text)) k (shown d)) =
       sym (get_or-map shown slice k d (shown d) less) ∙ ap (λ bs. get_or bs k (shown d)) h.given
-      ∙ get_or-map (moved (a.base - length text)) h.found k (shown d) (shown d) there in
+      ∙ get_or-map (moved (a.base - length text)) (told_in a (length text)) k (shown d) (shown d) there in
       let at = ap (λ b. b.at) same in
       let near = h.within k (shown d) there in
       (omega (arith, at), omega (arith, at, near, few))
 
   pub lines-many : length (segments_of (ended end (marks profile cell (chars text)))) ≡ length (take a.told (drop (a.next - a.told) a.block))
-  lines-many = sym (ap length h.cut) ∙ length-cut 0 h.found ∙ found-told ∙ sym (slice-many a sizes)
+  lines-many = sym (ap length h.cut) ∙ length-cut 0 (told_in a (length text)) ∙ found-told ∙ sym (slice-many a sizes)
 
--- after the call that filled a paragraph, and the one that cut it into lines
-module _ (profile : Profile) (cell : ℕ → Cell) (p q : Paragraph) (a b : Ahead) where
-  kept-none : a.left ≡ 0 → a.told ≡ 0 → IsSameBut a b → (ready : List ℕ) → IsAhead profile cell ready a → IsAhead profile cell ready b
-  kept-none left told same ready h =
-      let none : b.left ≡ 0 = same.left ∙ left in
-      record {
-        size = same.size ∙ h.size;
-        within = omega (arith, same.next, none, h.within);
-        before = omega (arith, same.told, told);
-        each = λ k less. absurd (omega (arith, less, none));
-        given = ap (given_in (drop b.next b.block)) none ∙ sym (ap (λ n. map (moved b.base) (take n (breaks profile cell (chars ready)))) none);
-      }
+-- after the call that filled a paragraph, or looked for one
+module _ (profile : Profile) (cell : ℕ → Cell) (p q : Paragraph) (old a : Ahead) where
+  pub IsAhead-kept : (r : Option Told) → Tells profile cell p old a r → IfSome r (λ told. GivesTold p q told)
+      → ((p.is_held || p.is_spent) ≡ true → q ≡ p) → IsAhead profile cell p.feed.ready old → IsAhead profile cell q.feed.ready a
+  IsAhead-kept None tells gives same was =
+      ⊎_elim (λ h. subst (λ k. IsAhead profile cell k.feed.ready a) (sym (same h.0)) (subst (IsAhead profile cell p.feed.ready) (sym h.1) was))
+      (λ h. h.1 q.feed.ready) tells
+  IsAhead-kept (Some told) tells gives same was = subst (λ l. IsAhead profile cell l a) (sym gives.ready) tells.1
 
-  kept-some : 0 < a.told → IsSameBut a b → (ready : List ℕ) → IsAhead profile cell ready a → IsAhead profile cell ready b
-  kept-some some same ready h =
-      let block : b.block ≡ a.block = same.block some in
-      record {
-        size = same.size ∙ h.size;
-        within = omega (arith, same.next, same.left, h.within);
-        before = omega (arith, same.next, same.told, h.before);
-        each = λ k less. subst (λ l. ShowBreaks l b.left) (sym (ap (drop b.next) block ∙ ap (λ n. drop n a.block) same.next))
-            (subst (ShowBreaks (drop a.next a.block)) (sym same.left) h.each) k less;
-        given = ap (λ l. given_in (drop b.next l) b.left) block ∙ ap (λ n. given_in (drop n a.block) b.left) same.next
-            ∙ ap (given_in (drop a.next a.block)) same.left ∙ h.given
-            ∙ ap (λ n. map (moved n) (take a.left (breaks profile cell (chars ready)))) (sym same.base)
-            ∙ ap (λ n. map (moved b.base) (take n (breaks profile cell (chars ready)))) (sym same.left);
-      }
-
-  pub IsAhead-kept : (r : Option Told) (answer : Result (Option Verdict) PassageFault) → Tells profile cell p a r → IfSome r (λ told. GivesTold p q told answer)
-      → IsSameBut a b → IsAhead profile cell q.feed.ready b
-  IsAhead-kept None answer tells gives same =
-      let none = tells.0 [] in
-      let left : a.left ≡ 0 = sym (found-many none) ∙ ap (λ cs. length (take a.left (breaks profile cell cs))) chars-nil ∙ no_breaks a.left in
-      kept-none left tells.1 same q.feed.ready (tells.0 q.feed.ready)
-    where
-      no_breaks : (n : ℕ) → length (take n (breaks profile cell [])) ≡ 0
-      no_breaks n = omega (arith, length-take n (breaks profile cell []))
-  IsAhead-kept (Some told) answer tells gives same =
-      kept-some tells.2.some same q.feed.ready (subst (λ l. IsAhead profile cell l a) (sym gives.ready) tells.1)
+  pub KeepsTold-kept : (r : Option Told) → Tells profile cell p old a r → IfSome r (λ told. GivesTold p q told)
+      → ((p.is_held || p.is_spent) ≡ true → q ≡ p) → KeepsTold profile cell p old → KeepsTold profile cell q a
+  KeepsTold-kept None tells gives same was =
+      ⊎_elim (λ h. subst (λ k. KeepsTold profile cell k a) (sym (same h.0)) (subst (KeepsTold profile cell p) (sym h.1) was))
+      (λ h held some. absurd (omega (arith, some, h.2))) tells
+  KeepsTold-kept (Some told) tells gives same was = λ held some end is.
+      let end_is : told.end ≡ end = (let both : Some told.end ≡ Some end = sym gives.end ∙ is in cc) in
+      subst (λ l. HasTold profile cell l end a) (sym gives.text) (subst (λ v. HasTold profile cell (take told.len p.feed.ready) v a) end_is tells.2)
 
 -- nothing was found yet
 pub HasAhead-nothing : (block : List RawBreak) → length block ≡ 128 → HasAhead (record { block = block; next = 0; left = 0; told = 0; base = 0 }) []

@@ -1,5 +1,5 @@
 -- Breaks of the bytes that are ready, found ahead of the passages that they end.
-use Rattle.std.specs.Prelude.{◌≡◌, ℕ, ◌+◌, ◌-◌, ◌<◌, ◌≤◌, ◌||◌, false, true, Some, None, Option, Result, Ok, string_bytes, IsCharBoundary, All, List, [], ◌∷◌, ◌++◌, length, map, drop, take, slice_index_or}
+use Rattle.std.specs.Prelude.{◌≡◌, ◌⊎◌, ℕ, ◌+◌, ◌-◌, ◌<◌, ◌≤◌, ◌||◌, false, true, Some, None, Option, string_bytes, IsCharBoundary, All, List, [], ◌∷◌, ◌++◌, length, map, drop, take, slice_index_or}
 use Rattle.std.specs.Str.{chars}
 use Rattle.lbk_rules.specs.declared.Break.{Break}
 use Rattle.lbk_rules.specs.declared.Cell.{Cell}
@@ -17,7 +17,6 @@ use Rattle.lbk_passage.specs.Passages.{is_must}
 use Rattle.lbk_passage.specs.Segments.{segments_of}
 use Rattle.lbk_passage.specs.Stays.{end_before}
 use Rattle.lbk_passage.specs.declared.ahead.Ahead.{Ahead}
-use Rattle.lbk_passage.specs.declared.faults.PassageFault.{PassageFault}
 use Rattle.lbk_passage.specs.declared.paragraph.Paragraph.{Paragraph}
 use Rattle.lbk_passage.specs.declared.paragraph.Told.{Told}
 use Rattle.lbk_passage.specs.declared.reach.Reach.{Reach}
@@ -62,21 +61,30 @@ pub record IsTold (cell : ℕ → Cell) (p : Paragraph) (told : Told) : Type 0 w
   pub stop : reach.stop ≡ LineEnds
   pub end : Some told.end ≡ end_before reach.last true
 
--- the paragraph told was taken
-pub record GivesTold (old new : Paragraph) (told : Told) (r : Result (Option Verdict) PassageFault) : Type 0 where
-  pub answer : r ≡ Ok (Some told.end)
+-- the paragraph that was told is held
+pub record GivesTold (old new : Paragraph) (told : Told) : Type 0 where
+  pub end : new.end ≡ Some told.end
   pub text : string_bytes new.text ≡ take told.len old.feed.ready
   pub ready : new.feed.ready ≡ drop told.len old.feed.ready
 
--- a block has the breaks of a passage of this text, before those of the bytes that are ready
+-- the breaks that a block has of the passage taken last, as its text of so many bytes counts
+abbrev pub told_in : Ahead → ℕ → List Break
+told_in a len = map (λ b. record { at = b.at - (a.base - len); kind = b.kind; rule = b.rule })
+    (given_in (drop (a.next - a.told) a.block) a.told)
+
+-- they are those of a passage of this text, and stand before those of the bytes that are ready
 pub record HasTold (profile : Profile) (cell : ℕ → Cell) (text : List ℕ) (end : Verdict) (a : Ahead) : Type 0 where
   pub some : 0 < a.told
-  pub found : List Break
-  pub each : AreBreaks (drop (a.next - a.told) a.block) a.told
+  pub each : ShowBreaks (drop (a.next - a.told) a.block) a.told
   pub before : length text ≤ a.base
-  pub given : given_in (drop (a.next - a.told) a.block) a.told ≡ map (moved (a.base - length text)) found
-  pub within : All (λ b. b.at < length text + 1) found
-  pub cut : cut_at 0 found ≡ segments_of (ended end (marks profile cell (chars text)))
+  pub given : given_in (drop (a.next - a.told) a.block) a.told ≡ map (moved (a.base - length text)) (told_in a (length text))
+  pub within : All (λ b. b.at < length text + 1) (told_in a (length text))
+  pub cut : cut_at 0 (told_in a (length text)) ≡ segments_of (ended end (marks profile cell (chars text)))
+
+-- so they are where the paragraph is held, if there are any
+abbrev pub KeepsTold : Profile → (ℕ → Cell) → Paragraph → Ahead → Type 0
+KeepsTold profile cell p a = p.is_held ≡ true → 0 < a.told → (end : Verdict) → p.end ≡ Some end
+    → HasTold profile cell (string_bytes p.text) end a
 
 -- the passage of these breaks was taken
 pub record TakesBy (old new : Ahead) (told : Told) (front : List Break) (last : Break) (rest : List Break) : Type 0 where
@@ -95,17 +103,10 @@ TakesTold old new count limit (Some told) = (told.len ≤ limit)
     × ((front : List Break) (last : Break) (rest : List Break) → HasAhead old (front ++ last ∷ rest)
     → count ≡ length front + 1 → TakesBy old new told front last rest)
 
--- breaks told of a passage at the front of the bytes that are ready, or they told nothing and none is held
-abbrev pub Tells : Profile → (ℕ → Cell) → Paragraph → Ahead → Option Told → Type 0
-Tells profile cell p new None = ((ready : List ℕ) → IsAhead profile cell ready new) × (new.told ≡ 0)
-Tells profile cell p new (Some told) = IsTold cell p told × IsAhead profile cell (drop told.len p.feed.ready) new
+-- breaks told of a passage at the front of the bytes that are ready. Else none is held, but where a paragraph is in hand
+-- already, which leaves all as it was
+abbrev pub Tells : Profile → (ℕ → Cell) → Paragraph → Ahead → Ahead → Option Told → Type 0
+Tells profile cell p old new None = (((p.is_held || p.is_spent) ≡ true) × (new ≡ old))
+    ⊎ (((p.is_held || p.is_spent) ≡ false) × ((ready : List ℕ) → IsAhead profile cell ready new) × (new.told ≡ 0))
+Tells profile cell p old new (Some told) = IsTold cell p told × IsAhead profile cell (drop told.len p.feed.ready) new
     × HasTold profile cell (take told.len p.feed.ready) told.end new
-
--- the same, but for what its block holds
-pub record IsSameBut (old new : Ahead) : Type 0 where
-  pub size : length new.block ≡ length old.block
-  pub next : new.next ≡ old.next
-  pub left : new.left ≡ old.left
-  pub told : new.told ≡ old.told
-  pub base : new.base ≡ old.base
-  pub block : 0 < old.told → new.block ≡ old.block

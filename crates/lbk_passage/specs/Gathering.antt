@@ -61,6 +61,13 @@ pub record Moves (old new : Paragraph) (len : ℕ) : Type 0 where
   pub held : new.is_held ≡ old.is_held
   pub spent : new.is_spent ≡ old.is_spent
 
+-- the first bytes that the feed has ready went to the text, which is then held
+pub record Holds (old new : Paragraph) (len : ℕ) (end : Option Verdict) : Type 0 where
+  pub lends : LendsFront old.feed
+  pub moves : Moves old (record new { is_held = old.is_held }) len
+  pub end_is : new.end ≡ end
+  pub is_held : new.is_held ≡ true
+
 -- the scalars taken went from what the feed holds to the text
 pub record Takes (cell : ℕ → Cell) (last : Option Class) (old new : Paragraph) (r : Reach) : Type 0 where
   pub taken : List ℕ

@@ -10,7 +10,7 @@ use lbk_bytes::RawBreak;
 use lbk_rules::{CellSource, Kind, Profile, Verdict};
 
 /// How many breaks are found at a time.
-pub(crate) const BLOCK: usize = 128;
+const BLOCK: usize = 128;
 
 /// Where fewer bytes are ready, most belong to a passage that does not end among them.
 const FEW: usize = 64;
@@ -21,8 +21,8 @@ const MANY: usize = 48;
 /// Breaks of the bytes that are ready, as many as were found.
 #[derive(Drop)]
 pub(crate) struct Ahead {
-    /// Where breaks are found into. To make it costs as much as some breaks do, so it is kept.
-    pub(crate) block: [RawBreak; BLOCK],
+    /// Where breaks are found into.
+    block: [RawBreak; BLOCK],
     /// The place in the block of the first break of the bytes that are ready.
     next: usize,
     /// How many there are from there on.
@@ -57,7 +57,8 @@ impl Ahead {
     }
 
     /// The passage at the front of the bytes that are ready, where breaks tell that a line must end behind it, before
-    /// the last of these bytes. It passes over the breaks of that passage. `segments`: how many the one before has.
+    /// the last of these bytes, unless the next passage is held already. It passes over the breaks of that passage.
+    /// `segments`: how many the one before has.
     #[inline(always)]
     pub(crate) fn tell<C: CellSource>(
         &mut self,
@@ -67,10 +68,9 @@ impl Ahead {
         segments: usize,
     ) -> Option<Told>
         requires { IsAhead profile (C.cell_of known.now.cells.now) paragraph.now.feed.ready self.old }
-        ensures { Tells profile (C.cell_of known.now.cells.now) paragraph.now self.new result }
+        ensures { Tells profile (C.cell_of known.now.cells.now) paragraph.now self.old self.new result }
     {
         if paragraph.is_in_hand() {
-            self.forget();
             return None;
         }
         let ready = paragraph.ready();

@@ -45,7 +45,7 @@ impl Paragraph {
     ghost use Rattle.lbk_passage.specs.State.{state_with, new_state};
     ghost use Rattle.lbk_passage.specs.Stays.{IsWhole};
     ghost use Rattle.lbk_passage.specs.Gathering.{Asks, Reaches, Takes, Moves, ReadsOn, Settles, Gathering, Gathers, Fills};
-    ghost use Rattle.lbk_passage.specs.Gathering.{IsSame};
+    ghost use Rattle.lbk_passage.specs.Gathering.{Holds, IsSame};
     ghost use Rattle.lbk_passage.specs.Next.{IsDone, IsOpen};
     ghost use Rattle.lbk_passage.specs.Ahead.{GivesTold, IsTold};
     ghost use Rattle.std.specs.Prelude.{◌||◌, IfSome};
@@ -142,7 +142,10 @@ impl Paragraph {
             (R.reads_made reader.new).count result }
         ensures again { (profile : Profile) → IsDone (state_with (C.cell_of known.now.cells.now) profile self.old)
             → self.old.is_spent ≡ false → result ≡ Ok None }
-        ensures told { IfSome told (λ told. GivesTold self.old self.new told result) }
+        ensures told { IfSome told (λ told. GivesTold self.old self.new told) }
+        ensures answers { IfSome told (λ _. result ≡ Ok self.new.end) }
+        ensures in_hand { (self.old.is_held || self.old.is_spent) ≡ true → self.new ≡ self.old }
+        ensures held { OnOk result (self.new.is_held ≡ true) }
     {
         if self.is_spent {
             return Err(PassageFault::Spent);
@@ -152,9 +155,7 @@ impl Paragraph {
         }
         self.text.clear();
         if let Some(told) = told {
-            self.move_up(told.len);
-            self.end = Some(told.end);
-            self.is_held = true;
+            self.hold(told.len, Some(told.end));
             return Ok(self.end);
         }
         let end = self.gather(reader, known)?;
@@ -164,27 +165,49 @@ impl Paragraph {
     }
 
     /// Gathers the paragraph if the bytes that are ready settle it: if a line must end before one of their scalars.
-    /// Returns whether it is held, or a fault was met, so that the next `fill` makes no read.
-    pub fn look_ahead<C: CellSource>(&mut self, known: &KnownCells<'_, C>) -> bool
+    /// Returns whether it is held, or a fault was met, so that the next `fill` makes no read. `told`: the paragraph,
+    /// where it is known already.
+    pub fn look_ahead<C: CellSource>(
+        &mut self,
+        known: &KnownCells<'_, C>,
+        told: Option<Told>,
+    ) -> bool
+        requires told { IfSome told (λ told. IsTold (C.cell_of known.now.cells.now) self.old told) }
         requires whole { self.old.is_held ≡ true → IsWhole (C.cell_of known.now.cells.now) self.old }
         ensures state { (cell : ℕ → Cell) (profile : Profile)
             → state_with cell profile self.new ≡ record (state_with cell profile self.old) { is_settled = result } }
         ensures remains { result ≡ false → (profile : Profile)
             → IsOpen (state_with (C.cell_of known.now.cells.now) profile self.old) }
+        ensures told { IfSome told (λ told. GivesTold self.old self.new told) }
+        ensures in_hand { (self.old.is_held || self.old.is_spent) ≡ true → self.new ≡ self.old }
         ensures whole { self.new.is_held ≡ true → IsWhole (C.cell_of known.now.cells.now) self.new }
     {
         if self.is_held || self.is_spent {
             return true;
         }
         self.text.clear();
+        if let Some(told) = told {
+            self.hold(told.len, Some(told.end));
+            return true;
+        }
         let reach = self.reach(known, None);
         let ReachEnd::LineEnds = reach.stop else {
             return false;
         };
-        self.move_up(reach.len);
-        self.end = end_before(reach.last, true);
-        self.is_held = true;
+        self.hold(reach.len, end_before(reach.last, true));
         true
+    }
+
+    /// Moves the first `len` bytes that are ready to the end of the text, which is then held, with this verdict at its
+    /// end.
+    fn hold(&mut self, len: usize, end: Option<Verdict>)
+        requires place { IsCharBoundary self.old.feed.ready len }
+        requires room { string_len self.old.text + len ≤ self.old.limit }
+        ensures { Holds self.old self.new len end }
+    {
+        self.move_up(len);
+        self.end = end;
+        self.is_held = true;
     }
 
     /// Takes pieces until a line must end before the next scalar, or no text is left.

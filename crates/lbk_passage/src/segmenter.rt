@@ -5,7 +5,7 @@ ghost use Rattle.std.specs.Prelude.{string_bytes, IfOk, IfErr, IfSome, OnOk, IsE
 ghost use Rattle.std.specs.Borrow.{sem};
 ghost use Rattle.std.specs.Io.BufRead.{Rests};
 ghost use Rattle.std.specs.Str.{chars};
-ghost use Rattle.lbk_passage.specs.Ahead.{IsAhead};
+ghost use Rattle.lbk_passage.specs.Ahead.{IsAhead, KeepsTold};
 ghost use Rattle.lbk_passage.specs.Stays.{IsWhole};
 
 use crate::ahead::{Ahead, NOTHING};
@@ -14,7 +14,8 @@ use crate::known::KnownCells;
 use crate::paragraph::Paragraph;
 use crate::passage::{Passage, PassageText, Piece, Segment};
 use crate::pieces::{ENDS, cut_words};
-use crate::segments::cut_lines;
+use crate::segments::{BLOCK, NO_BREAKS, cut_lines};
+use lbk_bytes::RawBreak;
 use lbk_feed::{LIMIT_MAX, Source};
 use lbk_rules::{CellSource, Profile, Verdict};
 use std::alloc::{AllocError, Global};
@@ -38,10 +39,13 @@ pub struct Segmenter<'a, C: CellSource> {
     paragraph: Paragraph,
     /// Breaks that are found ahead of the passages that they end.
     ahead: Ahead,
+    /// Where those of a passage are found into that none was found ahead of.
+    block: [RawBreak; BLOCK],
     /// Where the ends of pieces are found into.
     ends: [usize; ENDS],
     segments: Vec<Segment>,
     pieces: Vec<Piece>,
+    ghost told: { KeepsTold profile (C.cell_of known.cells.now) paragraph ahead },
     ghost found: { IsAhead profile (C.cell_of known.cells.now) paragraph.feed.ready ahead },
     ghost whole: { paragraph.is_held ≡ true → IsWhole (C.cell_of known.cells.now) paragraph },
 }
@@ -79,6 +83,7 @@ impl<'a, C: CellSource> Segmenter<'a, C> {
             profile,
             paragraph,
             ahead: NOTHING,
+            block: NO_BREAKS,
             ends: [0; ENDS],
             segments: Vec::new(alloc),
             pieces: Vec::new(alloc),
@@ -111,9 +116,9 @@ impl<'a, C: CellSource> Segmenter<'a, C> {
             return Ok(None);
         };
         let text = self.paragraph.text();
-        let ahead = &mut self.ahead;
-        let segments = &mut self.segments;
-        if cut_lines(self.known.cells, self.profile, text, end, ahead, segments).is_err() {
+        let (ahead, block) = (&self.ahead, &mut self.block);
+        let (cells, segments) = (self.known.cells, &mut self.segments);
+        if cut_lines(cells, self.profile, text, end, ahead, block, segments).is_err() {
             return Err(PassageFault::Memory);
         }
         let (ends, pieces) = (&mut self.ends, &mut self.pieces);
@@ -184,8 +189,9 @@ impl<'a, C: CellSource> Segmenter<'a, C> {
         ensures remains { result ≡ false → IsOpen (state_of C.cell_of self.old) }
         ensures found { found_by self.new ≡ found_by self.old }
     {
-        self.ahead.forget();
-        self.paragraph.look_ahead(&self.known)
+        let count = self.segments.len();
+        let told = (self.ahead).tell(&self.known, self.profile, &self.paragraph, count);
+        self.paragraph.look_ahead(&self.known, told)
     }
 
     /// The paragraph as a passage.

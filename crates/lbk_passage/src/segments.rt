@@ -6,7 +6,7 @@ ghost use Rattle.std.specs.Str.{chars};
 ghost use Rattle.lbk_rules.specs.declared.Break.{Break};
 ghost use Rattle.lbk_bytes.specs.Order.{AreBreaks};
 ghost use Rattle.lbk_bytes.specs.Shown.{shown};
-ghost use Rattle.lbk_passage.specs.Ahead.{HasTold, IsSameBut};
+ghost use Rattle.lbk_passage.specs.Ahead.{HasTold};
 ghost use Rattle.lbk_rules.specs.Joins.{moved};
 ghost use Rattle.lbk_passage.specs.Breaks.{breaks, is_no};
 ghost use Rattle.lbk_passage.specs.Cuts.{cut_at, ending_by};
@@ -15,28 +15,36 @@ ghost use Rattle.lbk_passage.specs.Room.{Grows};
 ghost use Rattle.lbk_passage.specs.Segments.{segments_of};
 
 use crate::ahead::Ahead;
-use crate::found::{START, break_of, find};
+use crate::found::{NO_BREAK, START, break_of, find};
 use crate::passage::Segment;
 use crate::room::make_room;
 use lbk_bytes::RawBreak;
 use lbk_rules::{CellSource, Kind, Profile, Verdict};
 use std::alloc::AllocError;
 
+/// How many breaks are found at a time.
+pub(crate) const BLOCK: usize = 64;
+
+/// A block that nothing was found into. It is filled again and again, since to make one costs as much as some breaks
+/// do.
+pub(crate) const NO_BREAKS: [RawBreak; BLOCK] = [NO_BREAK; BLOCK];
+
 /// Writes the segments of a passage in place of what the list held: those of its text by itself, the last with the
-/// verdict `end` (UAX #14, section 6). Their breaks are those that the block has of a passage taken last, if it has any;
-/// else they are found into it. Where memory could not grow the list holds some of them.
+/// verdict `end` (UAX #14, section 6). Their breaks are those that were found ahead, if any were; else they are found
+/// into the block. What that held does not matter, and what it holds then is unspecified. Where memory could not grow
+/// the list holds some of them.
 pub fn cut_lines<C: CellSource>(
     cells: &C,
     profile: Profile,
     text: &str,
     end: Verdict,
-    ahead: &mut Ahead,
+    ahead: &Ahead,
+    block: &mut [RawBreak; BLOCK],
     segments: &mut Vec<Segment>,
 ) -> Result<(), AllocError>
     requires few { length text.now < 2 ^ 32 }
-    requires sizes { (ahead.old.told ≤ ahead.old.next) × (ahead.old.next ≤ 128) × (length ahead.old.block ≡ 128) }
-    requires told { 0 < ahead.old.told → HasTold profile (C.cell_of cells.now) text.now end ahead.old }
-    ensures ahead { IsSameBut ahead.old ahead.new }
+    requires sizes { (ahead.now.told ≤ ahead.now.next) × (ahead.now.next ≤ 128) × (length ahead.now.block ≡ 128) }
+    requires told { 0 < ahead.now.told → HasTold profile (C.cell_of cells.now) text.now end ahead.now }
     ensures cut { OnOk result (segments.new.items
         ≡ segments_of (ended end (marks profile (C.cell_of cells.now) (chars text.now)))) }
     ensures room { vec_capacity segments.old ≤ vec_capacity segments.new }
@@ -51,7 +59,7 @@ pub fn cut_lines<C: CellSource>(
         cut_block(found, ahead.start(text.len()), 0, segments)?;
         return Ok(());
     }
-    cut_alone(cells, profile, text, &mut ahead.block, segments)?;
+    cut_alone(cells, profile, text, block, segments)?;
     if let Some(last) = segments.pop() {
         push_ended(segments, last, end);
     }
@@ -79,11 +87,10 @@ fn cut_alone<C: CellSource>(
     cells: &C,
     profile: Profile,
     text: &str,
-    block: &mut [RawBreak],
+    block: &mut [RawBreak; BLOCK],
     segments: &mut Vec<Segment>,
 ) -> Result<(), AllocError>
-    requires few { length text.now < 2 ^ 32 }
-    requires some { 0 < length block.old }
+    requires { length text.now < 2 ^ 32 }
     ensures cut { OnOk result (segments.new.items
         ≡ segments.old.items ++ cut_at 0 (breaks profile (C.cell_of cells.now) (chars text.now))) }
     ensures count { OnOk result (vec_len segments.new

@@ -15,7 +15,7 @@ loop-start-init g c =
     record {
       found = IsFound-start c.args.profile cell c.args.text.now c.utf8.text;
       cut = refl;
-      within = breaks-within 4294967296 c.args.profile cell c.args.text.now c.utf8.text c.requires.few;
+      within = breaks-within 4294967296 c.args.profile cell c.args.text.now c.utf8.text c.requires;
       count = refl;
       grows = Grows-none c.args.segments.now c.args.segments.now refl refl;
     }

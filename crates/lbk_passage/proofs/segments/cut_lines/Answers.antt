@@ -7,9 +7,10 @@ use Rattle.lbk_rules.specs.Joins.{moved}
 use Rattle.lbk_bytes.specs.declared.raw_break.RawBreak.{RawBreak}
 use Rattle.lbk_bytes.specs.Order.{AreBreaks}
 use Rattle.lbk_bytes.specs.Shown.{shown}
+use Rattle.lbk_passage.specs.Ahead.{told_in}
 use Rattle.lbk_passage.specs.declared.ahead.Ahead.{Ahead}
 use Rattle.lbk_passage.specs.Cuts.{cut_at}
-use Rattle.lbk_passage.proofs.AheadLemmas.{IsSameBut-found, lines-many, slice-breaks, slice-many, slice-near}
+use Rattle.lbk_passage.proofs.AheadLemmas.{lines-many, slice-breaks, slice-many, slice-near}
 use Rattle.lbk_passage.proofs.SegmentLemmas.{segments-many, segments-none, segments-replaced}
 use Rattle.lbk_passage.proofs.segments.cut_lines.Goals as goal
 
@@ -41,10 +42,6 @@ some_told : {found : List RawBreak} (a : Ahead) (sizes : (a.told ≤ a.next) × 
     → found ≡ take a.told (drop (a.next - a.told) a.block) → ¬ (length found ≡ 0) → 0 < a.told
 some_told a sizes is some = omega (arith, ap length is, slice-many a sizes, some)
 
-none_told : {found : List RawBreak} (a : Ahead) (sizes : (a.told ≤ a.next) × (a.next ≤ 128) × (length a.block ≡ 128))
-    → found ≡ take a.told (drop (a.next - a.told) a.block) → length found ≡ 0 → a.told ≡ 0
-none_told a sizes is none = omega (arith, ap length is, slice-many a sizes, none)
-
 pub cut_block-requires-clause-breaks : goal.cut_block-requires-clause-breaks
 cut_block-requires-clause-breaks g c =
     let a = c.args.ahead.now in
@@ -71,21 +68,6 @@ pub returns-then-found-ne0-clause-cut : goal.returns-then-found-ne0-clause-cut
 returns-then-found-ne0-clause-cut g c =
     let a = c.args.ahead.now in
     let told = c.requires.told (some_told a c.requires.sizes c.found-found.ensures c.if-found-ne0.true) in
-    let given = ap (map shown) c.found-found.ensures ∙ told.given ∙ ap (λ n. map (moved n) told.found) (sym c.start.ensures) in
-    sym (append-nil c.cut_block.new.segments.items) ∙ c.in_ok-cut_block.ensures.cut told.found [] given
-    ∙ ap (λ l. l ++ cut_at 0 (told.found ++ [])) c.clear.ensures.items ∙ ap (cut_at 0) (append-nil told.found) ∙ told.cut
-
-pub returns-in_err-cut_alone-clause-ahead : goal.returns-in_err-cut_alone-clause-ahead
-returns-in_err-cut_alone-clause-ahead g c =
-    IsSameBut-found c.args.ahead.now c.cut_alone.new.block c.cut_alone.auto.block
-    (none_told c.args.ahead.now c.requires.sizes c.found-found.ensures c.if-found-ne0.false)
-
-pub returns-in-Some-clause-ahead : goal.returns-in-Some-clause-ahead
-returns-in-Some-clause-ahead g c =
-    IsSameBut-found c.args.ahead.now c.cut_alone.new.block c.cut_alone.auto.block
-    (none_told c.args.ahead.now c.requires.sizes c.found-found.ensures c.if-found-ne0.false)
-
-pub returns-in_default-clause-ahead : goal.returns-in_default-clause-ahead
-returns-in_default-clause-ahead g c =
-    IsSameBut-found c.args.ahead.now c.cut_alone.new.block c.cut_alone.auto.block
-    (none_told c.args.ahead.now c.requires.sizes c.found-found.ensures c.if-found-ne0.false)
+    let given = ap (map shown) c.found-found.ensures ∙ told.given ∙ ap (λ n. map (moved n) (told_in a (length c.args.text.now))) (sym c.start.ensures) in
+    sym (append-nil c.cut_block.new.segments.items) ∙ c.in_ok-cut_block.ensures.cut (told_in a (length c.args.text.now)) [] given
+    ∙ ap (λ l. l ++ cut_at 0 ((told_in a (length c.args.text.now)) ++ [])) c.clear.ensures.items ∙ ap (cut_at 0) (append-nil (told_in a (length c.args.text.now))) ∙ told.cut

@@ -13,7 +13,7 @@ returns-then-count-gt0 g c =
     Tells-taken c.args.profile cell p a c.take.new.self c.first_end-count.result (subst IsUtf8 c.ready-ready.ensures c.ready-ready.utf8)
     (sym c.is_in_hand.ensures ∙ c.if-is_in_hand.false) c.requires
     (subst (λ l. EndsFirst all (length l) c.first_end-count.result) c.ready-ready.ensures (c.first_end-count.ensures all c.requires c.if-count-gt0.true))
-    c.take.result (subst (λ n. TakesTold a c.take.new.self c.first_end-count.result n c.take.result) c.limit.ensures c.take.ensures)
+    c.take.result c.args.self.now (subst (λ n. TakesTold a c.take.new.self c.first_end-count.result n c.take.result) c.limit.ensures c.take.ensures)
 
 pub returns : goal.returns
 returns g c =
@@ -26,4 +26,4 @@ returns g c =
     Tells-taken c.args.profile cell p a c.take-2.new.self count (subst IsUtf8 c.ready-ready.ensures c.ready-ready.utf8)
     (sym c.is_in_hand.ensures ∙ c.if-is_in_hand.false) h
     (subst (λ l. EndsFirst all (length l) count) c.ready-ready.ensures (c.first_end-count-2.ensures all h (omega (arith, c.if-count-eq0.false))))
-    c.take-2.result (subst (λ n. TakesTold a c.take-2.new.self count n c.take-2.result) c.limit-2.ensures c.take-2.ensures)
+    c.take-2.result c.args.self.now (subst (λ n. TakesTold a c.take-2.new.self count n c.take-2.result) c.limit-2.ensures c.take-2.ensures)

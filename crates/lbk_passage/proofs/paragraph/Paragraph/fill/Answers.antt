@@ -1,4 +1,4 @@
-use Rattle.std.proofs.Common.{◌||◌, None, Some, Ok, Err, length, refl, sym, ap, ◌∙◌, arith, inr}
+use Rattle.std.proofs.Common.{◌||◌, None, Ok, Err, length, refl, sym, ap, ◌∙◌, arith, inr}
 use Rattle.std.proofs.lemmas.Bool.{false≢true}
 use Rattle.std.proofs.lemmas.Result.{err_from_is_err_and}
 use Rattle.lbk_passage.specs.State.{state_with}
@@ -58,31 +58,31 @@ returns-clause-again g c = λ profile done unspent.
     let fresh = ap (λ b. b || c.args.self.now.is_spent) c.if-self-2.false ∙ c.if-self.false in
     sym c.in_ok-end.was ∙ c.gather.ensures.reads_on.again done.at_end (held_done (g.C.CellSource.cell_of c.args.known.now.cells.now) profile c.args.self.now fresh done)
 
-pub move_up-requires-clause-place : goal.move_up-requires-clause-place
-move_up-requires-clause-place g c = (rw c.in-Some.is at c.requires.told).boundary
+pub hold-requires-clause-place : goal.hold-requires-clause-place
+hold-requires-clause-place g c = (rw c.in-Some.is at c.requires.told).boundary
 
 pub returns-in-Some-clause-fills : goal.returns-in-Some-clause-fills
 returns-in-Some-clause-fills g c = λ profile.
     let cell = g.C.CellSource.cell_of c.args.known.now.cells.now in
     let old = c.args.self.now in
     let told = rw c.in-Some.is at c.requires.told in
-    let takes = Takes-told cell old _ c.move_up.new.self c.in-Some.told told refl refl c.clear.ensures.len c.move_up.ensures.lends c.move_up.ensures.moves in
-    let gathers = Gathers-told cell _ _ _ _ c.move_up.new.self told.reach takes c.clear.ensures.bytes c.if-self-2.false c.if-self.false told.some
-    (Some c.in-Some.told.end) told.stop told.end in
-    Fills-ok cell profile old _ _ _ _ c.move_up.new.self _ _ _ _ (Some c.in-Some.told.end) told.fresh refl refl
-    gathers refl refl refl refl refl c.if-self.false
+    let takes = Takes-told cell old _ _ c.in-Some.told told refl refl c.clear.ensures.len c.hold.ensures.lends c.hold.ensures.moves in
+    let gathers = Gathers-told cell _ _ _ _ _ told.reach takes c.clear.ensures.bytes c.if-self-2.false c.if-self.false told.some
+    c.hold.new.self.end told.stop (c.hold.ensures.end_is ∙ told.end) in
+    Fills-ok cell profile old _ _ _ _ _ c.hold.new.self _ _ _ c.hold.new.self.end told.fresh refl refl
+    gathers refl refl refl refl c.hold.ensures.is_held c.if-self.false
 
 pub returns-in-Some-clause-whole : goal.returns-in-Some-clause-whole
 returns-in-Some-clause-whole g c = λ held.
     let cell = g.C.CellSource.cell_of c.args.known.now.cells.now in
     let told = rw c.in-Some.is at c.requires.told in
-    let takes = Takes-told cell c.args.self.now _ c.move_up.new.self c.in-Some.told told refl refl c.clear.ensures.len c.move_up.ensures.lends c.move_up.ensures.moves in
-    whole_line cell First c.args.self.now told.fresh _ c.clear.ensures.bytes refl refl refl cell c.move_up.new.self told.reach takes
-    (Some c.in-Some.told.end) told.stop told.end
+    let takes = Takes-told cell c.args.self.now _ _ c.in-Some.told told refl refl c.clear.ensures.len c.hold.ensures.lends c.hold.ensures.moves in
+    whole_line cell First c.args.self.now told.fresh _ c.clear.ensures.bytes refl refl refl cell _ told.reach takes
+    c.hold.new.self.end told.stop (c.hold.ensures.end_is ∙ told.end)
 
 pub returns-in-Some-clause-again : goal.returns-in-Some-clause-again
 returns-in-Some-clause-again g c = λ profile done unspent.
     let told = rw c.in-Some.is at c.requires.told in
     let none = held_done (g.C.CellSource.cell_of c.args.known.now.cells.now) profile c.args.self.now told.fresh done in
-    let empty = ready_nil c.args.self.now.feed.ready _ (sym c.move_up.ensures.lends.first ∙ none) in
+    let empty = ready_nil c.args.self.now.feed.ready _ (sym c.hold.ensures.lends.first ∙ none) in
     absurd (omega (arith, ap length empty, told.some))

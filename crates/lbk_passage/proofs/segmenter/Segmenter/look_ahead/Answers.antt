@@ -1,3 +1,4 @@
+use Rattle.lbk_passage.proofs.AheadLemmas.{IsAhead-kept, KeepsTold-kept}
 use Rattle.lbk_passage.proofs.segmenter.Segmenter.look_ahead.Goals as goal
 
 pub returns-clause-state : goal.returns-clause-state
@@ -5,3 +6,15 @@ returns-clause-state g c = c.look_ahead.ensures.state (g.C.CellSource.cell_of c.
 
 pub returns-clause-remains : goal.returns-clause-remains
 returns-clause-remains g c = λ none. c.look_ahead.ensures.remains none c.args.self.now.profile
+
+pub invariant_of-self : goal.invariant_of-self
+invariant_of-self g c =
+    let s = c.args.self.now in
+    let cell = g.C.CellSource.cell_of s.known.cells.now in
+    record {
+      told = KeepsTold-kept s.profile cell s.paragraph c.look_ahead.new.self s.ahead c.tell-told.new.self c.tell-told.result c.tell-told.ensures
+          c.look_ahead.ensures.told c.look_ahead.ensures.in_hand s.told;
+      found = IsAhead-kept s.profile cell s.paragraph c.look_ahead.new.self s.ahead c.tell-told.new.self c.tell-told.result c.tell-told.ensures
+          c.look_ahead.ensures.told c.look_ahead.ensures.in_hand s.found;
+      whole = c.look_ahead.ensures.whole;
+    }

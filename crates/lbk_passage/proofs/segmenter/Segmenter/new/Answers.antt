@@ -1,4 +1,4 @@
-use Rattle.std.proofs.Common.{◌||◌, refl, sym, ap, ◌∙◌}
+use Rattle.std.proofs.Common.{◌||◌, refl, sym, ap, arith, ◌∙◌}
 use Rattle.lbk_passage.proofs.AheadLemmas.{HasAhead-nothing}
 use Rattle.std.proofs.lemmas.Bool.{false≢true}
 use Rattle.lbk_passage.specs.State.{new_state}
@@ -6,6 +6,7 @@ use Rattle.lbk_passage.proofs.segmenter.Segmenter.new.Goals as goal
 
 pub invariant_of-result : goal.invariant_of-result
 invariant_of-result g c = record {
+  told = λ held some. absurd (omega (arith, some));
   found = HasAhead-nothing _ refl;
   whole = λ held. absurd (false≢true (
       sym (ap (λ s. s.is_settled) (c.in-Ok.ensures.state (g.C.CellSource.cell_of c.args.cells.now) c.args.profile))

@@ -10,8 +10,8 @@ use Rattle.lbk_passage.specs.Shown.{found_by}
 use Rattle.lbk_passage.specs.State.{state_with}
 use Rattle.lbk_passage.specs.Gathering.{IsFirst}
 use Rattle.lbk_passage.proofs.Giving.{After-fault, After-lent, After-memory, After-none, Goes-fault, Goes-lent, Goes-none, Goes-some, Keeps-same, lacks_room, most_of, never_memory, no_fault, on_err, on_ok}
-use Rattle.lbk_passage.specs.Ahead.{IsAhead}
-use Rattle.lbk_passage.proofs.AheadLemmas.{IsAhead-kept}
+use Rattle.lbk_passage.specs.Ahead.{HasTold, IsAhead}
+use Rattle.lbk_passage.proofs.AheadLemmas.{IsAhead-kept, KeepsTold-kept}
 use Rattle.lbk_passage.proofs.Taking.{string_len-is}
 use Rattle.lbk_passage.proofs.segmenter.Segmenter.next.Goals as goal
 
@@ -169,26 +169,59 @@ returns g c =
       },
     )
 
+pub cut_lines-requires-clause-told : goal.cut_lines-requires-clause-told
+cut_lines-requires-clause-told g c = λ some.
+    let s = c.args.self.now in
+    let cell = g.C.CellSource.cell_of s.known.cells.now in
+    let kept = KeepsTold-kept s.profile cell s.paragraph c.fill.new.self s.ahead c.tell-told.new.self c.tell-told.result c.tell-told.ensures c.fill.ensures.told
+    c.fill.ensures.in_hand s.told in
+    subst (λ l. HasTold s.profile cell l c.in-Some.end c.tell-told.new.self) (sym c.text-text.ensures.text)
+    (kept c.in_ok-end.ensures.held some c.in-Some.end (sym c.in_ok-end.ensures.end ∙ c.in-Some.is))
+
+pub invariant_of-self : goal.invariant_of-self
+invariant_of-self g c =
+    let s = c.args.self.now in
+    let cell = g.C.CellSource.cell_of s.known.cells.now in
+    record {
+      told = KeepsTold-kept s.profile cell s.paragraph c.fill.new.self s.ahead c.tell-told.new.self c.tell-told.result c.tell-told.ensures c.fill.ensures.told
+          c.fill.ensures.in_hand s.told;
+      found = IsAhead-kept s.profile cell s.paragraph c.fill.new.self s.ahead c.tell-told.new.self c.tell-told.result c.tell-told.ensures c.fill.ensures.told
+          c.fill.ensures.in_hand s.found;
+      whole = c.fill.ensures.whole;
+    }
+
 pub invariant_of-self-then-is_err : goal.invariant_of-self-then-is_err
-invariant_of-self-then-is_err g c = record {
-  found = IsAhead-kept c.args.self.now.profile (g.C.CellSource.cell_of c.args.self.now.known.cells.now) c.args.self.now.paragraph c.fill.new.self
-      c.tell-told.new.self c.cut_lines.new.ahead c.tell-told.result c.fill.result c.tell-told.ensures c.fill.ensures.told c.cut_lines.ensures.ahead;
-  whole = c.fill.ensures.whole;
-}
+invariant_of-self-then-is_err g c =
+    let s = c.args.self.now in
+    let cell = g.C.CellSource.cell_of s.known.cells.now in
+    record {
+      told = KeepsTold-kept s.profile cell s.paragraph c.fill.new.self s.ahead c.tell-told.new.self c.tell-told.result c.tell-told.ensures c.fill.ensures.told
+          c.fill.ensures.in_hand s.told;
+      found = IsAhead-kept s.profile cell s.paragraph c.fill.new.self s.ahead c.tell-told.new.self c.tell-told.result c.tell-told.ensures c.fill.ensures.told
+          c.fill.ensures.in_hand s.found;
+      whole = c.fill.ensures.whole;
+    }
 
 pub invariant_of-self-then-is_err-2 : goal.invariant_of-self-then-is_err-2
-invariant_of-self-then-is_err-2 g c = record {
-  found = IsAhead-kept c.args.self.now.profile (g.C.CellSource.cell_of c.args.self.now.known.cells.now) c.args.self.now.paragraph c.fill.new.self
-      c.tell-told.new.self c.cut_lines.new.ahead c.tell-told.result c.fill.result c.tell-told.ensures c.fill.ensures.told c.cut_lines.ensures.ahead;
-  whole = c.fill.ensures.whole;
-}
+invariant_of-self-then-is_err-2 g c =
+    let s = c.args.self.now in
+    let cell = g.C.CellSource.cell_of s.known.cells.now in
+    record {
+      told = KeepsTold-kept s.profile cell s.paragraph c.fill.new.self s.ahead c.tell-told.new.self c.tell-told.result c.tell-told.ensures c.fill.ensures.told
+          c.fill.ensures.in_hand s.told;
+      found = IsAhead-kept s.profile cell s.paragraph c.fill.new.self s.ahead c.tell-told.new.self c.tell-told.result c.tell-told.ensures c.fill.ensures.told
+          c.fill.ensures.in_hand s.found;
+      whole = c.fill.ensures.whole;
+    }
 
 pub invariant_of-self-2 : goal.invariant_of-self-2
 invariant_of-self-2 g c =
-    let cell = g.C.CellSource.cell_of c.args.self.now.known.cells.now in
+    let s = c.args.self.now in
+    let cell = g.C.CellSource.cell_of s.known.cells.now in
     record {
-      found = subst (λ f. IsAhead c.args.self.now.profile cell f.ready c.cut_lines.new.ahead) (sym c.release.ensures.feed)
-          (IsAhead-kept c.args.self.now.profile (g.C.CellSource.cell_of c.args.self.now.known.cells.now) c.args.self.now.paragraph c.fill.new.self
-          c.tell-told.new.self c.cut_lines.new.ahead c.tell-told.result c.fill.result c.tell-told.ensures c.fill.ensures.told c.cut_lines.ensures.ahead);
+      told = λ held. absurd (let no = sym c.release.ensures.held ∙ held in cc);
+      found = subst (λ f. IsAhead s.profile cell f.ready c.tell-told.new.self) (sym c.release.ensures.feed)
+          (IsAhead-kept s.profile cell s.paragraph c.fill.new.self s.ahead c.tell-told.new.self c.tell-told.result c.tell-told.ensures c.fill.ensures.told
+          c.fill.ensures.in_hand s.found);
       whole = λ held. absurd (let no = sym c.release.ensures.held ∙ held in cc);
     }
