@@ -10,7 +10,7 @@ use crate::steps::{first_row, next_step, step_of_three};
 use lbk_masks::{HalfSets, first_set, kept_below, kept_from};
 
 /// Fewer bytes than this are left to steps.
-const FEW: usize = 16;
+const FEW: usize = 3;
 
 /// The first byte value with which few letters of two bytes begin, or longer ones do.
 const LONG: u8 = 0xDC;
@@ -125,14 +125,31 @@ pub fn ends_from(text: &[u8], start: usize) -> u64
     ends_in(rest)
 }
 
-/// The ends that bits tell of the parts of a text of fewer than 64 bytes, but for the last. They are those of the text
-/// and zeros behind it.
+/// The ends that bits tell of the parts of a text of fewer than 64 bytes, but for the last.
 fn ends_of_few(text: &[u8]) -> u64
     requires { length text.now < 64 }
     ensures { (stop : ℕ) × (stop ≤ length text.now) × AreEnds text.now 0 stop result }
 {
+    if text.len() <= 16 {
+        return ends_up_to::<16>(text);
+    }
+    if text.len() <= 32 {
+        return ends_up_to::<32>(text);
+    }
+    ends_up_to::<BLOCK>(text)
+}
+
+/// The same of a text of N bytes at most: those of the text and zeros behind it. The marks of what is zero whatever the
+/// text are known before the program runs.
+fn ends_up_to<const N: usize>(text: &[u8]) -> u64
+    requires few { length text.now < 64 }
+    requires size { (length text.now ≤ N) × (N ≤ 64) }
+    ensures { (stop : ℕ) × (stop ≤ length text.now) × AreEnds text.now 0 stop result }
+{
+    let mut front = [0; N];
+    front[..text.len()].copy_from_slice(text);
     let mut bytes = [0; BLOCK];
-    bytes[..text.len()].copy_from_slice(text);
+    bytes[..N].copy_from_slice(&front);
     kept_below(ends_in(&bytes), text.len())
 }
 
