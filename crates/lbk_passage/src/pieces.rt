@@ -1,7 +1,8 @@
 //! The pieces of a passage.
 
 ghost use Rattle.std.specs.Prelude.{◌≡◌, ℕ, ◌+◌, ◌*◌, ◌<◌, ◌≤◌, ◌^◌, Bool, drop, length, max, vec_capacity, vec_len};
-ghost use Rattle.std.specs.Prelude.{IfOk, IsUtf8, OnErr, OnOk};
+ghost use Rattle.std.specs.Prelude.{[], ◌∷◌, IfOk, IsUtf8, OnErr, OnOk};
+ghost use Rattle.std.specs.Str.{chars};
 ghost use Rattle.lbk_passage.specs.Pieces.{CutsOn, IsCutOn, is_word, pieces_of};
 ghost use Rattle.lbk_words.specs.Ends.{AreParts, AreTold};
 ghost use Rattle.lbk_words.specs.Places.{IsFirstPiece};
@@ -167,5 +168,21 @@ fn is_word<C: CellSource>(known: &KnownCells<'_, C>, piece: &str) -> bool
     if bytes.len() <= 1 + usize::from(letter) * ANY_LENGTH {
         return letter;
     }
+    // Most pieces of Japanese and Chinese are one scalar of three bytes.
+    if bytes.len() == 3 && 0xE0 <= bytes[0] && bytes[0] < 0xF0 {
+        return is_letter(known, piece);
+    }
     piece.chars().any(|c| known.cells.cell(c).letter)
+}
+
+/// Whether a piece of one scalar is a letter or a number.
+#[inline(always)]
+fn is_letter<C: CellSource>(known: &KnownCells<'_, C>, piece: &str) -> bool
+    requires one { (code : ℕ) × (chars piece.now ≡ code ∷ []) }
+    ensures { result ≡ is_word (C.cell_of known.now.cells.now) piece.now }
+{
+    match piece.chars().next() {
+        Some(c) => known.cells.cell(c).letter,
+        None => false,
+    }
 }

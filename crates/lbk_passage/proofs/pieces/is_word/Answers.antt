@@ -1,6 +1,6 @@
-use Rattle.std.proofs.Common.{◌≡◌, ◌<◌, false, length, slice_index_or, rules, ap, ◌∙◌, arith}
+use Rattle.std.proofs.Common.{◌≡◌, ℕ, ◌<◌, List, false, length, slice_index, slice_index_or, rules, ap, ◌∙◌, arith}
 use Rattle.std.specs.Int.{from_bool}
-use Rattle.lbk_passage.proofs.Letters.{letter-told}
+use Rattle.lbk_passage.proofs.Letters.{letter-told, one-of-three}
 use Rattle.lbk_passage.proofs.pieces.is_word.Goals as goal
 
 pub returns-then-bytes-from : goal.returns-then-bytes-from
@@ -18,3 +18,11 @@ returns-then-bytes-from g c =
     (λ off.
     let none : c.from.result ≡ 0 = c.from.ensures ∙ ap from_bool (told ∙ off) in
     omega (arith, none, ap length same, c.if-bytes-from.true, some))
+
+pub is_letter-requires : goal.is_letter-requires
+is_letter-requires g c =
+    let same = c.as_bytes-bytes.ensures.value in
+    let first = ap (λ (bytes : List ℕ). slice_index bytes 0) same in
+    record {
+      one = one-of-three c.args.piece.now (omega (arith, ap length same, c.if-bytes-eq3.true)) (omega (arith, first, c.if-bytes-ge224.true)) (omega (arith, first, c.if-bytes-lt240.true));
+    }
