@@ -5,7 +5,7 @@ use Rattle.std.proofs.lemmas.Str.{IsCharBoundary-start, char_from_byte, length-e
 use Rattle.lbk_rules.specs.declared.Cell.{Cell}
 use Rattle.lbk_rules.specs.Ends.{ends_line}
 use Rattle.lbk_rules.specs.FirstBytes.{AreQuiet, first_byte}
-use Rattle.lbk_passage.specs.Flags.{AreLettersTo}
+use Rattle.lbk_passage.specs.Flags.{AreLettersTo, length_told}
 use Rattle.lbk_passage.proofs.Finding.{IsUtf8-scalar}
 
 pub some_bytes : (c : ℕ) → 0 < length (encode_utf8 c)
@@ -48,16 +48,16 @@ later-more quiet byte within before k from to = elim (cases_eq k byte) [
 ]
 
 -- one more scalar of one byte told by its own cell
-pub AreLetters-more : (cell : ℕ → Cell) (letters : List Bool) (byte : ℕ) → byte < length letters → AreLettersTo byte cell letters
-    → AreLettersTo (byte + 1) cell (set letters byte (cell byte).letter)
-AreLetters-more cell letters byte within are =
-    let flag = (cell byte).letter in
+pub AreLetters-more : (cell : ℕ → Cell) (lengths : List ℕ) (byte : ℕ) → byte < length lengths → AreLettersTo byte cell lengths
+    → AreLettersTo (byte + 1) cell (set lengths byte (length_told (cell byte).letter))
+AreLetters-more cell lengths byte within are =
+    let told = length_told (cell byte).letter in
     record {
       told = λ k below. elim (cases_eq k byte) [
-        | inl same ↦ ap (λ j. slice_index_or (set letters byte flag) j false) same ∙ get_or-set_same letters byte flag false within
-            ∙ ap (λ j. (cell j).letter) (sym same)
-        | inr other ↦ get_or-set_other letters byte k flag false other ∙ are.told k (omega (arith, other, below))
+        | inl same ↦ ap (λ j. slice_index_or (set lengths byte told) j 0) same ∙ get_or-set_same lengths byte told 0 within
+            ∙ ap (λ j. length_told (cell j).letter) (sym same)
+        | inr other ↦ get_or-set_other lengths byte k told 0 other ∙ are.told k (omega (arith, other, below))
       ];
-      others = λ k above below. get_or-set_other letters byte k flag false (λ same. let impossible : ⊥ = omega (arith, same, above) in impossible)
+      others = λ k above below. get_or-set_other lengths byte k told 0 (λ same. let impossible : ⊥ = omega (arith, same, above) in impossible)
           ∙ are.others k (omega (arith, above)) below;
     }

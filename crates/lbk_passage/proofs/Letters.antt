@@ -1,5 +1,5 @@
 -- What the first byte of a piece tells of whether it holds a letter or a number.
-use Rattle.std.proofs.Common.{◌≡◌, ℕ, ◌+◌, ◌-◌, ◌*◌, ◌<◌, ◌≤◌, Bool, true, false, ◌||◌, List, [], ◌∷◌, length, drop, slice_index_or, encode_utf8, encode_utf8_all, IsUtf8, inl, inr, refl, sym, ap, ◌∙◌, arith, length-append}
+use Rattle.std.proofs.Common.{◌≡◌, ℕ, ◌+◌, ◌-◌, ◌*◌, ◌<◌, ◌≤◌, Bool, true, false, ◌||◌, nat_lt, List, [], ◌∷◌, length, drop, slice_index_or, encode_utf8, encode_utf8_all, IsUtf8, inl, inr, refl, sym, ap, ◌∙◌, arith, length-append}
 use Rattle.std.specs.Char.{len_utf8}
 use Rattle.std.specs.List.{list_any}
 use Rattle.std.specs.Str.{chars}
@@ -8,7 +8,7 @@ use Rattle.std.proofs.lemmas.Bool.Decides.{nat_tests}
 use Rattle.std.proofs.Math.ListN.{drop_of_length-le}
 use Rattle.std.proofs.lemmas.Str.{byte_from_char, chars-nil, encodes-chars, length-encode}
 use Rattle.lbk_rules.specs.declared.Cell.{Cell}
-use Rattle.lbk_passage.specs.Flags.{AreLetters}
+use Rattle.lbk_passage.specs.Flags.{AreLetters, length_told}
 use Rattle.lbk_passage.specs.Pieces.{is_word}
 use Rattle.lbk_passage.proofs.Passing.{chars-byte}
 
@@ -38,15 +38,15 @@ one-of-three (a ∷ []) three low high = let impossible : ⊥ = omega (arith, th
 one-of-three (a ∷ b ∷ []) three low high = let impossible : ⊥ = omega (arith, three) in absurd impossible
 one-of-three (a ∷ b ∷ c ∷ d ∷ rest) three low high = let impossible : ⊥ = omega (arith, three) in absurd impossible
 
--- the flag of the first byte tells, where it is true or the byte is all of the piece
-pub letter-told : (cell : ℕ → Cell) (letters : List Bool) (piece : List ℕ) → IsUtf8 piece → AreLetters cell letters → 0 < length piece
+-- the first byte tells of a piece that is no longer than the length told
+pub letter-told : (cell : ℕ → Cell) (lengths : List ℕ) (piece : List ℕ) → IsUtf8 piece → AreLetters cell lengths → 0 < length piece
     → slice_index_or piece 0 0 < 256
-    → (slice_index_or letters (slice_index_or piece 0 0) false ≡ false → length piece ≡ 1)
-    → slice_index_or letters (slice_index_or piece 0 0) false ≡ is_word cell piece
-letter-told cell letters piece utf8 are some few alone = elim (cases_lt byte 128) [
-  | inl low ↦ go low flag refl
+    → length piece ≤ slice_index_or lengths (slice_index_or piece 0 0) 0
+    → nat_lt 1 (slice_index_or lengths (slice_index_or piece 0 0) 0) ≡ is_word cell piece
+letter-told cell lengths piece utf8 are some few short = elim (cases_lt byte 128) [
+  | inl low ↦ go low (cell byte).letter refl
   | inr high ↦
-      let only = one-ascii piece utf8 (alone (are.others byte high few)) in
+      let only = one-ascii piece utf8 (omega (arith, are.others byte high few, short, some)) in
       let impossible : ⊥ = omega (arith, high, only) in
       absurd impossible
 ]
@@ -54,8 +54,8 @@ letter-told cell letters piece utf8 are some few alone = elim (cases_lt byte 128
     byte : ℕ
     byte = slice_index_or piece 0 0
 
-    flag : Bool
-    flag = slice_index_or letters byte false
+    told : ℕ
+    told = slice_index_or lengths byte 0
 
     rest : Bool
     rest = list_any (λ c. (cell c).letter) (chars (drop 1 piece))
@@ -63,10 +63,11 @@ letter-told cell letters piece utf8 are some few alone = elim (cases_lt byte 128
     any : byte < 128 → (cell byte).letter || rest ≡ is_word cell piece
     any low = sym (ap (list_any (λ c. (cell c).letter)) (chars-byte piece utf8 some low))
 
-    go : byte < 128 → (b : Bool) → flag ≡ b → flag ≡ is_word cell piece
-    go low true is = is ∙ ap (λ l. l || rest) (sym (sym (are.told byte low) ∙ is)) ∙ any low
+    go : byte < 128 → (b : Bool) → (cell byte).letter ≡ b → nat_lt 1 told ≡ is_word cell piece
+    go low true is = ap (nat_lt 1) (are.told byte low ∙ ap length_told is) ∙ sym (ap (λ l. l || rest) is) ∙ any low
     go low false is =
-        let short : length piece ≤ 1 = omega (arith, alone is) in
+        let one : told ≡ 1 = are.told byte low ∙ ap length_told is in
+        let alone : length piece ≤ 1 = omega (arith, one, short) in
         let none : rest ≡ false =
-        ap (λ l. list_any (λ c. (cell c).letter) (chars l)) (drop_of_length-le piece short) ∙ ap (list_any (λ c. (cell c).letter)) chars-nil in
-        is ∙ sym (ap (λ l. l || rest) (sym (are.told byte low) ∙ is) ∙ none) ∙ any low
+        ap (λ l. list_any (λ c. (cell c).letter) (chars l)) (drop_of_length-le piece alone) ∙ ap (list_any (λ c. (cell c).letter)) chars-nil in
+        ap (nat_lt 1) one ∙ sym (ap (λ l. l || rest) is ∙ none) ∙ any low

@@ -19,14 +19,19 @@ abbrev pub ArePassed : List Bool → List ℕ → ℕ → ℕ → Type 0
 ArePassed is_quiet bytes start end = (k : ℕ) → start ≤ k → k < end
     → slice_index_or is_quiet (slice_index_or bytes k 0) false ≡ true
 
--- each byte below `count` has true in the list exactly if it is a letter or a number, and the others have false
-pub record AreLettersTo (count : ℕ) (cell : ℕ → Cell) (is_letter : List Bool) : Type 0 where
-  pub told : (byte : ℕ) → byte < count → slice_index_or is_letter byte false ≡ (cell byte).letter
-  pub others : (byte : ℕ) → count ≤ byte → byte < 256 → slice_index_or is_letter byte false ≡ false
+-- up to which length the first byte tells of a piece whether it is a word: any where the byte is a letter or a number
+abbrev pub length_told : Bool → ℕ
+length_told true = 4294967295
+length_told false = 1
+
+-- each byte below `count` has in the list the length that it tells of as a scalar, and each other has 1
+pub record AreLettersTo (count : ℕ) (cell : ℕ → Cell) (lengths : List ℕ) : Type 0 where
+  pub told : (byte : ℕ) → byte < count → slice_index_or lengths byte 0 ≡ length_told (cell byte).letter
+  pub others : (byte : ℕ) → count ≤ byte → byte < 256 → slice_index_or lengths byte 0 ≡ 1
 
 -- so it is for the bytes that are scalars by themselves
-abbrev pub AreLetters : (ℕ → Cell) → List Bool → Type 0
-AreLetters cell is_letter = AreLettersTo 128 cell is_letter
+abbrev pub AreLetters : (ℕ → Cell) → List ℕ → Type 0
+AreLetters cell lengths = AreLettersTo 128 cell lengths
 
 -- a line must end behind a scalar of this class, whatever comes, but for a line feed
 abbrev pub is_end : Option Class → Bool

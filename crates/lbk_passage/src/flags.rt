@@ -1,7 +1,7 @@
 //! What bytes tell of the scalars that they belong to.
 
 ghost use Rattle.std.specs.Prelude.{◌≡◌, ◌+◌, ◌<◌, ◌≤◌, true, false, length, slice_index_or};
-ghost use Rattle.lbk_passage.specs.Flags.{AreLetters, AreQuiet, ArePassed};
+ghost use Rattle.lbk_passage.specs.Flags.{AreLetters, AreQuiet, ArePassed, length_told};
 
 use lbk_rules::CellSource;
 
@@ -14,29 +14,33 @@ const FIRST: u8 = 0xC0;
 /// How many bytes are examined in one turn.
 const TURN: usize = 8;
 
+/// More bytes than a piece has.
+const ANY_LENGTH: u32 = u32::MAX;
+
 /// For each byte what it tells of its scalar. Most bytes of most texts tell enough, by one read.
 #[derive(Drop)]
 pub struct ByteFlags {
     /// Whether it continues a scalar, or a line must end after no scalar that begins with it. False is right of each of
     /// the latter, too, and only slower: no contract says how many there are.
     is_quiet: [bool; 256],
-    /// Whether it is a scalar by itself, and a letter or a number.
-    is_letter: [bool; 256],
+    /// Up to which length a piece that begins with it is a word exactly if the byte is a letter or a number: one byte,
+    /// or any length where it is. So one comparison tells both, and what the piece is.
+    lengths_told: [u32; 256],
 }
 
 impl ByteFlags {
     /// Those of the cells of a source.
     pub fn of<C: CellSource>(cells: &C) -> ByteFlags
         ensures quiet { AreQuiet (C.cell_of cells.now) result.is_quiet }
-        ensures letters { AreLetters (C.cell_of cells.now) result.is_letter }
+        ensures letters { AreLetters (C.cell_of cells.now) result.lengths_told }
     {
         let mut is_quiet = cells.quiet_first_bytes();
-        let mut is_letter = [false; 256];
+        let mut lengths_told = [1; 256];
         let mut byte = 0u8;
         while byte < ASCII {
             let cell = cells.cell(char::from(byte));
             is_quiet[usize::from(byte)] = !cell.class.ends_line();
-            is_letter[usize::from(byte)] = cell.letter;
+            lengths_told[usize::from(byte)] = length_told(cell.letter);
             byte += 1;
         }
         while byte < FIRST {
@@ -45,7 +49,7 @@ impl ByteFlags {
         }
         ByteFlags {
             is_quiet,
-            is_letter,
+            lengths_told,
         }
     }
 
@@ -89,11 +93,19 @@ impl ByteFlags {
         self.is_quiet[usize::from(byte)]
     }
 
-    /// Whether a byte is a scalar that is a letter or a number.
+    /// Up to which length this byte tells of a piece that begins with it whether it is a word. It is one exactly if the
+    /// length told is above 1.
     #[inline(always)]
-    pub fn is_letter(&self, byte: u8) -> bool
-        ensures { result ≡ slice_index_or self.now.is_letter byte false }
+    pub fn length_told(&self, byte: u8) -> u32
+        ensures { result ≡ slice_index_or self.now.lengths_told byte 0 }
     {
-        self.is_letter[usize::from(byte)]
+        self.lengths_told[usize::from(byte)]
     }
+}
+
+/// Up to which length a scalar of one byte tells of a piece that begins with it whether it is a word.
+fn length_told(is_letter: bool) -> u32
+    ensures { result ≡ length_told is_letter }
+{
+    if is_letter { ANY_LENGTH } else { 1 }
 }

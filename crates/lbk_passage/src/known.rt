@@ -12,7 +12,7 @@ pub struct KnownCells<'a, C: CellSource> {
     pub(crate) cells: &'a C,
     pub(crate) flags: ByteFlags,
     ghost quiet: { AreQuiet (C.cell_of cells.now) flags.is_quiet },
-    ghost letters: { AreLetters (C.cell_of cells.now) flags.is_letter },
+    ghost letters: { AreLetters (C.cell_of cells.now) flags.lengths_told },
 }
 
 impl<'a, C: CellSource> KnownCells<'a, C> {

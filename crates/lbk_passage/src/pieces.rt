@@ -18,9 +18,6 @@ use std::alloc::AllocError;
 /// How many ends of pieces are found at a time.
 pub(crate) const ENDS: usize = 64;
 
-/// More bytes than a piece has.
-const ANY_LENGTH: usize = 1 << 32;
-
 /// Writes the pieces of a text in place of what the list held (UAX #29, section 4). What the block held does not
 /// matter, and what it holds then is unspecified. Where memory could not grow the list holds some of them.
 pub fn cut_words<C: CellSource>(
@@ -164,9 +161,9 @@ fn is_word<C: CellSource>(known: &KnownCells<'_, C>, piece: &str) -> bool
     ensures { result ≡ is_word (C.cell_of known.now.cells.now) piece.now }
 {
     let bytes = piece.as_bytes();
-    let letter = known.flags.is_letter(bytes[0]);
-    if bytes.len() <= 1 + usize::from(letter) * ANY_LENGTH {
-        return letter;
+    let told = known.flags.length_told(bytes[0]);
+    if bytes.len() <= told as usize {
+        return 1 < told;
     }
     // Most pieces of Japanese and Chinese are one scalar of three bytes.
     if bytes.len() == 3 && 0xE0 <= bytes[0] && bytes[0] < 0xF0 {

@@ -6,9 +6,9 @@ use Rattle.lbk_passage.proofs.flags.ByteFlags.of.Given as goal
 abbrev pub invariant-loop-byte : goal.invariant-loop-byte
 invariant-loop-byte g l = record {
   quiet : AreQuiet (g.C.CellSource.cell_of l.cells) l.is_quiet;
-  letters : AreLettersTo l.byte (g.C.CellSource.cell_of l.cells) l.is_letter;
+  letters : AreLettersTo l.byte (g.C.CellSource.cell_of l.cells) l.lengths_told;
   quiet_len : length l.is_quiet ≡ 256;
-  letters_len : length l.is_letter ≡ 256;
+  lengths_len : length l.lengths_told ≡ 256;
   within : l.byte ≤ 128;
 }
 
