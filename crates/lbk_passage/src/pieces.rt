@@ -18,6 +18,12 @@ use std::alloc::AllocError;
 /// How many ends of pieces are found at a time.
 pub(crate) const ENDS: usize = 64;
 
+/// The first byte value with which scalars of three bytes begin.
+const THREES: u8 = 0xE0;
+
+/// The first byte value with which scalars of four bytes begin.
+const FOURS: u8 = 0xF0;
+
 /// Writes the pieces of a text in place of what the list held (UAX #29, section 4). What the block held does not
 /// matter, and what it holds then is unspecified. Where memory could not grow the list holds some of them.
 pub fn cut_words<C: CellSource>(
@@ -166,7 +172,7 @@ fn is_word<C: CellSource>(known: &KnownCells<'_, C>, piece: &str) -> bool
         return 1 < told;
     }
     // Most pieces of Japanese and Chinese are one scalar of three bytes.
-    if bytes.len() == 3 && 0xE0 <= bytes[0] && bytes[0] < 0xF0 {
+    if bytes.len() == 3 && THREES <= bytes[0] && bytes[0] < FOURS {
         return is_letter(known, piece);
     }
     piece.chars().any(|c| known.cells.cell(c).letter)

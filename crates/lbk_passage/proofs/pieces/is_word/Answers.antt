@@ -20,5 +20,5 @@ is_letter-requires g c =
     let same = c.as_bytes-bytes.ensures.value in
     let first = ap (λ (bytes : List ℕ). slice_index bytes 0) same in
     record {
-      one = one-of-three c.args.piece.now (omega (arith, ap length same, c.if-bytes-eq3.true)) (omega (arith, first, c.if-bytes-ge224.true)) (omega (arith, first, c.if-bytes-lt240.true));
+      one = one-of-three c.args.piece.now (omega (arith, ap length same, c.if-bytes-eq3.true)) (omega (arith, first, c.if-bytes-ge-THREES.true)) (omega (arith, first, c.if-bytes-lt-FOURS.true));
     }
