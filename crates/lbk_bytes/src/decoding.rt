@@ -1,6 +1,6 @@
 //! Scalars and ill-formed bytes, read without a call.
 
-ghost use Rattle.std.specs.Prelude.{◌≡◌, ◌<◌, ◌≤◌, ◌⊎◌, true, length, IfSome};
+ghost use Rattle.std.specs.Prelude.{◌≡◌, ◌+◌, ◌*◌, ◌<◌, ◌≤◌, ◌⊎◌, true, length, IfSome};
 ghost use Rattle.bstr.specs.Utf8.{code_of_2, code_of_3, code_of_4, continues, decoded, good, or_replacement, second};
 ghost use Rattle.lbk_bytes.specs.Widths.{longer_by, more_of};
 
@@ -64,30 +64,31 @@ pub(crate) fn scalar_of(width: Width, bytes: &[u8]) -> Option<Scalar>
         }
         Width::Three => {
             let (next, last) = (bytes[1], bytes[2]);
-            if first < 0xE0 || 0xEF < first || !is_continuation(next) || !is_continuation(last) {
+            if !is_continuation(next) || !is_continuation(last) {
                 return None;
             }
-            let code = code_of_three(first, next, last);
-            if !takes_three(code) {
+            let spelled = joined(joined(u32::from(first), next), last);
+            if !takes_three(spelled) {
                 return None;
             }
-            Some(Scalar { code, size: 3 })
+            Some(Scalar {
+                code: spelled - MARKS_OF_THREE,
+                size: 3,
+            })
         }
         Width::Four => {
             let (next, third, last) = (bytes[1], bytes[2], bytes[3]);
-            if first < 0xF0
-                || 0xF4 < first
-                || !is_continuation(next)
-                || !is_continuation(third)
-                || !is_continuation(last)
-            {
+            if !is_continuation(next) || !is_continuation(third) || !is_continuation(last) {
                 return None;
             }
-            let code = code_of_four(first, next, third, last);
-            if !takes_four(code) {
+            let spelled = joined(joined(joined(u32::from(first), next), third), last);
+            if !takes_four(spelled) {
                 return None;
             }
-            Some(Scalar { code, size: 4 })
+            Some(Scalar {
+                code: spelled - MARKS_OF_FOUR,
+                size: 4,
+            })
         }
     }
 }
@@ -187,20 +188,38 @@ fn is_continuation(byte: u8) -> bool
     0x7F < byte && byte < 0xC0
 }
 
-/// Whether a scalar that three bytes spell takes three: it is of no fewer, and no surrogate.
+/// What three bytes that spell a scalar are more than its code, once they are joined.
+const MARKS_OF_THREE: u32 = 0xE_2080;
+
+/// The same of four bytes.
+const MARKS_OF_FOUR: u32 = 0x3C8_2080;
+
+/// A number with the bits of one byte more of a scalar behind it.
 #[inline(always)]
-fn takes_three(code: u32) -> bool
-    ensures { result ≡ true → (0x800 ≤ code) × (code < 0xD800 ⊎ 0xE000 ≤ code) }
+fn joined(before: u32, byte: u8) -> u32
+    requires { before < 0x100_0000 }
+    ensures { result ≡ before * 64 + byte }
 {
-    (0x7FF < code && code < 0xD800) || 0xDFFF < code
+    before * 64 + u32::from(byte)
 }
 
-/// Whether a scalar that four bytes spell takes four: it is of no fewer, and a code.
+/// Whether three joined bytes spell a scalar that takes three: it is of no fewer, and no surrogate. Then the first of
+/// them begins one of three.
 #[inline(always)]
-fn takes_four(code: u32) -> bool
-    ensures { result ≡ true → (0x1_0000 ≤ code) × (code < 0x11_0000) }
+fn takes_three(spelled: u32) -> bool
+    ensures { result ≡ true → (0xE_2880 ≤ spelled) × (spelled < 0xF_2080)
+        × (spelled < 0xE_F880 ⊎ 0xF_0080 ≤ spelled) }
 {
-    0xFFFF < code && code < 0x11_0000
+    0xE_287F < spelled && spelled < 0xF_2080 && (spelled < 0xE_F880 || 0xF_007F < spelled)
+}
+
+/// Whether four joined bytes spell a scalar that takes four: it is of no fewer, and a code. Then the first of them
+/// begins one of four.
+#[inline(always)]
+fn takes_four(spelled: u32) -> bool
+    ensures { result ≡ true → (0x3C9_2080 ≤ spelled) × (spelled < 0x3D9_2080) }
+{
+    0x3C9_207F < spelled && spelled < 0x3D9_2080
 }
 
 #[inline(always)]
