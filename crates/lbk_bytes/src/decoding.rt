@@ -78,7 +78,11 @@ pub(crate) fn scalar_of(width: Width, bytes: &[u8]) -> Option<Scalar>
         }
         Width::Four => {
             let (next, third, last) = (bytes[1], bytes[2], bytes[3]);
-            if !is_continuation(next) || !is_continuation(third) || !is_continuation(last) {
+            if first < 0xF0
+                || !is_continuation(next)
+                || !is_continuation(third)
+                || !is_continuation(last)
+            {
                 return None;
             }
             let spelled = joined(joined(joined(u32::from(first), next), third), last);
@@ -188,10 +192,10 @@ fn is_continuation(byte: u8) -> bool
     0x7F < byte && byte < 0xC0
 }
 
-/// What three bytes that spell a scalar are more than its code, once they are joined.
+/// What three joined bytes that spell a scalar are more than its code: the joined E0 80 80.
 const MARKS_OF_THREE: u32 = 0xE_2080;
 
-/// The same of four bytes.
+/// The same of four bytes, the joined F0 80 80 80.
 const MARKS_OF_FOUR: u32 = 0x3C8_2080;
 
 /// A number with the bits of one byte more of a scalar behind it.
@@ -203,8 +207,8 @@ fn joined(before: u32, byte: u8) -> u32
     before * 64 + u32::from(byte)
 }
 
-/// Whether three joined bytes spell a scalar that takes three: it is of no fewer, and no surrogate. Then the first of
-/// them begins one of three.
+/// Whether three joined bytes spell a scalar that takes three: it is of no fewer and no more, and no surrogate. The
+/// bounds are those of its code, and `MARKS_OF_THREE` more. So the first byte need not be looked at.
 #[inline(always)]
 fn takes_three(spelled: u32) -> bool
     ensures { result ≡ true → (0xE_2880 ≤ spelled) × (spelled < 0xF_2080)
@@ -213,8 +217,8 @@ fn takes_three(spelled: u32) -> bool
     0xE_287F < spelled && spelled < 0xF_2080 && (spelled < 0xE_F880 || 0xF_007F < spelled)
 }
 
-/// Whether four joined bytes spell a scalar that takes four: it is of no fewer, and a code. Then the first of them
-/// begins one of four.
+/// Whether four joined bytes spell a scalar that takes four: it is of no fewer, and a code. So the first byte is none
+/// above F4.
 #[inline(always)]
 fn takes_four(spelled: u32) -> bool
     ensures { result ≡ true → (0x3C9_2080 ≤ spelled) × (spelled < 0x3D9_2080) }
