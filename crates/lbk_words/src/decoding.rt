@@ -16,25 +16,19 @@ pub(crate) struct Coded {
 pub(crate) fn scalar_of_few(bytes: &[u8]) -> Option<Coded>
     ensures { IfSome result (λ scalar. decoded bytes.now ≡ good scalar.code scalar.size) }
 {
-    if bytes.len() < 3 {
+    let first = *bytes.first()?;
+    if first < 0xC2 || 0xEF < first || bytes.len() < 3 {
         return None;
     }
-    let first = bytes[0];
     let next = bytes[1];
     if !is_continuation(next) {
         return None;
     }
     if first < 0xE0 {
-        if first < 0xC2 {
-            return None;
-        }
         return Some(Coded {
             code: code_of_two(first, next),
             size: 2,
         });
-    }
-    if 0xEF < first {
-        return None;
     }
     let last = bytes[2];
     if !is_continuation(last) {
@@ -47,15 +41,15 @@ pub(crate) fn scalar_of_few(bytes: &[u8]) -> Option<Coded>
     Some(Coded { code, size: 3 })
 }
 
-/// The scalar at the front of three bytes or more, by few comparisons, where its first byte is that of a scalar of three
-/// bytes and neither 0xE0 nor 0xED, which not every continuation byte may follow.
+/// The scalar at the front of three bytes or more, by few comparisons, where any two continuation bytes may follow its
+/// first byte.
 #[inline(always)]
 pub(crate) fn scalar_of_three(bytes: &[u8]) -> Option<Coded>
     requires { 3 ≤ length bytes.now }
     ensures { IfSome result (λ scalar. decoded bytes.now ≡ good scalar.code scalar.size) }
 {
     let first = bytes[0];
-    if first <= 0xE0 || 0xEF < first || first == 0xED {
+    if !begins_three(first) {
         return None;
     }
     let next = bytes[1];
@@ -67,6 +61,15 @@ pub(crate) fn scalar_of_three(bytes: &[u8]) -> Option<Coded>
         code: code_of_three(first, next, last),
         size: 3,
     })
+}
+
+/// Whether a byte is the first of a scalar of three bytes, and neither 0xE0 nor 0xED, which not every continuation byte
+/// may follow.
+#[inline(always)]
+pub(crate) fn begins_three(byte: u8) -> bool
+    ensures { result ≡ true → (0xE0 < byte) × (byte < 0xF0) × (byte < 0xED ⊎ 0xED < byte) }
+{
+    0xE0 < byte && byte < 0xF0 && byte != 0xED
 }
 
 /// Whether a byte may follow the first byte of a scalar.

@@ -7,7 +7,8 @@ ghost use Rattle.lbk_words.specs.Places.{IsReadAt};
 ghost use Rattle.lbk_words.specs.Rows.{IsStep};
 ghost use Rattle.lbk_words.specs.Words.{scalars_on};
 
-use crate::scalars::{WIDE, scalar_at};
+use crate::decoding::begins_three;
+use crate::scalars::scalar_at;
 use crate::steps::{Step, first_row, is_word, next_step, step_of_byte, step_of_three};
 use crate::word::{Filled, Word};
 
@@ -35,48 +36,33 @@ pub(crate) fn fill_by_scalars(text: &[u8], here: Filled, stop: usize, out: &mut 
         row: first_row(first),
     };
     'scalars: while part.filled.count < out.len() && part.filled.at < stop && part.at < text.len() {
-        let before = text[part.at];
         let next = next_step(part.row, text, part.at);
         part = taken(part, next.step, next.end, out);
-        part = threes_taken(text, before, part, stop, out);
         let from = part.at;
-        'bytes: while part.filled.count < out.len() && part.at < stop {
+        // Scalars of one byte and of three, which few comparisons read.
+        'quick: while part.filled.count < out.len() && part.at < stop {
             let byte = text[part.at];
-            if 0x80 <= byte {
+            if byte < 0x80 {
+                let step = step_of_byte(part.row, byte);
+                if step.asks {
+                    break;
+                }
+                part = taken(part, step, part.at + 1, out);
+                continue;
+            }
+            if !begins_three(byte) || text.len() - part.at < 3 {
                 break;
             }
-            let step = step_of_byte(part.row, byte);
-            if step.asks {
+            let Some(next) = step_of_three(part.row, text, part.at) else {
                 break;
-            }
-            part = taken(part, step, part.at + 1, out);
+            };
+            part = taken(part, next.step, next.end, out);
         }
     }
     if part.filled.count < out.len() && part.filled.at < stop {
         return ended(part, out);
     }
     part.filled
-}
-
-/// Takes scalars of three bytes where the scalar before begins with such a byte, since they come in runs.
-#[inline(always)]
-fn threes_taken(text: &[u8], before: u8, start: Filling, stop: usize, out: &mut [Word]) -> Filling
-    requires { (from : Filled) × (old : List Word) × FillsUpTo text.now from old start out.old }
-    ensures fills { (from : Filled) (old : List Word)
-        → FillsUpTo text.now from old start out.old → FillsUpTo text.now from old result out.new }
-    ensures onward { start.at ≤ result.at }
-{
-    let mut part = start;
-    if before < WIDE {
-        return part;
-    }
-    'threes: while part.filled.count < out.len() && part.at < stop && 3 <= text.len() - part.at {
-        let Some(next) = step_of_three(part.row, text, part.at) else {
-            break;
-        };
-        part = taken(part, next.step, next.end, out);
-    }
-    part
 }
 
 /// Takes one more scalar, which ends at a byte. It writes the part so far whether the part ends there or not, so that

@@ -1,4 +1,4 @@
-use Rattle.std.proofs.Common.{◌+◌, ◌≤◌, ◌<◌, length, slice_index, arith}
+use Rattle.std.proofs.Common.{◌+◌, ◌≤◌, length, slice_index, arith}
 use Rattle.unicode_segmentation.specs.Word.{significant, value_at}
 use Rattle.lbk_words.specs.Words.{scalars_on}
 use Rattle.lbk_words.proofs.ReadLemmas.{one-read}
@@ -20,35 +20,35 @@ scalars-init c =
       };
     }
 
-pub threes_taken-part-requires : goal.threes_taken-part-requires
-threes_taken-part-requires c =
-    let next = c.next_step-next.ensures in (
-      c.args.here,
-      c.args.out.now,
-      c.taken-part.ensures.fills c.args.text.now c.args.here c.args.out.now next.code c.scalars.invariant next.read next.step,
-    )
-
-pub bytes-init : goal.bytes-init
-bytes-init c =
+pub quick-init : goal.quick-init
+quick-init c =
     let next = c.next_step-next.ensures in
     let taken = c.taken-part in
     record {
-      onward = omega (arith, taken.ensures.at, next.read.grows, c.threes_taken-part.ensures.onward);
-      fills = c.threes_taken-part.ensures.fills c.args.here c.args.out.now
-          (taken.ensures.fills c.args.text.now c.args.here c.args.out.now next.code c.scalars.invariant next.read next.step);
+      onward = omega (arith, taken.ensures.at, next.read.grows);
+      fills = taken.ensures.fills c.args.text.now c.args.here c.args.out.now next.code c.scalars.invariant next.read next.step;
     }
 
-pub bytes-preserved : goal.bytes-preserved
-bytes-preserved c =
+pub quick-preserved-then-byte-lt128 : goal.quick-preserved-then-byte-lt128
+quick-preserved-then-byte-lt128 c =
     let text = c.args.text.now in
-    let l = c.bytes in
-    let taken = c.taken-part-in-bytes in
+    let l = c.quick in
+    let taken = c.taken-part-then-byte-lt128 in
     let byte = slice_index text l.part.at in
-    let low : byte < 128 = omega (arith, c.if-byte-ge128.false) in
     record {
       onward = omega (arith, taken.ensures.at, l.invariant.onward);
-      fills = taken.ensures.fills text c.args.here c.args.out.now byte l.invariant.fills (one-read text l.part.at (omega arith) low)
+      fills = taken.ensures.fills text c.args.here c.args.out.now byte l.invariant.fills (one-read text l.part.at (omega arith) c.if-byte-lt128.true)
           (c.step_of_byte-step.ensures c.if-step.false (value_at (significant (scalars_on text (l.part.at + 1))) 0));
+    }
+
+pub quick-preserved : goal.quick-preserved
+quick-preserved c =
+    let l = c.quick in
+    let next = c.in-Some.ensures in
+    let taken = c.taken-part-in-quick in
+    record {
+      onward = omega (arith, taken.ensures.at, next.read.grows, l.invariant.onward);
+      fills = taken.ensures.fills c.args.text.now c.args.here c.args.out.now next.code l.invariant.fills next.read next.step;
     }
 
 -- the text ends

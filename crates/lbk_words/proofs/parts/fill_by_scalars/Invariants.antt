@@ -8,11 +8,11 @@ invariant-scalars l = FillsUpTo l.text l.fn.here l.fn.out l.part l.out
 abbrev pub decreases-scalars : goal.decreases-scalars
 decreases-scalars l = length l.text - l.part.at
 
-abbrev pub invariant-bytes : goal.invariant-bytes
-invariant-bytes l = record {
+abbrev pub invariant-quick : goal.invariant-quick
+invariant-quick l = record {
   onward : l.from ≤ l.part.at;
   fills : FillsUpTo l.text l.fn.here l.fn.out l.part l.out;
 }
 
-abbrev pub decreases-bytes : goal.decreases-bytes
-decreases-bytes l = length l.text - l.part.at
+abbrev pub decreases-quick : goal.decreases-quick
+decreases-quick l = length l.text - l.part.at
