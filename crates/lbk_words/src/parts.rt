@@ -8,8 +8,8 @@ ghost use Rattle.lbk_words.specs.Rows.{IsStep};
 ghost use Rattle.lbk_words.specs.Words.{scalars_on};
 
 use crate::decoding::begins_three;
-use crate::scalars::scalar_at;
-use crate::steps::{Step, first_row, is_word, next_step, step_of_byte, step_of_three};
+use crate::scalars::{scalar_at, three_at};
+use crate::steps::{Step, first_row, is_word, next_step, step_of, step_of_byte, step_unasked};
 use crate::word::{Filled, Word};
 
 /// How far a block is filled, and the part of the text that is being read.
@@ -29,17 +29,11 @@ pub(crate) fn fill_by_scalars(text: &[u8], here: Filled, stop: usize, out: &mut 
     ensures fills { FillsOn text.now here out.old result out.new }
     ensures far { result.count < length out.old → stop ≤ result.at }
 {
-    let first = scalar_at(text, here.at);
-    let mut part = Filling {
-        filled: here,
-        at: first.end,
-        row: first_row(first),
-    };
+    let mut part = begun(text, here);
     'scalars: while part.filled.count < out.len() && part.filled.at < stop && part.at < text.len() {
         let next = next_step(part.row, text, part.at);
         part = taken(part, next.step, next.end, out);
         let from = part.at;
-        // Scalars of one byte and of three, which few comparisons read.
         'quick: while part.filled.count < out.len() && part.at < stop {
             let byte = text[part.at];
             if byte < 0x80 {
@@ -53,16 +47,35 @@ pub(crate) fn fill_by_scalars(text: &[u8], here: Filled, stop: usize, out: &mut 
             if !begins_three(byte) || text.len() - part.at < 3 {
                 break;
             }
-            let Some(next) = step_of_three(part.row, text, part.at) else {
+            let Some(next) = three_at(text, part.at) else {
                 break;
             };
-            part = taken(part, next.step, next.end, out);
+            let step = step_unasked(part.row, next.code);
+            if step.asks {
+                part = taken(part, step_of(part.row, next, text), next.end, out);
+                continue 'scalars;
+            }
+            part = taken(part, step, next.end, out);
         }
     }
     if part.filled.count < out.len() && part.filled.at < stop {
         return ended(part, out);
     }
     part.filled
+}
+
+/// The part of the scalar at a boundary.
+#[inline(always)]
+fn begun(text: &[u8], here: Filled) -> Filling
+    requires { here.at < length text.now }
+    ensures { (out : List Word) → here.count < length out → FillsUpTo text.now here out result out }
+{
+    let first = scalar_at(text, here.at);
+    Filling {
+        filled: here,
+        at: first.end,
+        row: first_row(first),
+    }
 }
 
 /// Takes one more scalar, which ends at a byte. It writes the part so far whether the part ends there or not, so that

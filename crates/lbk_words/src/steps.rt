@@ -85,7 +85,7 @@ pub(crate) fn step_of_three(row: usize, text: &[u8], at: usize) -> Option<NextSt
 
 /// What the next scalar of a text makes of a part of this row.
 #[inline(always)]
-fn step_of(row: usize, next: Scalar, text: &[u8]) -> Step
+pub(crate) fn step_of(row: usize, next: Scalar, text: &[u8]) -> Step
     requires { row < 43 }
     ensures { IsStep row next.code (value_at (significant (scalars_on text.now next.end)) 0) result }
 {
@@ -108,7 +108,7 @@ pub(crate) fn step_of_byte(row: usize, byte: u8) -> Step
 
 /// What a scalar makes of a part of this row. It is right where the step does not ask.
 #[inline(always)]
-fn step_unasked(row: usize, code: u32) -> Step
+pub(crate) fn step_unasked(row: usize, code: u32) -> Step
     requires { (row < 43) × (code < 0x11_0000) }
     ensures { result.asks ≡ false → (far : WordBreak) → IsStep row code far result }
 {

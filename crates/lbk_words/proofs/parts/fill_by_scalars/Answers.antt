@@ -2,23 +2,11 @@ use Rattle.std.proofs.Common.{◌+◌, ◌≤◌, length, slice_index, arith}
 use Rattle.unicode_segmentation.specs.Word.{significant, value_at}
 use Rattle.lbk_words.specs.Words.{scalars_on}
 use Rattle.lbk_words.proofs.ReadLemmas.{one-read}
-use Rattle.lbk_words.proofs.StepLemmas.{first-in_row}
 use Rattle.lbk_words.proofs.parts.fill_by_scalars.Goals as goal
 use Rattle.lbk_words.proofs.parts.fill_by_scalars.Goals.{then-scalars-test+then-part-stop+else-part-text, then-scalars-test+else-part-stop, else-scalars-test}
 
 pub scalars-init : goal.scalars-init
-scalars-init c =
-    let first = c.scalar_at-first in
-    record {
-      onward = (omega arith, omega arith);
-      within = (first.ensures.within, omega arith);
-      some = first.ensures.grows;
-      few = c.first_row.ensures.few;
-      filling = λ start filled. record {
-        filled = filled;
-        reads = first-in_row c.args.text.now c.args.here.at first.result.code first.result.end c.first_row.result first.ensures c.first_row.ensures;
-      };
-    }
+scalars-init c = c.begun-part.ensures c.args.out.now c.requires.0
 
 pub quick-init : goal.quick-init
 quick-init c =
@@ -43,13 +31,20 @@ quick-preserved-then-byte-lt128 c =
 
 pub quick-preserved : goal.quick-preserved
 quick-preserved c =
+    let text = c.args.text.now in
     let l = c.quick in
-    let next = c.in-Some.ensures in
+    let read = c.in-Some.ensures in
+    let next = c.in-Some.next in
     let taken = c.taken-part-in-quick in
     record {
-      onward = omega (arith, taken.ensures.at, next.read.grows, l.invariant.onward);
-      fills = taken.ensures.fills c.args.text.now c.args.here c.args.out.now next.code l.invariant.fills next.read next.step;
+      onward = omega (arith, taken.ensures.at, read.grows, l.invariant.onward);
+      fills = taken.ensures.fills text c.args.here c.args.out.now next.code l.invariant.fills read
+          (c.step_unasked-step.ensures c.if-step-2.false (value_at (significant (scalars_on text next.end)) 0));
     }
+
+pub scalars-preserved-then-step-2 : goal.scalars-preserved-then-step-2
+scalars-preserved-then-step-2 c =
+    c.taken-part-then-step-2.ensures.fills c.args.text.now c.args.here c.args.out.now c.in-Some.next.code c.quick.invariant.fills c.in-Some.ensures c.step_of.ensures
 
 -- the text ends
 past : (c : goal.After-out-then-part-stop-3-1) → length c.args.text.now ≤ c.scalars.part.at
