@@ -165,13 +165,11 @@ fn may_tell(bytes: &[u8]) -> bool {
     is_usual(*first) && (0x80 <= *first || is_usual(bytes[1])) && !is_long_soon(bytes)
 }
 
-/// Whether a scalar of three bytes or more is near the front of some bytes, as far as three of them tell it: in a run of
-/// scalars of three bytes one of any three bytes begins one.
+/// Whether a scalar of three bytes or more is near the front of some bytes, as far as three of them tell it, if there are
+/// so many: in a run of scalars of three bytes one of any three bytes begins one.
 #[inline(always)]
-fn is_long_soon(bytes: &[u8]) -> bool
-    requires { 8 ≤ length bytes.now }
-{
-    LONG <= bytes[5] || LONG <= bytes[6] || LONG <= bytes[7]
+fn is_long_soon(bytes: &[u8]) -> bool {
+    8 <= bytes.len() && (LONG <= bytes[5] || LONG <= bytes[6] || LONG <= bytes[7])
 }
 
 /// Whether a byte is below 128, or one with which most letters of two bytes begin.
