@@ -17,7 +17,7 @@ use Rattle.lbk_bytes.specs.declared.raw_break.RawBreak.{RawBreak}
 use Rattle.lbk_bytes.specs.Order.{AreBreaks, IsBreak, no_break}
 use Rattle.lbk_bytes.specs.Shown.{given_in, raw_of, shown}
 use Rattle.lbk_bytes.proofs.ShownLemmas.{shown-raw}
-use Rattle.lbk_passage.specs.Ahead.{EndsFirst, GivesTold, HasAhead, HasTold, IsAhead, IsTold, KeepsTold, ShowBreaks, TakesBy, TakesTold, Tells, told_in}
+use Rattle.lbk_passage.specs.Ahead.{EndsFirst, GivesTold, HasAhead, HasSizes, HasTold, IsAhead, IsTold, KeepsTold, ShowBreaks, TakesBy, TakesTold, Tells, told_in}
 use Rattle.lbk_passage.specs.Cuts.{cut_at}
 use Rattle.lbk_passage.specs.Found.{FindsNext}
 use Rattle.lbk_rules.specs.Marks.{ended, marks}
@@ -51,7 +51,7 @@ shown_by raw b known is = is known.0 known.1 ∙ sym (ap shown known.1 ∙ shown
 
 -- the first breaks of a text were found into a block
 pub IsAhead-found : {profile : Profile} {cell : ℕ → Cell} {text : List ℕ} {to : Progress} {room : ℕ} {block : List RawBreak}
-    → FindsNext profile cell text (record { state = record { count = 0; row = 0; at = 0 }; ended = false }) to room block → room ≡ 128 → length block ≡ 128
+    → FindsNext profile cell text (record { state = record { count = 0; row = 0; at = 0 }; ended = false }) to room block → room ≡ 256 → length block ≡ 256
     → HasAhead (record { block = block; next = 0; left = to.state.count; told = 0; base = 0 }) (take to.state.count (breaks profile cell (chars text)))
 IsAhead-found {profile} {cell} {text} {to} {room} {block} f room_is size =
     let whole : to.state.count - 0 ≡ to.state.count = omega arith in
@@ -302,13 +302,13 @@ module _ (profile : Profile) (cell : ℕ → Cell) (p : Paragraph) (a new : Ahea
   Tells-taken (Some told) old takes = (tells_paragraph told takes, keeps_ahead told takes, has_told told takes)
 
 -- the breaks of the passage taken last
-pub slice-many : (a : Ahead) → (a.told ≤ a.next) × (a.next ≤ 128) × (length a.block ≡ 128) → length (take a.told (drop (a.next - a.told) a.block)) ≡ a.told
+pub slice-many : (a : Ahead) → HasSizes a → length (take a.told (drop (a.next - a.told) a.block)) ≡ a.told
 slice-many a sizes =
     length-take-le a.told (drop (a.next - a.told) a.block)
     (omega (arith, length-drop (a.next - a.told) a.block, sizes.0, sizes.1, sizes.2))
 
 module _ {profile : Profile} {cell : ℕ → Cell} {text : List ℕ} {end : Verdict} {a : Ahead} (h : HasTold profile cell text end a)
-    (sizes : (a.told ≤ a.next) × (a.next ≤ 128) × (length a.block ≡ 128)) where
+    (sizes : HasSizes a) where
   pub slice-breaks : AreBreaks (take a.told (drop (a.next - a.told) a.block)) (length (take a.told (drop (a.next - a.told) a.block)))
   slice-breaks k less =
       let below : k < a.told = omega (arith, less, slice-many a sizes) in
@@ -352,7 +352,7 @@ module _ (profile : Profile) (cell : ℕ → Cell) (p q : Paragraph) (old a : Ah
       subst (λ l. HasTold profile cell l end a) (sym gives.text) (subst (λ v. HasTold profile cell (take told.len p.feed.ready) v a) end_is tells.2)
 
 -- nothing was found yet
-pub HasAhead-nothing : (block : List RawBreak) → length block ≡ 128 → HasAhead (record { block = block; next = 0; left = 0; told = 0; base = 0 }) []
+pub HasAhead-nothing : (block : List RawBreak) → length block ≡ 256 → HasAhead (record { block = block; next = 0; left = 0; told = 0; base = 0 }) []
 HasAhead-nothing block size = record {
   size = size;
   within = omega arith;

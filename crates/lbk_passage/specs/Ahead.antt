@@ -27,10 +27,14 @@ abbrev pub ShowBreaks : List RawBreak → ℕ → Type 0
 ShowBreaks block count = (k : ℕ) → k < count → (slice_index_or block k no_break ≡ raw_of (shown (slice_index_or block k no_break)))
     × (is_no (shown (slice_index_or block k no_break)).kind ≡ false)
 
+-- a block has 256 entries, and the breaks of the passage taken last stand before those of the bytes that are ready
+abbrev pub HasSizes : Ahead → Type 0
+HasSizes a = (a.told ≤ a.next) × (a.next ≤ 256) × (length a.block ≡ 256)
+
 -- a block has these breaks of the bytes that are ready, each `base` bytes further on
 pub record HasAhead (a : Ahead) (found : List Break) : Type 0 where
-  pub size : length a.block ≡ 128
-  pub within : a.next + a.left ≤ 128
+  pub size : length a.block ≡ 256
+  pub within : a.next + a.left ≤ 256
   pub before : a.told ≤ a.next
   pub each : ShowBreaks (drop a.next a.block) a.left
   pub given : given_in (drop a.next a.block) a.left ≡ map (moved a.base) found

@@ -10,13 +10,13 @@ use lbk_bytes::RawBreak;
 use lbk_rules::{CellSource, Kind, Profile, Verdict};
 
 /// How many breaks are found at a time.
-const BLOCK: usize = 128;
+const BLOCK: usize = 256;
 
 /// Where fewer bytes are ready, most belong to a passage that does not end among them.
 const FEW: usize = 64;
 
 /// After a passage of so many segments the next one is likely to have more than the block.
-const MANY: usize = 48;
+const MANY: usize = 96;
 
 /// Breaks of the bytes that are ready, as many as were found.
 #[derive(Drop)]
@@ -93,7 +93,7 @@ impl Ahead {
 
     /// Finds the first breaks of the bytes that are ready.
     fn find<C: CellSource>(&mut self, cells: &C, profile: Profile, ready: &str)
-        requires { length self.old.block ≡ 128 }
+        requires { length self.old.block ≡ 256 }
         ensures { IsAhead profile (C.cell_of cells.now) ready.now self.new }
     {
         let found = find(cells, profile, ready, START, &mut self.block);

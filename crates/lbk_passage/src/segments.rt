@@ -6,7 +6,7 @@ ghost use Rattle.std.specs.Str.{chars};
 ghost use Rattle.lbk_rules.specs.declared.Break.{Break};
 ghost use Rattle.lbk_bytes.specs.Order.{AreBreaks};
 ghost use Rattle.lbk_bytes.specs.Shown.{shown};
-ghost use Rattle.lbk_passage.specs.Ahead.{HasTold};
+ghost use Rattle.lbk_passage.specs.Ahead.{HasSizes, HasTold};
 ghost use Rattle.lbk_rules.specs.Joins.{moved};
 ghost use Rattle.lbk_passage.specs.Breaks.{breaks, is_no};
 ghost use Rattle.lbk_passage.specs.Cuts.{cut_at, ending_by};
@@ -43,7 +43,7 @@ pub fn cut_lines<C: CellSource>(
     segments: &mut Vec<Segment>,
 ) -> Result<(), AllocError>
     requires few { length text.now < 2 ^ 32 }
-    requires sizes { (ahead.now.told ≤ ahead.now.next) × (ahead.now.next ≤ 128) × (length ahead.now.block ≡ 128) }
+    requires sizes { HasSizes ahead.now }
     requires told { 0 < ahead.now.told → HasTold profile (C.cell_of cells.now) text.now end ahead.now }
     ensures cut { OnOk result (segments.new.items
         ≡ segments_of (ended end (marks profile (C.cell_of cells.now) (chars text.now)))) }

@@ -7,7 +7,7 @@ use Rattle.lbk_rules.specs.Joins.{moved}
 use Rattle.lbk_bytes.specs.declared.raw_break.RawBreak.{RawBreak}
 use Rattle.lbk_bytes.specs.Order.{AreBreaks}
 use Rattle.lbk_bytes.specs.Shown.{shown}
-use Rattle.lbk_passage.specs.Ahead.{told_in}
+use Rattle.lbk_passage.specs.Ahead.{HasSizes, told_in}
 use Rattle.lbk_passage.specs.declared.ahead.Ahead.{Ahead}
 use Rattle.lbk_passage.specs.Cuts.{cut_at}
 use Rattle.lbk_passage.proofs.AheadLemmas.{lines-many, slice-breaks, slice-many, slice-near}
@@ -38,7 +38,7 @@ returns-in_err-cut_alone-clause-full g c = λ broken.
     rw p.1 (omega (arith, many, full, c.clear.ensures))
 
 -- whether the block has breaks of the passage
-some_told : {found : List RawBreak} (a : Ahead) (sizes : (a.told ≤ a.next) × (a.next ≤ 128) × (length a.block ≡ 128))
+some_told : {found : List RawBreak} (a : Ahead) (sizes : HasSizes a)
     → found ≡ take a.told (drop (a.next - a.told) a.block) → ¬ (length found ≡ 0) → 0 < a.told
 some_told a sizes is some = omega (arith, ap length is, slice-many a sizes, some)
 
