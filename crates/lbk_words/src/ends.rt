@@ -122,7 +122,7 @@ pub fn ends_from(text: &[u8], start: usize) -> u64
     if rest.len() < BLOCK {
         return ends_of_few(rest);
     }
-    ends_in(rest)
+    ends_in::<BLOCK>(rest)
 }
 
 /// The ends that bits tell of the parts of a text of fewer than 64 bytes, but for the last.
@@ -150,7 +150,7 @@ fn ends_up_to<const N: usize>(text: &[u8]) -> u64
     front[..text.len()].copy_from_slice(text);
     let mut bytes = [0; BLOCK];
     bytes[..N].copy_from_slice(&front);
-    kept_below(ends_in(&bytes), text.len())
+    kept_below(ends_in::<N>(&bytes), text.len())
 }
 
 /// Whether bits are likely to tell the end of the part at the front of some bytes.
@@ -178,9 +178,10 @@ fn is_usual(byte: u8) -> bool {
     byte < 0x80 || (0xC3 <= byte && byte < LONG && byte != 0xD7)
 }
 
-/// Where parts end among the first 64 bytes, at the first of which one begins.
+/// Where parts end among the first 64 bytes, at the first of which one begins. Those from the byte `N` on are zeros or
+/// follow: a function for each `N` lets the compiler fold what it finds of zeros.
 #[inline(always)]
-fn ends_in(bytes: &[u8]) -> u64
+fn ends_in<const N: usize>(bytes: &[u8]) -> u64
     requires { 64 ≤ length bytes.now }
     ensures { (stop : ℕ) × AreEnds bytes.now 0 stop result }
 {

@@ -13,7 +13,7 @@ use Rattle.lbk_words.proofs.EdgeLemmas.{others-at, set-before}
 use Rattle.lbk_words.proofs.ends.ends_in.Goals as goal
 
 pub returns : goal.returns
-returns c =
+returns g c =
     let bytes = c.args.bytes.now in
     let marks = c.marks_of-marks.result in
     let are = c.marks_of-marks.ensures in
