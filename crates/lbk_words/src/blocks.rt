@@ -102,9 +102,9 @@ pub(crate) fn wides_of(bytes: &[u8]) -> Wides
     }
 }
 
-/// The marks of the first 64 bytes.
+/// The marks of the first 64 bytes, those from the byte `N` on as for `ends_in`.
 #[inline(always)]
-pub(crate) fn marks_of(bytes: &[u8], wides: Wides) -> Marks
+pub(crate) fn marks_of<const N: usize>(bytes: &[u8], wides: Wides) -> Marks
     requires length { 64 ≤ length bytes.now }
     requires wides { AreWides bytes.now wides }
     ensures { AreMarks bytes.now result }
@@ -193,7 +193,7 @@ pub(crate) fn fill_by_marks(text: &[u8], start: Filled, out: &mut [Word]) -> Fil
     if MANY < wides.stops.count_ones() {
         return fill_by_scalars(text, start, pause, out);
     }
-    let marks = marks_of(&text[base..], wides);
+    let marks = marks_of::<BLOCK>(&text[base..], wides);
     let mut here = start;
     let mut turns = TURNS;
     while here.count < out.len() && here.at < base + LAST {

@@ -178,14 +178,14 @@ fn is_usual(byte: u8) -> bool {
     byte < 0x80 || (0xC3 <= byte && byte < LONG && byte != 0xD7)
 }
 
-/// Where parts end among the first 64 bytes, at the first of which one begins. Those from the byte `N` on are zeros or
-/// follow: a function for each `N` lets the compiler fold what it finds of zeros.
+/// Where parts end among the first 64 bytes, at the first of which one begins. `N` says nothing of the result: of short
+/// texts those from there on are zeros, and a function for each `N` lets the compiler fold what it finds of them.
 #[inline(always)]
 fn ends_in<const N: usize>(bytes: &[u8]) -> u64
     requires { 64 ≤ length bytes.now }
     ensures { (stop : ℕ) × AreEnds bytes.now 0 stop result }
 {
-    let marks = marks_of(bytes, wides_of(bytes));
+    let marks = marks_of::<N>(bytes, wides_of(bytes));
     let before = marks.runs << 1;
     let others = (marks.runs & !before) & !marks.begins;
     let stop = first_set(marks.stops | others);

@@ -8,7 +8,7 @@ use Rattle.lbk_words.proofs.PlaceLemmas.{IsPlaced, is-placed}
 use Rattle.lbk_words.proofs.blocks.marks_of.Goals as goal
 
 pub returns : goal.returns
-returns c =
+returns g c =
     let bytes = c.args.bytes.now in
     let fit : (i : ℕ) → get_or bytes i 0 < 256 = λ i. (c.type_inv.bytes i).fits in
     let placed : (i : ℕ) → IsPlaced bytes i = λ i. is-placed bytes i fit in
