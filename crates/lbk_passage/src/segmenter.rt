@@ -39,6 +39,8 @@ pub struct Segmenter<'a, C: CellSource> {
     paragraph: Paragraph,
     /// Breaks that are found ahead of the passages that they end.
     ahead: Ahead,
+    /// Whether the last passage was given with its segments, so that those of the next are likely to be asked for.
+    gave_segments: bool,
     /// Where those of a passage are found into that none was found ahead of.
     block: [RawBreak; BLOCK],
     /// Where the ends of pieces are found into.
@@ -83,6 +85,7 @@ impl<'a, C: CellSource> Segmenter<'a, C> {
             profile,
             paragraph,
             ahead: NOTHING,
+            gave_segments: false,
             block: NO_BREAKS,
             ends: [0; ENDS],
             segments: Vec::new(alloc),
@@ -110,6 +113,7 @@ impl<'a, C: CellSource> Segmenter<'a, C> {
         // `Read` is returned exactly where a read failed.
         ensures failures { R.failure_count reader.new ≡ failures_with (R.failure_count reader.old) (fault_in result) }
     {
+        self.gave_segments = true;
         let count = self.segments.len();
         let told = (self.ahead).tell(&self.known, self.profile, &self.paragraph, count);
         let Some(end) = self.paragraph.fill(reader, &self.known, told)? else {
@@ -148,6 +152,7 @@ impl<'a, C: CellSource> Segmenter<'a, C> {
         ensures failures { R.failure_count reader.new ≡ failures_with (R.failure_count reader.old) (fault_in result) }
     {
         self.ahead.forget();
+        self.gave_segments = false;
         let Some(end) = self.paragraph.fill(reader, &self.known, None)? else {
             return Ok(None);
         };
@@ -174,6 +179,7 @@ impl<'a, C: CellSource> Segmenter<'a, C> {
         ensures failures { R.failure_count reader.new ≡ failures_with (R.failure_count reader.old) (fault_in result) }
     {
         self.ahead.forget();
+        self.gave_segments = false;
         let Some(_) = self.paragraph.fill(reader, &self.known, None)? else {
             return Ok(None);
         };
@@ -189,6 +195,10 @@ impl<'a, C: CellSource> Segmenter<'a, C> {
         ensures remains { result ≡ false → IsOpen (state_of C.cell_of self.old) }
         ensures found { found_by self.new ≡ found_by self.old }
     {
+        if !self.gave_segments {
+            self.ahead.forget();
+            return self.paragraph.look_ahead(&self.known, None);
+        }
         let count = self.segments.len();
         let told = (self.ahead).tell(&self.known, self.profile, &self.paragraph, count);
         self.paragraph.look_ahead(&self.known, told)
