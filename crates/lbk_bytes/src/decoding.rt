@@ -62,39 +62,49 @@ pub(crate) fn scalar_of(width: Width, bytes: &[u8]) -> Option<Scalar>
                 size: 2,
             })
         }
-        Width::Three => {
-            let (next, last) = (bytes[1], bytes[2]);
-            if !is_continuation(next) || !is_continuation(last) {
-                return None;
-            }
-            let spelled = joined(joined(u32::from(first), next), last);
-            if !takes_three(spelled) {
-                return None;
-            }
-            Some(Scalar {
-                code: spelled - MARKS_OF_THREE,
-                size: 3,
-            })
-        }
-        Width::Four => {
-            let (next, third, last) = (bytes[1], bytes[2], bytes[3]);
-            if first < 0xF0
-                || !is_continuation(next)
-                || !is_continuation(third)
-                || !is_continuation(last)
-            {
-                return None;
-            }
-            let spelled = joined(joined(joined(u32::from(first), next), third), last);
-            if !takes_four(spelled) {
-                return None;
-            }
-            Some(Scalar {
-                code: spelled - MARKS_OF_FOUR,
-                size: 4,
-            })
-        }
+        Width::Three => scalar_of_three(bytes),
+        Width::Four => scalar_of_four(bytes),
     }
+}
+
+/// The scalar of three bytes at the front of some.
+#[inline(always)]
+fn scalar_of_three(bytes: &[u8]) -> Option<Scalar>
+    requires { 2 < length bytes.now }
+    ensures { IfSome result (λ scalar. decoded bytes.now ≡ good scalar.code scalar.size) }
+{
+    let (first, next, last) = (bytes[0], bytes[1], bytes[2]);
+    if !is_continuation(next) || !is_continuation(last) {
+        return None;
+    }
+    let spelled = joined(joined(u32::from(first), next), last);
+    if !takes_three(spelled) {
+        return None;
+    }
+    Some(Scalar {
+        code: spelled - MARKS_OF_THREE,
+        size: 3,
+    })
+}
+
+/// The scalar of four bytes at the front of some.
+#[inline(always)]
+fn scalar_of_four(bytes: &[u8]) -> Option<Scalar>
+    requires { 3 < length bytes.now }
+    ensures { IfSome result (λ scalar. decoded bytes.now ≡ good scalar.code scalar.size) }
+{
+    let (first, next, third, last) = (bytes[0], bytes[1], bytes[2], bytes[3]);
+    if first < 0xF0 || !is_continuation(next) || !is_continuation(third) || !is_continuation(last) {
+        return None;
+    }
+    let spelled = joined(joined(joined(u32::from(first), next), third), last);
+    if !takes_four(spelled) {
+        return None;
+    }
+    Some(Scalar {
+        code: spelled - MARKS_OF_FOUR,
+        size: 4,
+    })
 }
 
 /// What ill-formed bytes are read as: U+FFFD.
