@@ -27,5 +27,5 @@ pub fn goes_on(number: u8) -> bool
 pub fn plain_number(number: u8) -> u8
     ensures { result ≡ plain_number number }
 {
-    if goes_on(number) { number - 2 } else { number }
+    if number < 4 { number % 2 } else { number }
 }
