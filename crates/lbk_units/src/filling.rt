@@ -48,18 +48,18 @@ pub fn fill_part<U: Unit, T: Target>(
         → Follows U.pieces_of part.now on
         → GivesOf T.onward profile cell on out.old start out.new result }
 {
-    run::<U, T>(&table.kinds, rows_of(profile), start, part, out)
+    run::<U, T>(start, part, out, &table.kinds, rows_of(profile))
 }
 
 /// Takes scalars as long as no held position comes. It calls nothing, stands apart and is given no more than it needs,
 /// so that all it has stays in registers.
 #[inline(never)]
 fn run<U: Unit, T: Target>(
-    kinds: &[u8; CODES],
-    steps: &Rows,
     start: FillState,
     text: &[U],
     out: &mut [RawBreak],
+    kinds: &[u8; CODES],
+    steps: &Rows,
 ) -> FillState
     requires place { IsInText start (length text.now) (length out.old) }
     requires steps { AreSteps steps.now }
