@@ -1,5 +1,5 @@
 -- What the loops promise that go over a text by steps and blocks: each set of clauses once.
-use Rattle.std.specs.Prelude.{◌≡◌, ℕ, ◌+◌, ◌<◌, ◌≤◌, ◌++◌, List, length}
+use Rattle.std.specs.Prelude.{◌≡◌, ℕ, ◌+◌, ◌<◌, ◌≤◌, ◌++◌, List, MatchOption, Option, length}
 use Rattle.lbk_rules.specs.declared.Cell.{Cell}
 use Rattle.lbk_rules.specs.declared.neighbours.Neighbours.{Neighbours}
 use Rattle.lbk_rules.specs.declared.steps.Step.{Step}
@@ -34,6 +34,16 @@ pub record StepsOn {A : Type 0} (Fits InOrder : List A → ℕ → ℕ → ℕ �
       → steps ≡ steps_in profile → AreFlatKinds kinds cell → stop ≤ last
       → Gets profile cell (text ++ more) all last start old
       → Gets profile cell (text ++ more) all last result new
+
+-- One scalar is taken, and nothing is written where none is: what is taken before any byte behind its first is taken by
+-- steps.
+abbrev pub TakesOne : {A : Type 0} → (List A → ℕ → ℕ → ℕ → Type 0) → (List A → ℕ → ℕ → ℕ → Type 0)
+    → (Profile → (ℕ → Cell) → List ℕ → Ahead → ℕ → FillState → List A → Type 0) → List (List Step) → List ℕ → List ℕ
+    → List A → FillState → List A → Option FillState → Type 0
+TakesOne Fits InOrder Gets steps kinds text old here new result =
+    MatchOption result (new ≡ old) (λ next. (here.at < next.at)
+    × ((stop : ℕ) → here.at < stop → Fits old here.count here.at stop
+    → StepsOn Fits InOrder Gets steps kinds text stop old here new next))
 
 -- a call stands in a text of so many units, and has room for so many breaks or positions
 abbrev pub IsInText : FillState → ℕ → ℕ → Type 0

@@ -1,6 +1,6 @@
 //! A block that is filled with breaks.
 
-ghost use Rattle.std.specs.Prelude.{◌≡◌, ℕ, ◌+◌, ◌<◌, ◌≤◌, ◌++◌, [], List, length, take};
+ghost use Rattle.std.specs.Prelude.{◌≡◌, ℕ, ◌+◌, ◌<◌, ◌≤◌, ◌++◌, [], IfSome, List, length, take};
 ghost use Rattle.lbk_bytes.specs.Terms.{Cell, IsFlatBy, IsPlace, IsShown, verdict_shown};
 ghost use Rattle.lbk_bytes.specs.Bytes.{with_break};
 ghost use Rattle.lbk_bytes.specs.Order.{AreBreaks, AreInOrder};
@@ -13,8 +13,8 @@ use crate::blocks::blocks;
 use crate::fill_state::FillState;
 use crate::held::take_ones;
 use crate::raw_break::RawBreak;
-use crate::stepping::{quick, scalars};
-use crate::target::Breaks;
+use crate::stepping::{mixed, quick, scalars};
+use crate::target::{AmpleBreaks, Breaks};
 use crate::tries::{are_near, next_try};
 use lbk_rules::{FlatTable, KindSource, Profile, rows_of, shows_break};
 
@@ -41,6 +41,29 @@ pub fn fill<const MASKS: bool, K: KindSource>(
         return begun;
     }
     copied(fill_on::<MASKS, K>(table, profile, copied(begun), text, out))
+}
+
+/// How many bytes left are few: these are taken with no call, if the block has room for as many breaks.
+pub const FEW: usize = LEAST;
+
+/// Does the same where fewer bytes are left than the block has room for, or returns none where they are not all common
+/// scalars. Then what the block has is unspecified.
+#[inline(always)]
+pub fn fill_few<K: KindSource>(
+    table: &K,
+    profile: Profile,
+    start: FillState,
+    text: &[u8],
+    out: &mut [RawBreak],
+) -> Option<FillState>
+    requires { IsInText start (length text.now) (length out.old)
+        × (start.count + length text.now < length out.old + start.at) }
+    ensures { IfSome result (λ here.
+        Fills profile (K.kinds_of table.now) (K.pairs_of table.now) text.now out.old start out.new here) }
+{
+    let steps = rows_of(profile);
+    let here = mixed(AmpleBreaks, table, steps, start, text.len(), text, out)?;
+    Some(here)
 }
 
 /// Takes the common scalars of a text of fewer than 64 bytes. A block comes first, unless they are very few or of

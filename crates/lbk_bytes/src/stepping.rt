@@ -1,6 +1,9 @@
 //! The loops that take scalars by steps, whatever is written of their positions.
 
-ghost use Rattle.lbk_bytes.specs.Steps.{MayStep, StepsOn};
+ghost use Rattle.std.specs.Prelude.{◌+◌, ◌<◌, ◌≤◌, IfSome, length};
+ghost use Rattle.lbk_bytes.specs.Terms.{AreSteps, IsPlace};
+ghost use Rattle.lbk_bytes.specs.Steps.{MayStep, StepsOn, TakesOne};
+ghost use Rattle.lbk_bytes.specs.Widths.{more_of};
 
 use crate::decoding::{Width, scalar_of};
 use crate::fill_state::FillState;
@@ -137,21 +140,121 @@ fn run<T: Target, K: KindSource>(
     ensures { StepsOn (T.fits target) (T.in_order target) (T.reached target) steps.now (K.kinds_of kinds.now) text.now
         stop out.old start out.new result }
 {
-    let mut count = start.count;
-    let mut row = start.row;
-    let mut at = start.at;
+    let mut here = start;
     let end = stop.min(text.len().saturating_sub(width.more()));
-    'taking: while !target.is_full(out, count) && at < end {
-        let Some(scalar) = scalar_of(width, &text[at..]) else {
+    'taking: while !target.is_full(out, here.count) && here.at < end {
+        let Some(next) = taken(target, width, kinds, steps, here, text, out) else {
             break;
         };
-        let step = step_at(steps, row, kinds.kind_at(scalar.code));
-        if step.shown == HELD {
+        here = next;
+    }
+    here
+}
+
+/// Takes a common scalar of one width, and returns where the call stands then. None comes, and nothing is written,
+/// where none begins or its position is held.
+#[inline(always)]
+fn taken<T: Target, K: KindSource>(
+    target: T,
+    width: Width,
+    kinds: &K,
+    steps: &Rows,
+    here: FillState,
+    text: &[u8],
+    out: &mut [T::Entry],
+) -> Option<FillState>
+    requires { T.takes target out.old here.count here.at × IsPlace here.row × AreSteps steps.now
+        × (here.at + more_of width < length text.now) }
+    ensures { TakesOne (T.fits target) (T.in_order target) (T.reached target) steps.now (K.kinds_of kinds.now) text.now
+        out.old here out.new result }
+{
+    let scalar = scalar_of(width, &text[here.at..])?;
+    let step = step_at(steps, here.row, kinds.kind_at(scalar.code));
+    if step.shown == HELD {
+        return None;
+    }
+    let row = step.next as usize;
+    let count = target.put(out, here.count, here.at, step.shown);
+    Some(FillState {
+        count,
+        row,
+        at: here.at + scalar.size,
+    })
+}
+
+/// Does the same where the text may end within a scalar of this width.
+#[inline(always)]
+fn taken_whole<T: Target, K: KindSource>(
+    target: T,
+    width: Width,
+    kinds: &K,
+    steps: &Rows,
+    here: FillState,
+    text: &[u8],
+    out: &mut [T::Entry],
+) -> Option<FillState>
+    requires { T.takes target out.old here.count here.at × IsPlace here.row × AreSteps steps.now
+        × (here.at < length text.now) }
+    ensures { TakesOne (T.fits target) (T.in_order target) (T.reached target) steps.now (K.kinds_of kinds.now) text.now
+        out.old here out.new result }
+{
+    if text.len() - here.at <= width.more() {
+        return None;
+    }
+    taken(target, width, kinds, steps, here, text, out)
+}
+
+/// Does the same with a scalar of more than one byte, of the width that its first byte says.
+#[inline(always)]
+fn taken_wide<T: Target, K: KindSource>(
+    target: T,
+    kinds: &K,
+    steps: &Rows,
+    here: FillState,
+    text: &[u8],
+    out: &mut [T::Entry],
+) -> Option<FillState>
+    requires { T.takes target out.old here.count here.at × IsPlace here.row × AreSteps steps.now
+        × (here.at < length text.now) }
+    ensures { TakesOne (T.fits target) (T.in_order target) (T.reached target) steps.now (K.kinds_of kinds.now) text.now
+        out.old here out.new result }
+{
+    let first = text[here.at];
+    if 0xEF < first {
+        return taken_whole(target, Width::Four, kinds, steps, here, text, out);
+    }
+    if 0xDF < first {
+        return taken_whole(target, Width::Three, kinds, steps, here, text, out);
+    }
+    taken_whole(target, Width::Two, kinds, steps, here, text, out)
+}
+
+/// Takes all scalars that begin before a byte. None comes where one of them is not common, or the room does not do. In
+/// a few bytes a loop for each width would cost more.
+#[inline(always)]
+pub(crate) fn mixed<T: Target, K: KindSource>(
+    target: T,
+    kinds: &K,
+    steps: &Rows,
+    start: FillState,
+    stop: usize,
+    text: &[u8],
+    out: &mut [T::Entry],
+) -> Option<FillState>
+    requires { MayStep (T.fits target) steps.now text.now stop out.old start }
+    ensures { IfSome result (λ here. (stop ≤ here.at) × StepsOn (T.fits target) (T.in_order target) (T.reached target)
+        steps.now (K.kinds_of kinds.now) text.now stop out.old start out.new here) }
+{
+    let mut here = start;
+    'taking: while here.at < stop {
+        here = run(target, Width::One, kinds, steps, here, stop, text, out);
+        if stop <= here.at {
             break;
         }
-        count = target.put(out, count, at, step.shown);
-        row = step.next as usize;
-        at += scalar.size;
+        if target.is_full(out, here.count) {
+            return None;
+        }
+        here = taken_wide(target, kinds, steps, here, text, out)?;
     }
-    FillState { count, row, at }
+    Some(here)
 }

@@ -43,7 +43,7 @@ pub(crate) trait Target: Copy {
         requires room { takes self out.old count at }
         requires shown { IsShown shown }
         ensures counts { count ≤ result }
-        ensures fits { (next stop : ℕ) → at ≤ next → fits self out.old count at stop
+        ensures fits { (next stop : ℕ) → at < next → fits self out.old count at stop
             → fits self out.new result next stop }
         ensures in_order { (from to : ℕ) → at < to → in_order self out.old count from at
             → in_order self out.new result from to }
@@ -74,6 +74,33 @@ impl Target for Breaks {
     #[inline(always)]
     fn is_full(self, out: &[RawBreak], count: usize) -> bool {
         count == out.len()
+    }
+
+    #[inline(always)]
+    fn put(self, out: &mut [RawBreak], count: usize, at: usize, shown: u16) -> usize {
+        put(out, count, at, shown)
+    }
+}
+
+/// The same where the block has more room than bytes are left, so that it is never full.
+#[derive(Clone, Copy)]
+pub(crate) struct AmpleBreaks;
+
+impl Target for AmpleBreaks {
+    type Entry = RawBreak;
+
+    ghost fits = { λ _ out count at stop. count + stop < length out + at };
+
+    ghost takes = { λ _ out count at. count < length out };
+
+    ghost in_order = { λ _ out count from at. IsInOrder out count from at };
+
+    ghost reached = { λ _ profile cell text all last here out.
+        Reached profile cell text all here (given_in out here.count) };
+
+    #[inline(always)]
+    fn is_full(self, _out: &[RawBreak], _count: usize) -> bool {
+        false
     }
 
     #[inline(always)]

@@ -1,6 +1,6 @@
 //! The next breaks or positions of a text, a block at a time.
 
-ghost use Rattle.std.specs.Prelude.{◌≡◌, ℕ, Bool, ◌<◌, [], List, length};
+ghost use Rattle.std.specs.Prelude.{◌≡◌, ℕ, Bool, ◌+◌, ◌<◌, ◌≤◌, [], List, length};
 ghost use Rattle.lbk_calls.specs.Terms.{AreInOrderBy, AtEnd, Break, Cell, Decoded, IsInOrderBy, IsInText, IsPlace};
 ghost use Rattle.lbk_calls.specs.Terms.{Profile, UnitsReachedBy, end_in, given_in, on_from, position_end_in};
 ghost use Rattle.lbk_calls.specs.Calls.{AreGivenWhole, GivesBreaks, GivesBy, GoesOver};
@@ -9,7 +9,7 @@ ghost use Rattle.lbk_calls.specs.State.{goes_on, plain};
 
 use crate::breaking::{going_profile, plain};
 use crate::interface::State;
-use lbk_bytes::{END, FillState, RawBreak, START, end_shown, goes_on, put_end};
+use lbk_bytes::{END, FEW, FillState, RawBreak, START, end_shown, fill_few, goes_on, put_end};
 use lbk_rules::{FlatTable, number_at, place_by, shows_break};
 use lbk_units::{Breaks, Positions, Target, Unit, fill, put_position};
 
@@ -77,6 +77,44 @@ pub fn next_of<T: Given, U: Unit>(
 /// Puts the next breaks of a text into the front of the block, as `lbk_breaks` does, and returns how many. They are
 /// found by masks or without them.
 pub fn give_breaks<const MASKS: bool>(
+    table: &FlatTable,
+    state: &mut State,
+    text: &[u8],
+    out: &mut [RawBreak],
+) -> usize
+    ensures { GivesBreaks table.now text.now state.old state.new (length out.old) out.new result }
+{
+    if state.at <= text.len() && text.len() - state.at < FEW && FEW <= out.len() {
+        return give_few::<MASKS>(table, state, text, out);
+    }
+    give_many::<MASKS>(table, state, text, out)
+}
+
+/// Does the same where fewer bytes are left than the block has room for. It stands apart, as `give_many` does, so that
+/// what one of them needs costs the other nothing.
+#[inline(never)]
+fn give_few<const MASKS: bool>(
+    table: &FlatTable,
+    state: &mut State,
+    text: &[u8],
+    out: &mut [RawBreak],
+) -> usize
+    requires { (state.old.at ≤ length text.now) × (length text.now < state.old.at + length out.old) }
+    ensures { GivesBreaks table.now text.now state.old state.new (length out.old) out.new result }
+{
+    let Some(profile) = going_profile(&plain(state), text.len()) else {
+        return 0;
+    };
+    let start = start_of(state);
+    let Some(here) = fill_few(table, profile, start, text, out) else {
+        return give_many::<MASKS>(table, state, text, out);
+    };
+    settle::<Breaks, u8>(state, here, text, out)
+}
+
+/// Does the same of any text.
+#[inline(never)]
+fn give_many<const MASKS: bool>(
     table: &FlatTable,
     state: &mut State,
     text: &[u8],

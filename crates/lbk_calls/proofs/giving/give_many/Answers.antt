@@ -5,7 +5,7 @@ use Rattle.lbk_bytes.specs.Order.{IsBreak}
 use Rattle.lbk_bytes.specs.Reached.{onward_to}
 use Rattle.lbk_calls.specs.Coming.{IsGoing, IsSpent}
 use Rattle.lbk_calls.proofs.UnitsComingLemmas.{bytes-begin, fills-bytes, gives-filled, gives-none}
-use Rattle.lbk_calls.proofs.giving.give_breaks.Goals as goal
+use Rattle.lbk_calls.proofs.giving.give_many.Goals as goal
 
 pub returns-in_default : goal.returns-in_default
 returns-in_default g c =
