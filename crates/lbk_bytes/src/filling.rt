@@ -58,8 +58,8 @@ pub fn fill_few<K: KindSource>(
 ) -> Option<FillState>
     requires { IsInText start (length text.now) (length out.old)
         × (start.count + length text.now < length out.old + start.at) }
-    ensures { IfSome result (λ here.
-        Fills profile (K.kinds_of table.now) (K.pairs_of table.now) text.now out.old start out.new here) }
+    ensures { IfSome result (λ here. (here.count < length out.old)
+        × Fills profile (K.kinds_of table.now) (K.pairs_of table.now) text.now out.old start out.new here) }
 {
     let steps = rows_of(profile);
     let here = mixed(AmpleBreaks, table, steps, start, text.len(), text, out)?;

@@ -19,8 +19,10 @@ use crate::tries::next_try;
 use lbk_rules::{FlatTable, Profile, rows_of, shows_break};
 
 /// Sets a bit for each break from the start on, the first for the byte there, and clears all other bits of the words.
-/// Goes on until each byte with a bit was taken, or the text ends. What comes at the end is not set.
-pub fn fill_marks(
+/// Goes on until each byte with a bit was taken, or the text ends. What comes at the end is not set. A caller that asks
+/// for one word is one that often has one: then it is taken apart, with little done before its first byte.
+#[inline(always)]
+pub fn fill_marks<const ONE: bool>(
     table: &FlatTable,
     profile: Profile,
     start: FillState,
@@ -39,7 +41,7 @@ pub fn fill_marks(
         result words.new }
 {
     let stop = stop_of(start.at, text, words.len());
-    if words.len() == 1 {
+    if ONE && words.len() == 1 {
         let here = one_word(table, profile, start, stop, text);
         words[0] = here.count as u64;
         return here;

@@ -13,9 +13,8 @@ use crate::stepping::scalars;
 use crate::target::Word;
 use lbk_rules::{FlatTable, Profile, rows_of};
 
-/// A bit for each break from the start on, before a byte that is at most 64 further, in the place of the count. It
-/// stands apart, so that what its loops need stays in registers.
-#[inline(never)]
+/// A bit for each break from the start on, before a byte that is at most 64 further, in the place of the count.
+#[inline(always)]
 pub(crate) fn one_word(
     table: &FlatTable,
     profile: Profile,

@@ -173,11 +173,10 @@ fn taken<T: Target, K: KindSource>(
     if step.shown == HELD {
         return None;
     }
-    let row = step.next as usize;
     let count = target.put(out, here.count, here.at, step.shown);
     Some(FillState {
         count,
-        row,
+        row: step.next as usize,
         at: here.at + scalar.size,
     })
 }

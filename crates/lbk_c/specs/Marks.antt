@@ -1,11 +1,11 @@
 -- What the call promises that sets a bit for each break of a text: each set of clauses once.
-use Rattle.std.specs.Prelude.{◌≡◌, ℕ, false, suc, ◌+◌, ◌-◌, ◌*◌, ◌<◌, ◌≤◌, List, min}
+use Rattle.std.specs.Prelude.{◌≡◌, ℕ, false, suc, ◌+◌, ◌-◌, ◌*◌, ◌<◌, ◌≤◌, List, length, min}
 use Rattle.lbk_rules.specs.declared.Break.{Break}
 use Rattle.lbk_rules.specs.declared.Cell.{Cell}
 use Rattle.lbk_rules.specs.declared.flat_table.FlatTable.{FlatTable}
 use Rattle.lbk_bytes.specs.Marks.{boundary_from, from_on, is_marked, stands_among}
 use Rattle.lbk_calls.specs.declared.interface.State.{State}
-use Rattle.lbk_calls.specs.Calls.{Advances}
+use Rattle.lbk_calls.specs.Calls.{Advances, BreaksComeAtStart}
 use Rattle.lbk_calls.specs.Coming.{Comes}
 
 -- with any table and state, over a text of `size` bytes and into `room` words: how many offsets the bits cover, and
@@ -28,3 +28,11 @@ pub record MarksNext (cell : ℕ → Cell) (table : FlatTable) (text : List ℕ)
   pub bits : (i : ℕ) → i < 64 * room → is_marked words i ≡ stands_among (old.at + i) to_come
   pub rest : Comes cell table text new (from_on (old.at + 64 * room) to_come)
   pub boundary : old.ended ≡ 0 → new.at ≡ boundary_from text old.at (old.at + 64 * room)
+
+-- all that a call promises of the words that it fills
+pub record MarksWords (table : FlatTable) (text : List ℕ) (old new : State) (room : ℕ) (words : List ℕ) (result : ℕ)
+    : Type 0 where
+  pub marks_over : MarksOver old new (length text) room words result
+  pub begins : BreaksComeAtStart table text old
+  pub marks_next : (cell : ℕ → Cell) (to_come : List Break) → Comes cell table text old to_come
+      → MarksNext cell table text old new room words to_come

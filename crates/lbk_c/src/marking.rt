@@ -5,7 +5,7 @@ ghost use Rattle.lbk_calls.specs.Terms.{Break, Cell, IsFlatOf, UnitsReachedBy, i
 ghost use Rattle.lbk_calls.specs.Calls.{BreaksComeAtStart};
 ghost use Rattle.lbk_calls.specs.Coming.{Comes, IsGoing, MarksBy, from_state, onward_in};
 ghost use Rattle.lbk_calls.specs.State.{plain};
-ghost use Rattle.lbk_c.specs.Marks.{MarksNext, MarksOver};
+ghost use Rattle.lbk_c.specs.Marks.{MarksNext, MarksOver, MarksWords};
 
 use lbk_bytes::{FillState, clear, fill_marks, goes_on, mark_end};
 use lbk_calls::{State, going_profile, plain};
@@ -34,15 +34,51 @@ pub extern "C" fn lbk_marks(
     ensures marks_next { (cell : ℕ → Cell) (to_come : List Break) → Comes cell table.now text.now state.old to_come
         → MarksNext cell table.now text.now state.old state.new (length words.old) words.new to_come }
 {
+    if words.len() == 1 {
+        return marks_of_one(table, state, text, words);
+    }
+    marks_of_many(table, state, text, words)
+}
+
+/// Does the same for one word. It stands apart, as `marks_of_many` does, so that what one of them needs costs the other
+/// nothing.
+#[inline(never)]
+fn marks_of_one(table: &FlatTable, state: &mut State, text: &[u8], words: &mut [u64]) -> usize
+    requires { length words.old ≡ 1 }
+    ensures { MarksWords table.now text.now state.old state.new (length words.old) words.new result }
+{
+    // (so that the compiler knows the length)
+    marks_of::<true>(table, state, text, &mut words[..1])
+}
+
+/// Does the same for any words.
+#[inline(never)]
+fn marks_of_many(table: &FlatTable, state: &mut State, text: &[u8], words: &mut [u64]) -> usize
+    ensures { MarksWords table.now text.now state.old state.new (length words.old) words.new result }
+{
+    marks_of::<false>(table, state, text, words)
+}
+
+/// Does the same, by the loop for one word where there is one and it is asked for.
+#[inline(always)]
+fn marks_of<const ONE: bool>(
+    table: &FlatTable,
+    state: &mut State,
+    text: &[u8],
+    words: &mut [u64],
+) -> usize
+    ensures { MarksWords table.now text.now state.old state.new (length words.old) words.new result }
+{
     let Some(profile) = going_profile(&plain(state), text.len()) else {
         clear(words);
         return 0;
     };
-    go_on(table, profile, state, text, words)
+    go_on::<ONE>(table, profile, state, text, words)
 }
 
 /// Sets the bits from a state from which breaks may be left, and returns how many offsets they cover.
-fn go_on(
+#[inline(always)]
+fn go_on<const ONE: bool>(
     table: &FlatTable,
     profile: Profile,
     state: &mut State,
@@ -73,7 +109,7 @@ fn go_on(
         row: place_by(state.row),
         at: from,
     };
-    let here = fill_marks(table, profile, start, text, words);
+    let here = fill_marks::<ONE>(table, profile, start, text, words);
     state.row = number_at(here.row, state.row);
     state.at = here.at;
     let left = text.len() - from;

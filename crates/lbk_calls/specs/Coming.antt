@@ -7,7 +7,7 @@ use Rattle.lbk_rules.specs.declared.Cell.{Cell}
 use Rattle.lbk_rules.specs.declared.flat_table.FlatTable.{FlatTable}
 use Rattle.lbk_values.specs.declared.profile.Profile.{Profile}
 use Rattle.lbk_rules.specs.FlatTable.{IsFlatOf, KnowsTaken}
-use Rattle.lbk_rules.specs.Rows.{place_by}
+use Rattle.lbk_rules.specs.Rows.{IsPlace, place_by}
 use Rattle.lbk_bytes.specs.declared.fill_state.FillState.{FillState}
 use Rattle.lbk_bytes.specs.declared.raw_break.RawBreak.{RawBreak}
 use Rattle.lbk_calls.specs.declared.interface.State.{State}
@@ -84,6 +84,14 @@ pub record UnitsGo {A : Type 0} (from : Onward) (pieces_of : List A → List Dec
   pub counted : count ≡ min room (length to_come)
   pub front : given ≡ take count to_come
   pub onto : UnitsOnto from pieces_of profile cell text state (drop count to_come)
+
+-- where the breaks in front of a block were the first of those to come from a state on, a call goes on with the others
+abbrev pub UnitsGoOn : {A : Type 0} → Onward → (List A → List Decoded) → List A → State → FillState → List RawBreak → State
+    → List RawBreak → ℕ → Type 0
+UnitsGoOn from pieces_of text old here before new block result =
+    (profile : Profile) (cell : ℕ → Cell) (to_come : List Break) → IsPlace old.row
+    → UnitsReachedBy from profile cell (on_from pieces_of text) to_come here (given_in before here.count)
+    → UnitsGo from pieces_of profile cell text to_come (plain new) (given_in block result) result (length before)
 
 -- of the places from a byte on the bits tell at which those to come stand, and those behind come from the state on,
 -- which stands at the first scalar behind the places, or at the text's end

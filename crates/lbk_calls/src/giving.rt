@@ -2,9 +2,9 @@
 
 ghost use Rattle.std.specs.Prelude.{◌≡◌, ℕ, Bool, ◌+◌, ◌<◌, ◌≤◌, [], List, length};
 ghost use Rattle.lbk_calls.specs.Terms.{AreInOrderBy, AtEnd, Break, Cell, Decoded, IsInOrderBy, IsInText, IsPlace};
-ghost use Rattle.lbk_calls.specs.Terms.{Profile, UnitsReachedBy, end_in, given_in, on_from, position_end_in};
+ghost use Rattle.lbk_calls.specs.Terms.{Profile, end_in, position_end_in};
 ghost use Rattle.lbk_calls.specs.Calls.{AreGivenWhole, GivesBreaks, GivesBy, GoesOver};
-ghost use Rattle.lbk_calls.specs.Coming.{IsGoing, PutsEnd, UnitsGo, from_state, start_by};
+ghost use Rattle.lbk_calls.specs.Coming.{IsGoing, PutsEnd, UnitsGoOn, from_state, start_by};
 ghost use Rattle.lbk_calls.specs.State.{goes_on, plain};
 
 use crate::breaking::{going_profile, plain};
@@ -109,7 +109,7 @@ fn give_few<const MASKS: bool>(
     let Some(here) = fill_few(table, profile, start, text, out) else {
         return give_many::<MASKS>(table, state, text, out);
     };
-    settle::<Breaks, u8>(state, here, text, out)
+    settle_end::<Breaks, u8>(state, here, text, out)
 }
 
 /// Does the same of any text.
@@ -160,17 +160,35 @@ fn settle<T: Given, U: Unit>(
         → IsInOrderBy T.entry out.old here.count state.old.at here.at
         → (length out.old ≡ 0 → here ≡ start_by state.old)
         → GoesOver (AreInOrderBy T.entry) state.old state.new (length text.now) (length out.old) out.new result }
-    ensures goes { (profile : Profile) (cell : ℕ → Cell) (to_come : List Break) → IsPlace state.old.row
-        → UnitsReachedBy (T.onward (T.end_in (goes_on state.old.profile))) profile cell (on_from U.pieces_of text.now)
-        to_come here (given_in out.old here.count)
-        → UnitsGo (T.onward (T.end_in (goes_on state.old.profile))) U.pieces_of profile cell text.now to_come
-        (plain state.new) (given_in out.new result) result (length out.old) }
+    ensures goes { UnitsGoOn (T.onward (T.end_in (goes_on state.old.profile))) U.pieces_of text.now state.old here
+        out.old state.new out.new result }
 {
-    state.row = number_at(here.row, state.row);
-    state.at = here.at;
     if here.count == out.len() {
+        state.row = number_at(here.row, state.row);
+        state.at = here.at;
         return here.count;
     }
+    settle_end::<T, U>(state, here, text, out)
+}
+
+/// Moves the state to the end of a text that was all taken, puts what comes there, and returns how many the block has.
+#[inline(always)]
+fn settle_end<T: Given, U: Unit>(
+    state: &mut State,
+    here: FillState,
+    text: &[U],
+    out: &mut [RawBreak],
+) -> usize
+    requires within { IsInText here (length text.now) (length out.old) }
+    requires ends { (here.at ≡ length text.now) × (here.count < length out.old) }
+    ensures goes_over { (profile : Profile) → IsGoing profile (plain state.old) (length text.now)
+        → IsInOrderBy T.entry out.old here.count state.old.at here.at
+        → GoesOver (AreInOrderBy T.entry) state.old state.new (length text.now) (length out.old) out.new result }
+    ensures goes { UnitsGoOn (T.onward (T.end_in (goes_on state.old.profile))) U.pieces_of text.now state.old here
+        out.old state.new out.new result }
+{
+    state.row = here.row as u16;
+    state.at = text.len();
     state.ended = 1;
     let goes_on = goes_on(state.profile);
     T::put_end(goes_on, here.row, out, here.count, text.len())

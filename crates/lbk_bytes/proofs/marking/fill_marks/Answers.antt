@@ -4,7 +4,7 @@ use Rattle.lbk_bytes.proofs.MarkLemmas.{as-other, marks-further}
 use Rattle.lbk_bytes.proofs.marking.fill_marks.Goals as goal
 
 pub returns-then-words-eq1-clause-marked : goal.returns-then-words-eq1-clause-marked
-returns-then-words-eq1-clause-marked c = λ cell all flat start.
+returns-then-words-eq1-clause-marked g c = λ cell all flat start.
     let a = c.args in
     let word = c.one_word-here in
     let here = word.result in
@@ -14,7 +14,7 @@ returns-then-words-eq1-clause-marked c = λ cell all flat start.
     (word.ensures.marked cell all flat start))
 
 pub loop-here-preserved : goal.loop-here-preserved
-loop-here-preserved c =
+loop-here-preserved g c =
     let a = c.args in
     let l = c.loop-here in
     record {

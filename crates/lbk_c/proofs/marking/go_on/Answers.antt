@@ -10,7 +10,7 @@ use Rattle.lbk_c.proofs.MarkLemmas.{Marks-ended, Marks-full}
 use Rattle.lbk_c.proofs.marking.go_on.Goals as goal
 
 pub returns-then-words-left-clause-marks : goal.returns-then-words-left-clause-marks
-returns-then-words-left-clause-marks c = λ cell to_come flat start.
+returns-then-words-left-clause-marks g c = λ cell to_come flat start.
     let fill = c.fill_marks-here in
     let here = fill.result in
     let old = c.args.state.now in
@@ -26,7 +26,7 @@ returns-then-words-left-clause-marks c = λ cell to_come flat start.
     (omega arith) (omega (arith, fill.ensures.stops)) fill.ensures.within.2 refl (c.number_at-state.ensures.same start.knows.0) c.requires.unended
 
 pub returns-clause-marks : goal.returns-clause-marks
-returns-clause-marks c = λ cell to_come flat start.
+returns-clause-marks g c = λ cell to_come flat start.
     let fill = c.fill_marks-here in
     let here = fill.result in
     let old = c.args.state.now in

@@ -1,11 +1,9 @@
-use Rattle.std.proofs.Common.{ℕ, [], ◌++◌, length, refl, sym, ap, ap₂, subst, ◌∙◌, arith}
+use Rattle.std.proofs.Common.{ℕ, length, refl, ap, ap₂, arith}
 use Rattle.lbk_bytes.specs.declared.fill_state.FillState.{FillState}
 use Rattle.lbk_calls.specs.declared.interface.State.{State}
 use Rattle.lbk_calls.specs.State.{goes_on, plain}
-use Rattle.lbk_bytes.specs.Reached.{IsInOrderBy}
-use Rattle.lbk_bytes.specs.Shown.{given_in}
-use Rattle.lbk_calls.proofs.GoingLemmas.{over-ended, over-full}
-use Rattle.lbk_calls.proofs.UnitsComingLemmas.{units-ended, units-full}
+use Rattle.lbk_calls.proofs.GoingLemmas.{over-full}
+use Rattle.lbk_calls.proofs.UnitsComingLemmas.{units-full}
 use Rattle.lbk_calls.proofs.giving.settle.Goals as goal
 
 pub returns-then-here-out-clause-goes : goal.returns-then-here-out-clause-goes
@@ -14,22 +12,6 @@ returns-then-here-out-clause-goes g c = λ profile cell to_come is_place here.
     let state : State = record { at = c.args.here.at; row = c.number_at-state.result; profile = old.profile; ended = old.ended } in
     units-full (g.T.Target.onward (g.T.Given.end_in (goes_on old.profile))) g.U.Unit.pieces_of profile cell c.args.text.now to_come c.args.here (plain state) c.args.out.now
     (length c.args.out.now) here c.requires.within.2 refl (c.number_at-state.ensures.same is_place) c.requires.unended (omega (arith, c.requires.within.0)) (omega arith)
-
-pub returns-clause-goes : goal.returns-clause-goes
-returns-clause-goes g c = λ profile cell to_come is_place here.
-    let put = c.put_end in
-    let old = c.args.state.now in
-    let state : State = record { at = c.args.here.at; row = c.number_at-state.result; profile = old.profile; ended = 1 } in
-    let onward = g.T.Target.onward in
-    let end_in = g.T.Given.end_in in
-    let given = given_in c.args.out.now c.args.here.count in
-    units-ended (onward (end_in (goes_on old.profile))) g.U.Unit.pieces_of profile cell c.args.text.now to_come c.args.here (plain state) c.args.out.now put.new.out put.result
-    (length c.args.out.now) here (c.requires.stops (omega (arith, c.requires.within.0))) refl refl
-    (λ taken knows some.
-    put.ensures.front profile cell taken knows some
-    ∙ ap (λ b. given ++ onward (end_in b) profile cell taken (length c.args.text.now) []) c.goes_on-goes_on.ensures
-    ∙ ap (λ ps. given ++ onward (end_in (goes_on old.profile)) profile cell taken (length c.args.text.now) ps) (sym g.met.U.Unit.ends))
-    (omega (arith, put.ensures.within)) (omega arith)
 
 pub returns-then-here-out-clause-goes_over : goal.returns-then-here-out-clause-goes_over
 returns-then-here-out-clause-goes_over g c = λ profile going order stays.
@@ -41,9 +23,4 @@ returns-then-here-out-clause-goes_over g c = λ profile going order stays.
     ap₂ (λ (at row : ℕ). (let state : State = record { at = at; row = row; profile = old.profile; ended = old.ended } in state)) (ap (λ (s : FillState). s.at) there) (c.number_at-state.ensures.kept (ap (λ (s : FillState). s.row) there)))
 
 pub returns-clause-goes_over : goal.returns-clause-goes_over
-returns-clause-goes_over g c = λ profile going order stays.
-    let at = c.args.state.now.at in
-    let ends = c.requires.stops (omega (arith, c.requires.within.0)) in
-    over-ended g.T.Target.entry profile c.args.state.now _ (length c.args.text.now) (length c.args.out.now) c.put_end.new.out c.put_end.result
-    going refl refl ends order.0 (omega (arith, c.put_end.ensures.within)) (omega (arith, c.requires.within.0))
-    (c.put_end.ensures.in_order at _ (omega arith) (subst (λ n. IsInOrderBy g.T.Target.entry c.args.out.now c.args.here.count at n) ends order))
+returns-clause-goes_over g c = λ profile going order stays. c.settle_end.ensures.goes_over profile going order
