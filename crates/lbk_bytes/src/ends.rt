@@ -9,7 +9,7 @@ ghost use Rattle.lbk_bytes.specs.Shown.{given_in};
 
 use crate::filling::put;
 use crate::raw_break::RawBreak;
-use lbk_rules::{Profile, shows_break, step_in};
+use lbk_rules::{Profile, step_in};
 
 /// The kind of a letter.
 const LETTER: u8 = 0;
@@ -36,11 +36,7 @@ pub fn put_end(goes_on: bool, row: usize, out: &mut [RawBreak], count: usize, at
         → (0 < row → 0 < length taken) → given_in out.new result ≡ given_in out.old count
         ++ end_in goes_on profile cell taken at }
 {
-    let shown = end_shown(goes_on, row);
-    if !shows_break(shown) {
-        return count;
-    }
-    put(out, count, at, shown)
+    put(out, count, at, end_shown(goes_on, row))
 }
 
 /// The number of the verdict at an end, or one by which no line breaks. Where the text goes on, that is the verdict

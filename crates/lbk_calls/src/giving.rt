@@ -163,12 +163,12 @@ fn settle<T: Given, U: Unit>(
     ensures goes { UnitsGoOn (T.onward (T.end_in (goes_on state.old.profile))) U.pieces_of text.now state.old here
         out.old state.new out.new result }
 {
+    state.row = number_at(here.row, state.row);
+    state.at = here.at;
     if here.count == out.len() {
-        state.row = number_at(here.row, state.row);
-        state.at = here.at;
         return here.count;
     }
-    settle_end::<T, U>(state, here, text, out)
+    end::<T>(state, here, text.len(), out)
 }
 
 /// Moves the state to the end of a text that was all taken, puts what comes there, and returns how many the block has.
@@ -189,7 +189,25 @@ fn settle_end<T: Given, U: Unit>(
 {
     state.row = here.row as u16;
     state.at = text.len();
+    end::<T>(state, here, text.len(), out)
+}
+
+/// Puts what comes at the end of a text, after which nothing comes from the state on, and returns how many the block
+/// has.
+#[inline(always)]
+fn end<T: Given>(state: &mut State, here: FillState, at: usize, out: &mut [RawBreak]) -> usize
+    requires { (here.count < length out.old) × IsPlace here.row }
+    ensures ended { state.new ≡ record {
+      at = state.old.at;
+      row = state.old.row;
+      profile = state.old.profile;
+      ended = 1;
+    } }
+    ensures puts { PutsEnd T.entry
+        (λ profile cell taken at. T.onward (T.end_in (goes_on state.old.profile)) profile cell taken at [])
+        here.row out.old out.new here.count at result }
+{
     state.ended = 1;
     let goes_on = goes_on(state.profile);
-    T::put_end(goes_on, here.row, out, here.count, text.len())
+    T::put_end(goes_on, here.row, out, here.count, at)
 }
