@@ -67,18 +67,16 @@ pub(crate) fn scalar_of(width: Width, bytes: &[u8]) -> Option<Scalar>
     }
 }
 
-/// The scalar of three bytes at the front of some.
+/// The scalar of three bytes at the front of some. The bytes are joined before they are looked at, since then the
+/// compiler widens each as it is read.
 #[inline(always)]
 fn scalar_of_three(bytes: &[u8]) -> Option<Scalar>
     requires { 2 < length bytes.now }
     ensures { IfSome result (λ scalar. decoded bytes.now ≡ good scalar.code scalar.size) }
 {
     let (first, next, last) = (bytes[0], bytes[1], bytes[2]);
-    if !is_continuation(next) || !is_continuation(last) {
-        return None;
-    }
     let spelled = joined(joined(u32::from(first), next), last);
-    if !takes_three(spelled) {
+    if !is_continuation(next) || !is_continuation(last) || !takes_three(spelled) {
         return None;
     }
     Some(Scalar {
@@ -87,17 +85,17 @@ fn scalar_of_three(bytes: &[u8]) -> Option<Scalar>
     })
 }
 
-/// The scalar of four bytes at the front of some.
+/// The same of four bytes.
 #[inline(always)]
 fn scalar_of_four(bytes: &[u8]) -> Option<Scalar>
     requires { 3 < length bytes.now }
     ensures { IfSome result (λ scalar. decoded bytes.now ≡ good scalar.code scalar.size) }
 {
     let (first, next, third, last) = (bytes[0], bytes[1], bytes[2], bytes[3]);
+    let spelled = joined(joined(joined(u32::from(first), next), third), last);
     if first < 0xF0 || !is_continuation(next) || !is_continuation(third) || !is_continuation(last) {
         return None;
     }
-    let spelled = joined(joined(joined(u32::from(first), next), third), last);
     if !takes_four(spelled) {
         return None;
     }
