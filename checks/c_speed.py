@@ -97,8 +97,8 @@ BOUNDS = [
 # A text, two calls, and the least ratio of the speed of the first to that of the second, which decides each byte by
 # steps alone. So a third less is seen: 1.3, 1.9, 3.4 and 2.5 are measured, where steps that are constants of the code
 # made positions up to 1.3 times as fast as before. Of letters of three bytes 0.6 of the ratio was left where bytes that
-# masks do not tell were never found to be many. Over UTF-16 the row fails where a jump of the loop for breaks crosses the
-# end of 32 bytes, as on Cascade Lake, with 0.58 (docs/log/2026-11-28-places.md).
+# masks do not tell were never found to be many. Over UTF-16 the row fails on Cascade Lake with 0.92
+# (docs/log/2026-11-28-alone.md).
 BESIDE = [
     ("letters of three bytes", "lbk_breaks", "lbk_positions", 1.05),
     ("letters of three bytes", "lbk_breaks_utf16", "lbk_positions_utf16", 1.1),

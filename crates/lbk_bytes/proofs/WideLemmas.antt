@@ -1,5 +1,5 @@
 -- What units of 16 and 32 bits spell.
-use Rattle.std.proofs.Common.{◌≡◌, ℕ, ◌<◌, ◌≤◌, ⊎_elim, Bool, true, false, cond, Option, Some, None, List, [], ◌∷◌, length, drop, map, get_or, refl, sym, ap, ◌∙◌, arith}
+use Rattle.std.proofs.Common.{◌≡◌, ℕ, ◌<◌, ◌≤◌, ⊎_elim, Bool, true, false, cond, IfSome, Option, Some, None, List, [], ◌∷◌, length, drop, map, get_or, refl, sym, ap, subst, ◌∙◌, arith}
 use Rattle.std.specs.Char.{IsScalar}
 use Rattle.std.specs.Option.{SomeIff, unwrap_or}
 use Rattle.std.specs.Char.Escape.{encode_utf16}
@@ -71,6 +71,13 @@ utf16-alone units c some few is_scalar same =
       within = omega arith;
     }
 
+-- a unit that spells a scalar by itself, if it does
+pub utf16-some : (units : List ℕ) (found : Option ℕ) (unit : ℕ) → 0 < length units → get_or units 0 0 < 65536 → unit ≡ get_or units 0 0
+    → SomeIff found (IsScalar unit) unit → IfSome found (λ code. IsScalar code × IsFront pieces_of_utf16 units (record { scalar = code; size = 1 }))
+utf16-some units None unit some few same iff = tt
+utf16-some units (Some c) unit some few same iff =
+    (subst IsScalar (sym iff.1) iff.0, utf16-alone units c some few (subst IsScalar same iff.0) (iff.1 ∙ same))
+
 pub utf16-lone : (units : List ℕ) → 0xD800 ≤ get_or units 0 0 → get_or units 0 0 < 0xE000
     → ¬ (IsPair (get_or units 0 0) (get_or units 1 0))
     → IsFront pieces_of_utf16 units (record { scalar = 0xFFFD; size = 1 })
@@ -127,3 +134,8 @@ utf32-front (u ∷ us) (Some c) some iff = record {
   few = omega arith;
   within = omega arith;
 }
+
+pub utf32-some : (units : List ℕ) (found : Option ℕ) → 0 < length units → SomeIff found (IsScalar (get_or units 0 0)) (get_or units 0 0)
+    → IfSome found (λ code. IsScalar code × IsFront pieces_of_utf32 units (record { scalar = code; size = 1 }))
+utf32-some units None some iff = tt
+utf32-some units (Some c) some iff = (subst IsScalar (sym iff.1) iff.0, utf32-front units (Some c) some iff)

@@ -6,7 +6,7 @@ ghost use Rattle.std.proofs.lemmas.Str.{utf16_chars-nil};
 ghost use Rattle.lbk_bytes.specs.Front.{IsFront};
 ghost use Rattle.lbk_bytes.specs.Pieces.{pieces_of_utf16, utf16_piece};
 
-use crate::unit::{Unit, UnitScalar};
+use crate::unit::{Unit, UnitScalar, code_of};
 
 /// A surrogate without its other half.
 const LONE: UnitScalar = UnitScalar {
@@ -26,6 +26,12 @@ impl Unit for u16 {
             Some(scalar) => UnitScalar { scalar, size: 1 },
             None => front_surrogate(units),
         }
+    }
+
+    /// A surrogate is left to the other call, whatever follows it.
+    #[inline(always)]
+    fn alone(units: &[u16]) -> Option<u32> {
+        code_of(u32::from(units[0]))
     }
 }
 

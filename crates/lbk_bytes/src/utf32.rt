@@ -3,7 +3,7 @@
 ghost use Rattle.std.specs.Prelude.{refl};
 ghost use Rattle.lbk_bytes.specs.Pieces.{pieces_of_utf32};
 
-use crate::unit::{Unit, UnitScalar};
+use crate::unit::{Unit, UnitScalar, code_of};
 
 impl Unit for u32 {
     ghost pieces_of = { pieces_of_utf32 };
@@ -17,5 +17,11 @@ impl Unit for u32 {
             scalar: char::from_u32(units[0]).unwrap_or('\u{FFFD}'),
             size: 1,
         }
+    }
+
+    /// A number that is no scalar is left to the other call.
+    #[inline(always)]
+    fn alone(units: &[u32]) -> Option<u32> {
+        code_of(units[0])
     }
 }

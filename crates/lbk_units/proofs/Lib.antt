@@ -1,4 +1,5 @@
 pub mod UnitLemmas
 pub mod ReachedLemmas
+pub mod RunLemmas
 pub mod EncodingLemmas
 pub mod PositionLemmas

@@ -4,14 +4,16 @@ use Rattle.bstr.specs.Utf8.{Decoded}
 use Rattle.lbk_rules.specs.declared.Cell.{Cell}
 use Rattle.lbk_rules.specs.declared.flat_table.FlatTable.{FlatTable}
 use Rattle.lbk_values.specs.declared.profile.Profile.{Profile}
-use Rattle.lbk_rules.specs.FlatTable.{IsFlatOf}
+use Rattle.lbk_rules.specs.FlatTable.{AreFlatKinds, IsFlatOf}
+use Rattle.lbk_rules.specs.Rows.{steps_in}
+use Rattle.lbk_rules.specs.declared.steps.Step.{Step}
 use Rattle.lbk_bytes.specs.declared.fill_state.FillState.{FillState}
 use Rattle.lbk_bytes.specs.declared.raw_break.RawBreak.{RawBreak}
 use Rattle.lbk_bytes.specs.Bytes.{AtEnd}
 use Rattle.lbk_bytes.specs.Reached.{Ahead, IsInOrderBy, Onward}
 use Rattle.lbk_bytes.specs.Shown.{given_in}
 pub use Rattle.lbk_bytes.specs.Steps.{IsInText}
-use Rattle.lbk_units.specs.Reached.{UnitsReachedBy, on_from}
+use Rattle.lbk_units.specs.Reached.{Follows, UnitsReachedBy, on_from}
 
 -- whatever the table: the call stays in a text of so many units and in the block, does not go back, and writes what
 -- `Is` says, in order
@@ -30,6 +32,16 @@ GivesOf onward profile cell on old start new result =
     (all : Ahead)
     → UnitsReachedBy (onward all.end) profile cell on all.breaks start (given_in old start.count)
     → UnitsReachedBy (onward all.end) profile cell on all.breaks result (given_in new result.count)
+
+-- so it is of a call that takes scalars by the steps of a profile and the kinds of a table
+pub record RunsOn {A : Type 0} (Is : RawBreak → Type 0) (onward : AtEnd → Onward) (pieces_of : List A → List Decoded)
+    (kinds : List ℕ) (steps : List (List Step)) (text : List A) (old : List RawBreak) (start : FillState)
+    (new : List RawBreak) (result : FillState) : Type 0 where
+  pub goes_on : GoesOn Is (length text) old start new result
+  pub gives : (profile : Profile) (cell : ℕ → Cell) (on : ℕ → List Decoded) → steps ≡ steps_in profile
+      → AreFlatKinds kinds cell
+      → Follows pieces_of text on
+      → GivesOf onward profile cell on old start new result
 
 -- the block is filled until it is full or the text ends
 pub record Fills {A : Type 0} (Is : RawBreak → Type 0) (onward : AtEnd → Onward) (pieces_of : List A → List Decoded)

@@ -2,15 +2,16 @@
 
 ghost use Rattle.std.specs.Prelude.{◌≡◌, ℕ, ◌<◌, ◌≤◌, List, length};
 ghost use Rattle.lbk_units.specs.Terms.{AreFlatKinds, AreSteps, Cell, Decoded, IsFlatOf, Profile, steps_in};
-ghost use Rattle.lbk_units.specs.Filling.{Fills, GivesOf, GoesOn, IsInText};
+ghost use Rattle.lbk_units.specs.Filling.{Fills, GivesOf, GoesOn, IsInText, RunsOn};
 ghost use Rattle.lbk_units.specs.Reached.{Follows, on_from};
 
+use crate::alone::{FEW, run_mixed};
 use crate::target::Target;
 use lbk_bytes::{FillState, RawBreak, Unit, decide_one};
 use lbk_rules::{FlatTable, HELD, Profile, Rows, rows_of, step_at};
 
 /// How many codes there are.
-const CODES: usize = 0x11_0000;
+pub(crate) const CODES: usize = 0x11_0000;
 
 /// Goes on until the block is full or the text ends, and writes the breaks or positions before the scalars taken after
 /// those in the front of the block.
@@ -48,31 +49,34 @@ pub fn fill_part<U: Unit, T: Target>(
         → Follows U.pieces_of part.now on
         → GivesOf T.onward profile cell on out.old start out.new result }
 {
-    run::<U, T>(start, part, out, &table.kinds, rows_of(profile))
+    let steps = rows_of(profile);
+    if T::ALONE && FEW < part.len() - start.at {
+        return run_mixed::<U, T>(start, part, out, &table.kinds, steps);
+    }
+    run::<U, T>(start, part.len(), part, out, &table.kinds, steps)
 }
 
-/// Takes scalars as long as no held position comes. It calls nothing, stands apart and is given no more than it needs,
-/// so that all it has stays in registers.
+/// Takes scalars as long as no held position comes, and only those before a unit where scalars of one unit have a loop of
+/// their own. It calls nothing, stands apart and is given no more than it needs, so that all it has stays in registers.
 #[inline(never)]
-fn run<U: Unit, T: Target>(
+pub(crate) fn run<U: Unit, T: Target>(
     start: FillState,
+    until: usize,
     text: &[U],
     out: &mut [RawBreak],
     kinds: &[u8; CODES],
     steps: &Rows,
 ) -> FillState
     requires place { IsInText start (length text.now) (length out.old) }
+    requires until { until ≤ length text.now }
     requires steps { AreSteps steps.now }
-    ensures goes_on { GoesOn T.entry (length text.now) out.old start out.new result }
-    ensures gives { (profile : Profile) (cell : ℕ → Cell) (on : ℕ → List Decoded) → steps.now ≡ steps_in profile
-        → AreFlatKinds kinds.now cell
-        → Follows U.pieces_of text.now on
-        → GivesOf T.onward profile cell on out.old start out.new result }
+    ensures { RunsOn T.entry T.onward U.pieces_of kinds.now steps.now text.now out.old start out.new result }
 {
     let mut count = start.count;
     let mut row = start.row;
     let mut at = start.at;
-    while count < out.len() && at < text.len() {
+    let end = if T::ALONE { until } else { text.len() };
+    while count < out.len() && at < end {
         let found = U::front(&text[at..]);
         let step = step_at(steps, row, kinds[found.scalar as usize]);
         if step.shown == HELD {

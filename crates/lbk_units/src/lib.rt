@@ -2,6 +2,7 @@
 //! of the text on, as with breaks over bytes. What reads a scalar differs between the encodings, the steps do not.
 #![tactic(auto)]
 
+mod alone;
 mod filling;
 mod laws;
 mod positions;

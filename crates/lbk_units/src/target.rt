@@ -21,11 +21,14 @@ pub trait Target {
     // What is written at a unit by this verdict, and what comes after it.
     ghost with_verdict: { ℕ → Verdict → List Break → List Break };
 
+    /// Whether scalars of one unit have a loop of their own.
+    const ALONE: bool;
+
     /// Writes the verdict of a number after the entries in the front of the block, and returns how many these are now.
     fn put(out: &mut [RawBreak], count: usize, at: usize, shown: u16) -> usize
         requires room { count < length out.old }
         requires shown { IsShown shown }
-        ensures within { (result ≤ length out.old) × (count ≤ result) }
+        ensures within { (result ≤ length out.old) × (count ≤ result) × (result ≤ count + 1) }
         ensures in_order { (from to : ℕ) → at < to → IsInOrderBy entry out.old count from at
             → AreInOrderBy entry out.new result from to }
         ensures front { given_in out.new result
@@ -55,6 +58,8 @@ impl Target for Breaks {
 
     ghost adds = { Prim.search rules };
 
+    const ALONE: bool = true;
+
     #[inline(always)]
     fn put(out: &mut [RawBreak], count: usize, at: usize, shown: u16) -> usize {
         put(out, count, at, shown)
@@ -74,6 +79,8 @@ impl Target for Positions {
     ghost steps = { λ end profile cell before at p ps. refl };
 
     ghost adds = { λ at verdict more. refl };
+
+    const ALONE: bool = false;
 
     #[inline(always)]
     fn put(out: &mut [RawBreak], count: usize, at: usize, shown: u16) -> usize {
