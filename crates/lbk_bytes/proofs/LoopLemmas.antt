@@ -1,5 +1,5 @@
 -- One more scalar, in the fast loop and behind it.
-use Rattle.std.proofs.Common.{◌≡◌, ℕ, ◌+◌, ◌<◌, List, [], ◌++◌, length, get_or, drop, refl}
+use Rattle.std.proofs.Common.{◌≡◌, ℕ, ◌+◌, ◌<◌, List, [], ◌++◌, length, get_or, drop, refl, sym, ap, ◌∙◌}
 use Rattle.bstr.specs.Utf8.{decoded}
 use Rattle.lbk_rules.specs.declared.Cell.{Cell}
 use Rattle.lbk_rules.specs.declared.steps.Step.{Step}
@@ -30,6 +30,17 @@ Reached-decided profile cell text all out after here next found inside decided f
     Reached-step profile cell text all here (record { count = next; row = found.row; at = found.at })
     (given_in out here.count) (given_in after next) (decoded (drop here.at text)) (verdict_shown found.shown) refl inside d.moved
     (λ taken known. (decided taken known).knows) (λ taken known. (decided taken known).decides) front r
+
+-- the same of a break that was written by the number of its verdict
+pub Reached-written : (profile : Profile) (cell : ℕ → Cell) (text : List ℕ) (all : Ahead)
+    (out after : List RawBreak) (count row at next shown : ℕ) (found : Decided)
+    → (given_in after next ≡ given_in out count ++ with_break at (verdict_shown shown) []) → found.shown ≡ shown → at < length text
+    → ((taken : List ℕ) → KnowsTaken cell row taken → IsDecided profile cell text at taken found)
+    → Reached profile cell text all (record { count = count; row = row; at = at }) (given_in out count)
+    → Reached profile cell text all (record { count = next; row = found.row; at = found.at }) (given_in after next)
+Reached-written profile cell text all out after count row at next shown found front same inside decided r =
+    Reached-decided profile cell text all out after (record { count = count; row = row; at = at }) next found inside decided
+    (front ∙ ap (λ n. given_in out count ++ with_break at (verdict_shown n) []) (sym same)) r
 
 pub Reached-swift : (profile : Profile) (cell : ℕ → Cell) (text : List ℕ) (all : Ahead) (steps : List (List Step)) (kinds : List ℕ)
     (out after : List RawBreak) (count next row at code size : ℕ) (step : Step)
