@@ -43,11 +43,11 @@ pub fn fill<const MASKS: bool, K: KindSource>(
     copied(fill_on::<MASKS, K>(table, profile, copied(begun), text, out))
 }
 
-/// How many bytes left are few: these are taken with no call, if the block has room for as many breaks.
+/// Fewer bytes than this are few. No block takes them, so one loop does.
 pub const FEW: usize = LEAST;
 
-/// Does the same where fewer bytes are left than the block has room for, or returns none where they are not all common
-/// scalars. Then what the block has is unspecified.
+/// Does what `fill` does, with no call, where the block has room for more breaks than bytes are left. None comes where
+/// a scalar is not common: then what the block has is unspecified, and `fill` takes the bytes anew.
 #[inline(always)]
 pub fn fill_few<K: KindSource>(
     table: &K,
