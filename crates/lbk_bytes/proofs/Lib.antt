@@ -10,6 +10,7 @@ pub mod ReachedLemmas
 pub mod PartLemmas
 pub mod EndLemmas
 pub mod ShownLemmas
+pub mod FillsLemmas
 pub mod StepLemmas
 pub mod BitLemmas
 pub mod BlockScalarLemmas

@@ -46,8 +46,8 @@ pub fn fill<const MASKS: bool, K: KindSource>(
 /// Fewer bytes than this are few. No block takes them, so one loop does.
 pub const FEW: usize = LEAST;
 
-/// Does what `fill` does, with no call, where the block has room for more breaks than bytes are left. None comes where
-/// a scalar is not common: then what the block has is unspecified, and `fill` takes the bytes anew.
+/// Takes common scalars, with no call, where the block has room for more breaks than bytes are left. What it leaves is
+/// for `fill_on`.
 #[inline(always)]
 pub fn fill_few<K: KindSource>(
     table: &K,
@@ -55,15 +55,13 @@ pub fn fill_few<K: KindSource>(
     start: FillState,
     text: &[u8],
     out: &mut [RawBreak],
-) -> Option<FillState>
+) -> FillState
     requires { IsInText start (length text.now) (length out.old)
         × (start.count + length text.now < length out.old + start.at) }
-    ensures { IfSome result (λ here. (here.count < length out.old)
-        × Fills profile (K.kinds_of table.now) (K.pairs_of table.now) text.now out.old start out.new here) }
+    ensures in_room { result.count + length text.now < length out.old + result.at }
+    ensures fills { FillsIn profile (K.kinds_of table.now) (K.pairs_of table.now) text.now out.old start out.new result }
 {
-    let steps = rows_of(profile);
-    let here = mixed(AmpleBreaks, table, steps, start, text.len(), text, out)?;
-    Some(here)
+    mixed(AmpleBreaks, table, rows_of(profile), start, text.len(), text, out)
 }
 
 /// Takes the common scalars of a text of fewer than 64 bytes. A block comes first, unless they are very few or of
@@ -104,9 +102,9 @@ fn copied(state: FillState) -> FillState
     }
 }
 
-/// The same of any text, by blocks of bytes and single scalars in turn.
+/// Does what `fill` does by blocks of bytes and single scalars in turn, in a text of any length.
 #[inline(never)]
-fn fill_on<const MASKS: bool, K: KindSource>(
+pub fn fill_on<const MASKS: bool, K: KindSource>(
     table: &K,
     profile: Profile,
     start: FillState,

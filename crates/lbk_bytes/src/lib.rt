@@ -29,7 +29,7 @@ mod utf8;
 pub use deciding::{Decided, decide_one};
 pub use ends::{END, START, end_shown, put_end};
 pub use fill_state::FillState;
-pub use filling::{FEW, fill, fill_common, fill_few, put};
+pub use filling::{FEW, fill, fill_common, fill_few, fill_on, put};
 pub use marking::{fill_marks, mark_end};
 pub use marks::clear;
 pub use profiles::{goes_on, plain_number, profile_numbered};

@@ -228,8 +228,8 @@ fn taken_wide<T: Target, K: KindSource>(
     taken_whole(target, Width::Two, kinds, steps, here, text, out)
 }
 
-/// Takes all scalars that begin before a byte. None comes where one of them is not common, or the room does not do. In
-/// a few bytes a loop for each width would cost more.
+/// Takes common scalars that begin before a byte, as `scalars` does. In a few bytes a loop for each width would cost
+/// more.
 #[inline(always)]
 pub(crate) fn mixed<T: Target, K: KindSource>(
     target: T,
@@ -239,21 +239,21 @@ pub(crate) fn mixed<T: Target, K: KindSource>(
     stop: usize,
     text: &[u8],
     out: &mut [T::Entry],
-) -> Option<FillState>
+) -> FillState
     requires { MayStep (T.fits target) steps.now text.now stop out.old start }
-    ensures { IfSome result (λ here. (stop ≤ here.at) × StepsOn (T.fits target) (T.in_order target) (T.reached target)
-        steps.now (K.kinds_of kinds.now) text.now stop out.old start out.new here) }
+    ensures { StepsOn (T.fits target) (T.in_order target) (T.reached target) steps.now (K.kinds_of kinds.now) text.now
+        stop out.old start out.new result }
 {
     let mut here = start;
     'taking: while here.at < stop {
         here = run(target, Width::One, kinds, steps, here, stop, text, out);
-        if stop <= here.at {
+        if stop <= here.at || target.is_full(out, here.count) {
             break;
         }
-        if target.is_full(out, here.count) {
-            return None;
-        }
-        here = taken_wide(target, kinds, steps, here, text, out)?;
+        let Some(next) = taken_wide(target, kinds, steps, here, text, out) else {
+            break;
+        };
+        here = next;
     }
-    Some(here)
+    here
 }

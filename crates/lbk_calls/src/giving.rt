@@ -9,7 +9,7 @@ ghost use Rattle.lbk_calls.specs.State.{goes_on, plain};
 
 use crate::breaking::{going_profile, plain};
 use crate::interface::State;
-use lbk_bytes::{END, FEW, FillState, RawBreak, START, end_shown, fill_few, goes_on, put_end};
+use lbk_bytes::{END, FEW, FillState, RawBreak, START, end_shown, fill_few, fill_on, goes_on, put_end};
 use lbk_rules::{FlatTable, number_at, place_by, shows_break};
 use lbk_units::{Breaks, Positions, Target, Unit, fill, put_position};
 
@@ -84,7 +84,7 @@ pub fn give_breaks<const MASKS: bool>(
 ) -> usize
     ensures { GivesBreaks table.now text.now state.old state.new (length out.old) out.new result }
 {
-    if state.at <= text.len() && text.len() - state.at < FEW && FEW <= out.len() {
+    if state.at <= text.len() && text.len() - state.at < FEW.min(out.len()) {
         return give_few::<MASKS>(table, state, text, out);
     }
     give_many::<MASKS>(table, state, text, out)
@@ -106,10 +106,12 @@ fn give_few<const MASKS: bool>(
         return 0;
     };
     let start = start_of(state);
-    let Some(here) = fill_few(table, profile, start, text, out) else {
-        return give_many::<MASKS>(table, state, text, out);
-    };
-    settle_end::<Breaks, u8>(state, here, text, out)
+    let begun = fill_few(table, profile, start, text, out);
+    if begun.at < text.len() {
+        let here = fill_on::<MASKS, FlatTable>(table, profile, begun, text, out);
+        return settle::<Breaks, u8>(state, here, text, out);
+    }
+    settle_end::<Breaks, u8>(state, begun, text, out)
 }
 
 /// Does the same of any text.
