@@ -3,14 +3,17 @@
 ghost use Rattle.std.specs.Prelude.{◌≡◌, ℕ, Bool, ◌+◌, ◌<◌, ◌≤◌, [], List, length};
 ghost use Rattle.lbk_calls.specs.Terms.{AreInOrderBy, AtEnd, Break, Cell, Decoded, IsInOrderBy, IsInText, IsPlace};
 ghost use Rattle.lbk_calls.specs.Terms.{Profile, end_in, position_end_in};
+ghost use Rattle.lbk_bytes.specs.Steps.{FillsIn};
 ghost use Rattle.lbk_calls.specs.Calls.{AreGivenWhole, GivesBreaks, GivesBy, GoesOver};
 ghost use Rattle.lbk_calls.specs.Coming.{IsGoing, PutsEnd, UnitsGoOn, from_state, start_by};
 ghost use Rattle.lbk_calls.specs.State.{goes_on, plain};
 
 use crate::breaking::{going_profile, plain};
 use crate::interface::State;
-use lbk_bytes::{END, FEW, FillState, RawBreak, START, end_shown, fill_few, fill_on, goes_on, put_end};
-use lbk_rules::{FlatTable, number_at, place_by, shows_break};
+use lbk_bytes::{
+    END, FEW, FillState, RawBreak, START, end_shown, fill_few, fill_on, goes_on, put_end,
+};
+use lbk_rules::{FlatTable, Profile, number_at, place_by, shows_break};
 use lbk_units::{Breaks, Positions, Target, Unit, fill, put_position};
 
 /// What a call gives of a text: its breaks, or all its positions.
@@ -108,10 +111,37 @@ fn give_few<const MASKS: bool>(
     let start = start_of(state);
     let begun = fill_few(table, profile, start, text, out);
     if begun.at < text.len() {
-        let here = fill_on::<MASKS, FlatTable>(table, profile, begun, text, out);
-        return settle::<Breaks, u8>(state, here, text, out);
+        let FillState { count, row, at } = begun;
+        return give_rest::<MASKS>(table, profile, state, count, row, at, text, out);
     }
     settle_end::<Breaks, u8>(state, begun, text, out)
+}
+
+/// Goes on from where few bytes were taken, and moves the state. It takes that place field by field: a state that a call
+/// takes stands in memory, which each call over few bytes would pay for.
+#[inline(never)]
+fn give_rest<const MASKS: bool>(
+    table: &FlatTable,
+    profile: Profile,
+    state: &mut State,
+    count: usize,
+    row: usize,
+    at: usize,
+    text: &[u8],
+    out: &mut [RawBreak],
+) -> usize
+    requires going { IsGoing profile (plain state.old) (length text.now) }
+    requires some { 0 < length out.old }
+    requires within { IsInText (record { count = count; row = row; at = at }) (length text.now) (length out.old) }
+    ensures { (start : FillState) (old : List RawBreak) → start ≡ start_by state.old
+        → (IsPlace state.old.row → start ≡ from_state state.old) → length old ≡ length out.old
+        → FillsIn profile table.now.kinds table.now.pairs text.now old start out.old
+        (record { count = count; row = row; at = at })
+        → GivesBreaks table.now text.now state.old state.new (length old) out.new result }
+{
+    let begun = FillState { count, row, at };
+    let here = fill_on::<MASKS, FlatTable>(table, profile, begun, text, out);
+    settle::<Breaks, u8>(state, here, text, out)
 }
 
 /// Does the same of any text.

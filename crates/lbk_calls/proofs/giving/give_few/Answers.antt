@@ -3,23 +3,20 @@ use Rattle.bstr.specs.Utf8.{pieces}
 use Rattle.lbk_bytes.specs.Bytes.{end_in}
 use Rattle.lbk_bytes.specs.Order.{IsBreak}
 use Rattle.lbk_bytes.specs.Reached.{onward_to}
-use Rattle.lbk_bytes.proofs.FillsLemmas.{fills-once, fills-twice}
+use Rattle.lbk_bytes.proofs.FillsLemmas.{fills-once}
 use Rattle.lbk_calls.specs.Coming.{IsGoing}
 use Rattle.lbk_calls.proofs.UnitsComingLemmas.{bytes-begin, fills-bytes, gives-filled}
 use Rattle.lbk_calls.proofs.giving.give_few.Goals as goal
 
+pub give_rest-requires-clause-going : goal.give_rest-requires-clause-going
+give_rest-requires-clause-going g c =
+    subst (λ s. IsGoing c.in-Some.profile s (length c.args.text.now)) c.plain.ensures c.in-Some.ensures
+
 pub returns-then-begun-text : goal.returns-then-begun-text
 returns-then-begun-text g c =
-    let a = c.args in
     let start = c.start_of-start in
     let begun = c.fill_few-begun in
-    let on = c.fill_on-here in
-    let settle = c.settle in
-    gives-filled IsBreak onward_to end_in pieces _ _ a.table.now a.text.now a.state.now (bytes-begin a.table.now a.text.now a.state.now) c.in-Some.profile
-    start.result on.result a.out.now on.new.out settle.new.state settle.new.out settle.result
-    (subst (λ s. IsGoing c.in-Some.profile s (length a.text.now)) c.plain.ensures c.in-Some.ensures) start.ensures.starts start.ensures.same (omega (arith, begun.auto.out, on.auto.out))
-    (fills-bytes a.table.now c.in-Some.profile a.text.now a.out.now start.result on.new.out on.result
-    (fills-twice (omega (arith, c.requires)) (omega (arith, begun.auto.out)) begun.ensures.fills on.ensures)) settle.ensures.goes_over settle.ensures.goes
+    c.give_rest.ensures start.result c.args.out.now start.ensures.starts start.ensures.same (omega (arith, begun.auto.out)) begun.ensures.fills
 
 pub returns : goal.returns
 returns g c =
