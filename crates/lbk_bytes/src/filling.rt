@@ -61,7 +61,15 @@ pub fn fill_few<K: KindSource>(
     ensures in_room { result.count + length text.now < length out.old + result.at }
     ensures fills { FillsIn profile (K.kinds_of table.now) (K.pairs_of table.now) text.now out.old start out.new result }
 {
-    mixed(AmpleBreaks, table, rows_of(profile), start, text.len(), text, out)
+    mixed(
+        AmpleBreaks,
+        table,
+        rows_of(profile),
+        start,
+        text.len(),
+        text,
+        out,
+    )
 }
 
 /// Takes the common scalars of a text of fewer than 64 bytes. A block comes first, unless they are very few or of
