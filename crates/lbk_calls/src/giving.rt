@@ -87,7 +87,8 @@ pub fn give_breaks<const MASKS: bool>(
 ) -> usize
     ensures { GivesBreaks table.now text.now state.old state.new (length out.old) out.new result }
 {
-    if state.at <= text.len() && text.len() - state.at < FEW.min(out.len()) {
+    // A target that has no vectors is one where the size of the code counts, as in a page.
+    if MASKS && state.at <= text.len() && text.len() - state.at < FEW.min(out.len()) {
         return give_few::<MASKS>(table, state, text, out);
     }
     give_many::<MASKS>(table, state, text, out)
