@@ -33,7 +33,6 @@ pub(crate) struct BlockState {
 /// scalars need stays in registers.
 #[inline(never)]
 pub(crate) fn blocks<const MASKS: bool, K: KindSource>(
-    pairs: &Neighbours,
     kinds: &K,
     steps: &Rows,
     start: FillState,
@@ -41,7 +40,7 @@ pub(crate) fn blocks<const MASKS: bool, K: KindSource>(
     out: &mut [RawBreak],
 ) -> FillState
     requires { MayFill steps.now text.now out.old start }
-    ensures { FillsOn steps.now (K.kinds_of kinds.now) pairs.now text.now out.old start out.new result }
+    ensures { FillsOn steps.now (K.kinds_of kinds.now) (K.pairs_of kinds.now) text.now out.old start out.new result }
 {
     if !MASKS {
         return start;
@@ -53,7 +52,7 @@ pub(crate) fn blocks<const MASKS: bool, K: KindSource>(
     }
     loop {
         let from = here.at;
-        here = block(pairs, kinds, steps, here, text, out);
+        here = block(kinds, steps, here, text, out);
         if here.at - from < BLOCK {
             return here;
         }
@@ -63,7 +62,6 @@ pub(crate) fn blocks<const MASKS: bool, K: KindSource>(
 /// Takes the bytes of one block: those that its marks tell by them, and the others by steps.
 #[inline(always)]
 fn block<K: KindSource>(
-    pairs: &Neighbours,
     kinds: &K,
     steps: &Rows,
     start: FillState,
@@ -71,15 +69,15 @@ fn block<K: KindSource>(
     out: &mut [RawBreak],
 ) -> FillState
     requires { MayFill steps.now text.now out.old start }
-    ensures { FillsOn steps.now (K.kinds_of kinds.now) pairs.now text.now out.old start out.new result }
+    ensures { FillsOn steps.now (K.kinds_of kinds.now) (K.pairs_of kinds.now) text.now out.old start out.new result }
 {
-    let Some(marks) = marks_ahead(pairs, start.at, text) else {
+    let Some(marks) = marks_ahead(kinds.pairs(), start.at, text) else {
         return start;
     };
     let end = start.at + BLOCK.min(text.len() - start.at);
     let mut here = start;
     while here.at < end {
-        let there = take_masked(pairs, kinds, steps, start.at, marks, here, text, out);
+        let there = take_masked(kinds, steps, start.at, marks, here, text, out);
         if end <= there.at {
             return there;
         }
@@ -94,7 +92,6 @@ fn block<K: KindSource>(
 /// Takes bytes of a block up to the first that is left to steps, if the row here is that of the byte before.
 #[inline(always)]
 fn take_masked<K: KindSource>(
-    pairs: &Neighbours,
     kinds: &K,
     steps: &Rows,
     at: usize,
@@ -109,11 +106,11 @@ fn take_masked<K: KindSource>(
     ensures goes { GoesIn text.now out.old here out.new result }
     ensures reached { (profile : Profile) (cell : ℕ → Cell) (more : List ℕ) (all : Ahead)
         → steps.now ≡ steps_in profile → AreFlatKinds (K.kinds_of kinds.now) cell
-        → AreTold steps.now (K.kinds_of kinds.now) pairs.now → AreMarks pairs.now text.now at marks
+        → AreTold steps.now (K.kinds_of kinds.now) (K.pairs_of kinds.now) → AreMarks (K.pairs_of kinds.now) text.now at marks
         → Reached profile cell (text.now ++ more) all here (given_in out.old here.count)
         → Reached profile cell (text.now ++ more) all result (given_in out.new result.count) }
 {
-    if !is_told_behind(pairs, here, text) {
+    if !is_told_behind(kinds.pairs(), here, text) {
         return here;
     }
     let begin = here.at - at;
@@ -123,13 +120,12 @@ fn take_masked<K: KindSource>(
         past: here.at,
         left: kept_up_to(kept_from(marks.standing, begin), taken),
     };
-    finish(pairs, kinds, steps, at, taken, marked, text, out)
+    finish(kinds, steps, at, taken, marked, text, out)
 }
 
 /// Writes the breaks that are left in the first bytes of a block, and takes these.
 #[inline(always)]
 fn finish<K: KindSource>(
-    pairs: &Neighbours,
     kinds: &K,
     steps: &Rows,
     at: usize,
@@ -147,17 +143,17 @@ fn finish<K: KindSource>(
         → IsInOrder out.new result.count from result.at }
     ensures reached { (profile : Profile) (cell : ℕ → Cell) (more : List ℕ) (all : Ahead)
         (begin : ℕ)
-        → IsBlock profile cell steps.now (K.kinds_of kinds.now) pairs.now text.now at begin taken
-        → AreLeft pairs.now text.now at begin taken start
-        → Reached profile cell (text.now ++ more) all (place_in pairs.now text.now start)
+        → IsBlock profile cell steps.now (K.kinds_of kinds.now) (K.pairs_of kinds.now) text.now at begin taken
+        → AreLeft (K.pairs_of kinds.now) text.now at begin taken start
+        → Reached profile cell (text.now ++ more) all (place_in (K.pairs_of kinds.now) text.now start)
         (given_in out.old start.count)
         → Reached profile cell (text.now ++ more) all result (given_in out.new result.count) }
 {
     let mut here = start;
     while here.left != 0 && here.count < out.len() {
-        here = take_break(pairs, kinds, steps, at, here, text, out);
+        here = take_break(kinds, steps, at, here, text, out);
     }
-    stopped(pairs, at, taken, here, text)
+    stopped(kinds.pairs(), at, taken, here, text)
 }
 
 /// Where a block was left: after its first bytes, or before the next break that is left in them.
@@ -180,7 +176,6 @@ fn stopped(pairs: &Neighbours, at: usize, taken: usize, here: BlockState, text: 
 /// nothing.
 #[inline(always)]
 fn take_break<K: KindSource>(
-    pairs: &Neighbours,
     kinds: &K,
     steps: &Rows,
     at: usize,
@@ -197,17 +192,17 @@ fn take_break<K: KindSource>(
     ensures onward { (here.count ≤ result.count) × (result.left < here.left) }
     ensures reached { (profile : Profile) (cell : ℕ → Cell) (more : List ℕ) (all : Ahead)
         (begin taken : ℕ)
-        → IsBlock profile cell steps.now (K.kinds_of kinds.now) pairs.now text.now at begin taken
-        → AreLeft pairs.now text.now at begin taken here
-        → Reached profile cell (text.now ++ more) all (place_in pairs.now text.now here)
+        → IsBlock profile cell steps.now (K.kinds_of kinds.now) (K.pairs_of kinds.now) text.now at begin taken
+        → AreLeft (K.pairs_of kinds.now) text.now at begin taken here
+        → Reached profile cell (text.now ++ more) all (place_in (K.pairs_of kinds.now) text.now here)
         (given_in out.old here.count)
-        → AreLeft pairs.now text.now at begin taken result
-        × Reached profile cell (text.now ++ more) all (place_in pairs.now text.now result)
+        → AreLeft (K.pairs_of kinds.now) text.now at begin taken result
+        × Reached profile cell (text.now ++ more) all (place_in (K.pairs_of kinds.now) text.now result)
         (given_in out.new result.count) }
 {
     let index = first_set(here.left);
     let place = at + index;
-    let row = place_by(pairs.rows[text[place - 1] as usize]);
+    let row = place_by(kinds.pairs().rows[text[place - 1] as usize]);
     let step = step_at(steps, row, kinds.kind_of_byte(text[place]));
     BlockState {
         count: put(out, here.count, place, step.shown),

@@ -1,4 +1,5 @@
-use Rattle.std.proofs.Common.{arith}
+use Rattle.std.proofs.Common.{ap, ◌∙◌, arith}
+use Rattle.lbk_bytes.specs.Blocks.{row_before}
 use Rattle.lbk_bytes.proofs.BlockLemmas.{stopped-there}
 use Rattle.lbk_bytes.proofs.BlockOrderLemmas.{order-stopped, past-stopped}
 use Rattle.lbk_bytes.proofs.blocks.finish.Goals as goal
@@ -28,8 +29,8 @@ pub returns-clause-reached : goal.returns-clause-reached
 returns-clause-reached g c = λ profile cell more all begin block left start.
     let l = c.loop-here in
     let stopped = c.stopped.ensures in
-    stopped-there profile cell c.args.text.now more all c.args.steps.now (g.K.KindSource.kinds_of c.args.kinds.now) c.args.pairs.now l.out c.args.at begin c.args.taken l.here c.stopped.result
-    block.within block stopped.count stopped.row stopped.within.1 stopped.all stopped.some (l.invariant.reached profile cell more all begin block left start)
+    stopped-there profile cell c.args.text.now more all c.args.steps.now (g.K.KindSource.kinds_of c.args.kinds.now) (g.K.KindSource.pairs_of c.args.kinds.now) l.out c.args.at begin c.args.taken l.here c.stopped.result
+    block.within block stopped.count (stopped.row ∙ ap (λ p. row_before p c.args.text.now c.stopped.result.at) c.pairs.ensures) stopped.within.1 stopped.all stopped.some (l.invariant.reached profile cell more all begin block left start)
 
 pub returns-clause-in_order : goal.returns-clause-in_order
 returns-clause-in_order g c = λ from order.

@@ -14,10 +14,10 @@ invariant-loop-here g l = record {
   onward : l.fn.start.past ≤ l.here.past;
   in_order : (from : ℕ) → IsInOrder l.fn.out l.fn.start.count from l.fn.start.past → IsInOrder l.out l.here.count from l.here.past;
   reached : (profile : Profile) (cell : ℕ → Cell) (more : List ℕ) (all : Ahead) (begin : ℕ)
-      → IsBlock profile cell l.steps (g.K.KindSource.kinds_of l.kinds) l.pairs l.text l.at begin l.taken
-      → AreLeft l.pairs l.text l.at begin l.taken l.fn.start
-      → Reached profile cell (l.text ++ more) all (place_in l.pairs l.text l.fn.start) (given_in l.fn.out l.fn.start.count)
-      → AreLeft l.pairs l.text l.at begin l.taken l.here × Reached profile cell (l.text ++ more) all (place_in l.pairs l.text l.here) (given_in l.out l.here.count);
+      → IsBlock profile cell l.steps (g.K.KindSource.kinds_of l.kinds) (g.K.KindSource.pairs_of l.kinds) l.text l.at begin l.taken
+      → AreLeft (g.K.KindSource.pairs_of l.kinds) l.text l.at begin l.taken l.fn.start
+      → Reached profile cell (l.text ++ more) all (place_in (g.K.KindSource.pairs_of l.kinds) l.text l.fn.start) (given_in l.fn.out l.fn.start.count)
+      → AreLeft (g.K.KindSource.pairs_of l.kinds) l.text l.at begin l.taken l.here × Reached profile cell (l.text ++ more) all (place_in (g.K.KindSource.pairs_of l.kinds) l.text l.here) (given_in l.out l.here.count);
 }
 
 abbrev pub decreases-loop-here : goal.decreases-loop-here

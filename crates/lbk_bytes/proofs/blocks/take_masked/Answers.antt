@@ -1,4 +1,4 @@
-use Rattle.std.proofs.Common.{◌≡◌, ◌+◌, ◌-◌, arith}
+use Rattle.std.proofs.Common.{◌≡◌, ◌+◌, ◌-◌, subst, arith}
 use Rattle.lbk_bytes.specs.declared.blocks.BlockState.{BlockState}
 use Rattle.lbk_bytes.specs.Blocks.{Rests}
 use Rattle.lbk_bytes.proofs.BlockBeginLemmas.{is-block}
@@ -26,7 +26,7 @@ finish-requires-clause-ahead g c =
 pub returns-clause-reached : goal.returns-clause-reached
 returns-clause-reached g c = λ profile cell more all swift are_kinds told are_marks start.
     let text = c.args.text.now in
-    let pairs = c.args.pairs.now in
+    let pairs = g.K.KindSource.pairs_of c.args.kinds.now in
     let here = c.args.here in
     let at = c.args.at in
     let begin = here.at - at in
@@ -34,7 +34,7 @@ returns-clause-reached g c = λ profile cell more all swift are_kinds told are_m
     let taken = c.taken_from-taken in
     let far = taken.ensures.within in
     let inside = taken.ensures.inside text at (omega arith) c.requires.place.7 in
-    let rests : Rests pairs here text = c.is_told_behind.ensures c.if-not-is_told_behind.false in
+    let rests : Rests pairs here text = subst (λ p. Rests p here text) c.pairs.ensures (c.is_told_behind.ensures c.if-not-is_told_behind.false) in
     let block = is-block profile cell c.args.steps.now (g.K.KindSource.kinds_of c.args.kinds.now) pairs text at begin taken.result c.args.marks here swift are_kinds told (λ i. (c.type_inv.text i).fits)
     are_marks rests is_at far.0 far.1 inside start.knows.0 taken.ensures.told taken.ensures.stops in
     let marked : BlockState = record { count = here.count; past = here.at; left = c.kept_up_to.result } in

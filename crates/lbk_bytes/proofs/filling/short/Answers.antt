@@ -1,4 +1,4 @@
-use Rattle.std.proofs.Common.{List, length, sym, subst, ◌∙◌, arith}
+use Rattle.std.proofs.Common.{List, length, refl, sym, subst, ◌∙◌, arith}
 use Rattle.lbk_bytes.specs.declared.fill_state.FillState.{FillState}
 use Rattle.lbk_bytes.specs.declared.raw_break.RawBreak.{RawBreak}
 use Rattle.lbk_bytes.specs.Steps.{FillsIn}
@@ -28,7 +28,7 @@ begun g c =
             in_order = blocks.in_order;
             reached = λ cell more all flat start.
                 blocks.reached profile cell more all steps.ensures flat.kinds
-                (told-as profile kinds pairs w.pairs.result.now cell steps.result.now flat w.pairs.ensures steps.ensures) start;
+                (told-as profile kinds pairs pairs cell steps.result.now flat refl steps.ensures) start;
           }))
       | else-this-ne0 w ↦
           subst (λ (out : List RawBreak). fills out c.if-this-ne0.here) (sym w.out-is)
