@@ -20,6 +20,7 @@ pub mod BlockOrderLemmas
 pub mod BoundaryLemmas
 pub mod MarkLemmas
 pub mod MarkStepLemmas
+pub mod GatherLemmas
 pub mod MarkPlaceLemmas
 pub mod MarkBitLemmas
 pub mod MarkBlockLemmas

@@ -20,7 +20,7 @@ use Rattle.lbk_rules.specs.Rows.{IsPlace, steps_in}
 use Rattle.lbk_values.specs.declared.profile.Profile.{Profile}
 use Rattle.lbk_bytes.specs.declared.fill_state.FillState.{FillState}
 use Rattle.lbk_bytes.specs.Bytes.{with_break}
-use Rattle.lbk_bytes.specs.Marking.{AreBelow, AreClear, Marked, MarksFurther, MarksOn, uncounted}
+use Rattle.lbk_bytes.specs.Marking.{AreBelow, AreClear, Marked, MarksFurther, MarksOn, Told, uncounted}
 use Rattle.lbk_bytes.specs.Marks.{boundary_from, is_marked, stands_among}
 use Rattle.lbk_bytes.specs.Reached.{Ahead, Reached, onward_to}
 use Rattle.lbk_masks.proofs.BitLemmas.{set-none}
@@ -67,16 +67,6 @@ marked-one words index i s within =
     ∙ or-none (is_marked words i) (s && (index == i)) (and_right s (index == i) (ne_eqb index i (λ e. apart (ap (λ n. n / 64) (sym e))))))
     (cases_eq (i / 64) (index / 64))
 
--- the same of one word
-pub marked-bit : (word index i : ℕ) (s : Bool) → index < 64
-    → is_marked (bit_or word (from_bool s * 2 ^ index % 2 ^ 64) ∷ []) i ≡ (is_marked (word ∷ []) i || (s && (index == i)))
-marked-bit word index i s few =
-    let bit = λ (n : ℕ). from_bool s * 2 ^ n % 2 ^ 64 in
-    let goal = is_marked (word ∷ []) i || (s && (index == i)) in
-    subst (λ n. is_marked (bit_or word (bit n) ∷ []) i ≡ goal) (let e : index % 64 ≡ index = omega arith in e)
-    (subst (λ q. is_marked (set (word ∷ []) q (bit_or (get_or (word ∷ []) q 0) (bit (index % 64)))) i ≡ goal) (let e : index / 64 ≡ 0 = omega arith in e)
-    (marked-one (word ∷ []) index i s (omega arith)))
-
 -- behind the last word no bit is set
 pub marked-past : (words : List ℕ) (i : ℕ) → 64 * length words ≤ i → is_marked words i ≡ false
 marked-past words i past = ap (λ n. is_set n (i % 64)) (get_or_past words (i / 64) 0 (omega arith)) ∙ set-none (i % 64)
@@ -111,18 +101,17 @@ later : (profile : Profile) (cell : ℕ → Cell) (text : List ℕ) (all : Ahead
 later profile cell text all here given r = record { taken = r.taken; knows = r.knows; some = r.some; joined = refl }
 
 -- some breaks more
-pub record Adds (profile : Profile) (cell : ℕ → Cell) (text : List ℕ) (all : Ahead) (from stop : ℕ) (here there : FillState) (old new : List ℕ) : Type 0 where
+pub record Adds (profile : Profile) (cell : ℕ → Cell) (text : List ℕ) (all : Ahead) (from stop : ℕ) (here there : FillState) (size : ℕ) (old new : ℕ → Bool) : Type 0 where
   pub given : List Break
   pub reached : Reached profile cell text all (uncounted there) given
   pub below : AreBelow stop given
-  pub marked : (i : ℕ) → i < 64 * length old → is_marked new i ≡ (is_marked old i || stands_among (from + i) given)
+  pub marked : (i : ℕ) → i < size → new i ≡ (old i || stands_among (from + i) given)
   pub boundary : boundary_from text there.at stop ≡ boundary_from text here.at stop
 
-pub Marked-more : (profile : Profile) (cell : ℕ → Cell) (text : List ℕ) (all : Ahead) (from stop : ℕ) (here there : FillState) (old new : List ℕ)
-    → length new ≡ length old
-    → ((rest : Ahead) → Reached profile cell text rest (uncounted here) [] → Adds profile cell text rest from stop here there old new)
-    → Marked profile cell text all from stop here old → Marked profile cell text all from stop there new
-Marked-more profile cell text all from stop here there old new same adds m =
+pub Told-more : (profile : Profile) (cell : ℕ → Cell) (text : List ℕ) (all : Ahead) (from stop : ℕ) (here there : FillState) (size : ℕ) (old new : ℕ → Bool)
+    → ((rest : Ahead) → Reached profile cell text rest (uncounted here) [] → Adds profile cell text rest from stop here there size old new)
+    → Told profile cell text all from stop here size old → Told profile cell text all from stop there size new
+Told-more profile cell text all from stop here there size old new adds m =
     let r = m.reached in
     let rest : Ahead = record { breaks = onward_to all.end profile cell r.taken here.at (pieces (drop here.at text)); end = all.end } in
     let more = adds rest (later profile cell text all (uncounted here) m.given r) in
@@ -137,11 +126,19 @@ Marked-more profile cell text all from stop here there old new same adds m =
       };
       below = below-append stop m.given more.given m.below more.below;
       marked = λ i h.
-          more.marked i (omega arith)
-          ∙ ap (λ s. s || stands_among (from + i) more.given) (m.marked i (omega arith))
+          more.marked i h
+          ∙ ap (λ s. s || stands_among (from + i) more.given) (m.marked i h)
           ∙ sym (among-append (from + i) m.given more.given);
       boundary = more.boundary ∙ m.boundary;
     }
+
+pub Marked-more : (profile : Profile) (cell : ℕ → Cell) (text : List ℕ) (all : Ahead) (from stop : ℕ) (here there : FillState) (old new : List ℕ)
+    → length new ≡ length old
+    → ((rest : Ahead) → Reached profile cell text rest (uncounted here) [] → Adds profile cell text rest from stop here there (64 * length old) (is_marked old) (is_marked new))
+    → Marked profile cell text all from stop here old → Marked profile cell text all from stop there new
+Marked-more profile cell text all from stop here there old new same adds m =
+    subst (λ n. Told profile cell text all from stop there (64 * n) (is_marked new)) (sym same)
+    (Told-more profile cell text all from stop here there (64 * length old) (is_marked old) (is_marked new) adds m)
 
 -- The ways of going on
 

@@ -1,5 +1,5 @@
 -- How far a call has come that sets a bit for each break.
-use Rattle.std.specs.Prelude.{◌≡◌, ℕ, ◌+◌, ◌*◌, ◌<◌, ◌≤◌, false, List, [], ◌∷◌, ◌++◌, length}
+use Rattle.std.specs.Prelude.{◌≡◌, ℕ, ◌+◌, ◌*◌, ◌<◌, ◌≤◌, Bool, false, List, [], ◌∷◌, ◌++◌, get_or, length}
 use Rattle.lbk_rules.specs.declared.Break.{Break}
 use Rattle.lbk_rules.specs.declared.Cell.{Cell}
 use Rattle.lbk_values.specs.declared.profile.Profile.{Profile}
@@ -8,7 +8,7 @@ use Rattle.lbk_rules.specs.declared.steps.Step.{Step}
 use Rattle.lbk_rules.specs.FlatTable.{IsFlatOf}
 use Rattle.lbk_rules.specs.Rows.{AreSteps, IsPlace, steps_in}
 use Rattle.lbk_bytes.specs.declared.fill_state.FillState.{FillState}
-use Rattle.lbk_bytes.specs.Marks.{boundary_from, is_marked, stands_among}
+use Rattle.lbk_bytes.specs.Marks.{boundary_from, breaks_at, is_marked, stands_among}
 use Rattle.lbk_bytes.specs.Reached.{Ahead, Reached}
 
 -- all breaks stand before a byte
@@ -29,15 +29,31 @@ AreClear from at words = (i : ℕ) → at ≤ from + i → is_marked words i ≡
 abbrev pub uncounted : FillState → FillState
 uncounted here = record { count = 0; row = here.row; at = here.at }
 
--- some breaks were given, all before byte `stop`: their bits are set, counted from byte `from` on, and no others; the
--- call stands between two scalars, of which the one before began before that byte
-pub record Marked (profile : Profile) (cell : ℕ → Cell) (text : List ℕ) (all : Ahead) (from stop : ℕ)
-    (here : FillState) (words : List ℕ) : Type 0 where
+-- some breaks were given, all before byte `stop`: of so many bytes from byte `from` on, this is told of those with one
+-- before them, and of no others; the call stands between two scalars, of which the one before began before that byte
+pub record Told (profile : Profile) (cell : ℕ → Cell) (text : List ℕ) (all : Ahead) (from stop : ℕ)
+    (here : FillState) (size : ℕ) (tells : ℕ → Bool) : Type 0 where
   pub given : List Break
   pub reached : Reached profile cell text all (uncounted here) given
   pub below : AreBelow stop given
-  pub marked : (i : ℕ) → i < 64 * length words → is_marked words i ≡ stands_among (from + i) given
+  pub marked : (i : ℕ) → i < size → tells i ≡ stands_among (from + i) given
   pub boundary : boundary_from text here.at stop ≡ boundary_from text from stop
+
+-- the bits of some words tell it
+abbrev pub Marked : Profile → (ℕ → Cell) → List ℕ → Ahead → ℕ → ℕ → FillState → List ℕ → Type 0
+Marked profile cell text all from stop here words =
+    Told profile cell text all from stop here (64 * length words) (is_marked words)
+
+-- The bits of one word tell it, where a call counts, and kinds of verdicts. From where the call stands on there are none
+-- of these.
+pub record Gathered (profile : Profile) (cell : ℕ → Cell) (text : List ℕ) (all : Ahead) (from stop : ℕ)
+    (here : FillState) (kinds : List ℕ) : Type 0 where
+  pub none : (i : ℕ) → here.at ≤ from + i → get_or kinds i 0 ≡ 0
+  pub told : Told profile cell text all from stop here 64 (breaks_at here.count kinds)
+
+-- after so many bits, counted from byte `from` on, no line breaks from byte `at` on
+abbrev pub AreGathered : ℕ → ℕ → ℕ → List ℕ → Type 0
+AreGathered from at word kinds = (i : ℕ) → at ≤ from + i → breaks_at word kinds i ≡ false
 
 -- blocks of bytes may be taken from here on by steps of some profile, and there is a bit for each byte of the text from
 -- byte `from` on
@@ -66,3 +82,12 @@ pub record MarksFurther (table : FlatTable) (profile : Profile) (text : List ℕ
   pub marked : (cell : ℕ → Cell) (all : Ahead) → IsFlatOf table cell
       → Marked profile cell text all from stop start old
       → Marked profile cell text all from stop result new
+
+-- the same of kinds of verdicts, and of the word that is counted
+pub record GathersFurther (table : FlatTable) (profile : Profile) (text : List ℕ) (from stop : ℕ) (old : List ℕ)
+    (start : FillState) (new : List ℕ) (result : FillState) : Type 0 where
+  pub within : IsPlace result.row × (start.at < result.at) × (result.at ≤ length text) × (result.at ≤ stop + 3)
+  pub none : AreGathered from start.at start.count old → AreGathered from result.at result.count new
+  pub gathered : (cell : ℕ → Cell) (all : Ahead) → IsFlatOf table cell
+      → Gathered profile cell text all from stop start old
+      → Gathered profile cell text all from stop result new

@@ -1,5 +1,5 @@
 -- Breaks as bits: one for each byte of a text from a place on.
-use Rattle.std.specs.Prelude.{ℕ, ◌+◌, ◌==◌, ◌||◌, Bool, false, List, [], ◌∷◌, drop, nat_le}
+use Rattle.std.specs.Prelude.{ℕ, ◌+◌, ◌==◌, ◌||◌, Bool, false, not, List, [], ◌∷◌, drop, get_or, nat_le}
 use Rattle.std.specs.Prelude.{if◌then◌else◌}
 use Rattle.bstr.specs.Utf8.{Decoded, pieces}
 use Rattle.lbk_rules.specs.declared.Break.{Break}
@@ -24,3 +24,8 @@ boundary_among place at (p ∷ ps) = if nat_le place at then at else boundary_am
 -- the same of the scalars of a text, which are read from byte `at` on
 abbrev pub boundary_from : List ℕ → ℕ → ℕ → ℕ
 boundary_from text at place = boundary_among place at (pieces (drop at text))
+
+-- bits of a word are set for some breaks, and the kinds of other verdicts stand in numbers, one for each byte: whether a
+-- line may or must break before this byte
+abbrev pub breaks_at : ℕ → List ℕ → ℕ → Bool
+breaks_at word kinds i = is_marked (word ∷ []) i || not (get_or kinds i 0 == 0)

@@ -32,16 +32,6 @@ pub(crate) fn mark(words: &mut [u64], index: usize, is_set: bool)
     words[index / BITS] |= u64::from(is_set) << (index % BITS);
 }
 
-/// Sets a bit of one word, if it is to be set.
-#[inline(always)]
-pub(crate) fn with_bit(word: usize, index: usize, is_set: bool) -> usize
-    requires { index < 64 }
-    ensures more { word ≤ result }
-    ensures bits { (i : ℕ) → is_marked (result ∷ []) i ≡ (is_marked (word ∷ []) i || (is_set && (index == i))) }
-{
-    word | (usize::from(is_set) << index)
-}
-
 /// Sets bits of some words that are set in a number, the first of them at an index. Those behind the last word are left
 /// out.
 #[inline(always)]

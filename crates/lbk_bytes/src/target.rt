@@ -1,16 +1,16 @@
 //! What is written of the positions that the loops decide: breaks into a block, or bits into words.
 
-ghost use Rattle.std.specs.Prelude.{◌≡◌, ℕ, ◌+◌, ◌*◌, ◌<◌, ◌≤◌, ◌∷◌, [], List, IsTrue, length};
+ghost use Rattle.std.specs.Prelude.{◌≡◌, ℕ, ◌+◌, ◌*◌, ◌<◌, ◌≤◌, List, IsTrue, length};
 ghost use Rattle.lbk_bytes.specs.Terms.{Cell, IsShown, KnowsTaken, Profile};
 ghost use Rattle.lbk_bytes.specs.declared.deciding.Decided.{Decided};
 ghost use Rattle.lbk_bytes.specs.declared.fill_state.FillState.{FillState};
 ghost use Rattle.lbk_bytes.specs.Decided.{IsDecided};
-ghost use Rattle.lbk_bytes.specs.Marking.{AreClear, Marked};
+ghost use Rattle.lbk_bytes.specs.Marking.{AreClear, AreGathered, Gathered, Marked};
 ghost use Rattle.lbk_bytes.specs.Reached.{Ahead, IsInOrder, Reached};
 ghost use Rattle.lbk_bytes.specs.Shown.{given_in};
 
 use crate::filling::put;
-use crate::marks::{mark, with_bit};
+use crate::marks::mark;
 use crate::raw_break::RawBreak;
 use lbk_rules::shows_break;
 
@@ -140,32 +140,34 @@ impl Target for Bits {
     }
 }
 
-/// The same in one word, gathered in a register: what a loop counts is the word. Nothing is written to memory.
+/// The kinds of verdicts, a number for each byte of a text from one on. A store takes less than to set a bit, and the
+/// bits of many are made at once.
 #[derive(Clone, Copy)]
-pub(crate) struct Word {
-    /// The byte that the lowest bit is for.
+pub(crate) struct BreakKinds {
+    /// The byte that the first number is for.
     pub(crate) from: usize,
 }
 
-impl Target for Word {
-    type Entry = u64;
+impl Target for BreakKinds {
+    type Entry = u8;
 
-    ghost fits = { λ word out count at stop. (word.from ≤ at) × (stop ≤ word.from + 64) };
+    ghost fits = { λ these kinds word at stop. (these.from ≤ at) × (stop ≤ these.from + length kinds) };
 
-    ghost takes = { λ word out count at. (word.from ≤ at) × (at < word.from + 64) };
+    ghost takes = { λ these kinds word at. (these.from ≤ at) × (at < these.from + length kinds) };
 
-    ghost in_order = { λ word out count from at. AreClear word.from at (count ∷ []) };
+    ghost in_order = { λ these kinds word from at. AreGathered these.from at word kinds };
 
-    ghost reached = { λ word profile cell text all last here out.
-        Marked profile cell text all word.from last here (here.count ∷ []) };
+    ghost reached = { λ these profile cell text all last here kinds.
+        Gathered profile cell text all these.from last here kinds };
 
     #[inline(always)]
-    fn is_full(self, _words: &[u64], _bits: usize) -> bool {
+    fn is_full(self, _kinds: &[u8], _word: usize) -> bool {
         false
     }
 
     #[inline(always)]
-    fn put(self, _words: &mut [u64], bits: usize, at: usize, shown: u16) -> usize {
-        with_bit(bits, at - self.from, shows_break(shown))
+    fn put(self, kinds: &mut [u8], word: usize, at: usize, shown: u16) -> usize {
+        kinds[at - self.from] = (shown % 256) as u8;
+        word
     }
 }

@@ -1,6 +1,6 @@
 //! Sets of bytes, decided by the halves of a byte.
 
-ghost use Rattle.std.specs.Prelude.{◌≡◌, ℕ, ◌+◌, ◌<◌, ◌≤◌, ◌&&◌, length, get_or, nat_le, nat_lt};
+ghost use Rattle.std.specs.Prelude.{◌≡◌, ℕ, ◌+◌, ◌<◌, ◌≤◌, ◌==◌, ◌&&◌, not, length, get_or, nat_le, nat_lt};
 ghost use Rattle.lbk_masks.specs.Sets.{HasLanes, is_in, is_set, meets, sets_in};
 
 use crate::found::joined;
@@ -93,8 +93,26 @@ pub fn wide(text: &[u8]) -> u64
     requires { 64 ≤ length text.now }
     ensures { (i : ℕ) → i < 64 → is_set result i ≡ nat_le 128 (get_or text.now i 0) }
 {
-    let one = joined(0, 0, least(128, block_of(text)));
-    let two = joined(one, 16, least(128, block_of(&text[16..])));
-    let three = joined(two, 32, least(128, block_of(&text[32..])));
-    joined(three, 48, least(128, block_of(&text[48..])))
+    no_less(128, text)
+}
+
+/// Which of the first 64 bytes of a text are not 0, a bit each.
+#[inline(always)]
+pub fn nonzero(text: &[u8]) -> u64
+    requires { 64 ≤ length text.now }
+    ensures { (i : ℕ) → i < 64 → is_set result i ≡ not (get_or text.now i 0 == 0) }
+{
+    no_less(1, text)
+}
+
+/// Which of the first 64 bytes of a text are no less than this one, a bit each.
+#[inline(always)]
+fn no_less(byte: u8, text: &[u8]) -> u64
+    requires { 64 ≤ length text.now }
+    ensures { (i : ℕ) → i < 64 → is_set result i ≡ nat_le byte (get_or text.now i 0) }
+{
+    let one = joined(0, 0, least(byte, block_of(text)));
+    let two = joined(one, 16, least(byte, block_of(&text[16..])));
+    let three = joined(two, 32, least(byte, block_of(&text[32..])));
+    joined(three, 48, least(byte, block_of(&text[48..])))
 }

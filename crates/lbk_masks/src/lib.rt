@@ -19,7 +19,7 @@ mod halves;
 
 pub use bits::{first_set, join, kept_below, kept_from, without_first};
 use found::{Edges, Found, joined};
-pub use halves::{HalfSets, wide};
+pub use halves::{HalfSets, nonzero, wide};
 use std::simd::prelude::*;
 
 /// How many bytes at most have a bit.

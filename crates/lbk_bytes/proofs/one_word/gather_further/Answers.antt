@@ -1,6 +1,6 @@
-use Rattle.std.proofs.Common.{◌∷◌, [], arith}
-use Rattle.lbk_bytes.proofs.MarkLemmas.{Marked-alone}
-use Rattle.lbk_bytes.proofs.one_word.word_further.Goals as goal
+use Rattle.std.proofs.Common.{[], arith}
+use Rattle.lbk_bytes.proofs.GatherLemmas.{Gathered-alone}
+use Rattle.lbk_bytes.proofs.one_word.gather_further.Goals as goal
 
 pub returns-then-stop-common : goal.returns-then-stop-common
 returns-then-stop-common c =
@@ -9,8 +9,8 @@ returns-then-stop-common c =
     record {
       within = (common.ensures.within.1, omega arith, common.ensures.within.2, common.ensures.near (omega arith));
       none = common.ensures.in_order 0;
-      marked = λ cell all flat.
-          Marked-alone a.profile cell a.text.now all a.from a.stop a.here common.result (a.here.count ∷ []) (common.result.count ∷ [])
+      gathered = λ cell all flat.
+          Gathered-alone a.profile cell a.text.now all a.from a.stop a.here common.result a.kinds.now common.new.out
           (common.ensures.reached a.profile cell [] all a.stop c.rows_of-steps.ensures flat.kinds (omega arith));
     }
 
@@ -22,8 +22,8 @@ returns-then-common-past c =
     record {
       within = (past.ensures.within.1, omega (arith, common.ensures.onward.0), past.ensures.within.2, past.ensures.near (omega arith));
       none = λ none. past.ensures.in_order 0 (common.ensures.in_order 0 none);
-      marked = λ cell all flat.
-          Marked-alone a.profile cell a.text.now all a.from a.stop a.here past.result (a.here.count ∷ []) (past.result.count ∷ [])
+      gathered = λ cell all flat.
+          Gathered-alone a.profile cell a.text.now all a.from a.stop a.here past.result a.kinds.now past.new.out
           (λ m. past.ensures.reached a.profile cell [] all a.stop c.rows_of-steps.ensures flat.kinds (omega arith)
           (common.ensures.reached a.profile cell [] all a.stop c.rows_of-steps.ensures flat.kinds (omega arith) m));
     }
@@ -37,9 +37,9 @@ returns c =
     record {
       within = (ones.within.1, omega (arith, common.ensures.onward.0, past.ensures.onward.0, ones.onward.0), ones.within.2, ones.near);
       none = λ none. ones.in_order 0 (past.ensures.in_order 0 (common.ensures.in_order 0 none));
-      marked = λ cell all flat m.
+      gathered = λ cell all flat m.
           ones.reached cell all a.stop flat (omega arith)
-          (Marked-alone a.profile cell a.text.now all a.from a.stop a.here past.result (a.here.count ∷ []) (past.result.count ∷ [])
+          (Gathered-alone a.profile cell a.text.now all a.from a.stop a.here past.result a.kinds.now past.new.out
           (λ m. past.ensures.reached a.profile cell [] all a.stop c.rows_of-steps.ensures flat.kinds (omega arith)
           (common.ensures.reached a.profile cell [] all a.stop c.rows_of-steps.ensures flat.kinds (omega arith) m)) m);
     }
