@@ -23,6 +23,7 @@ use Rattle.lbk_bytes.specs.Bytes.{with_break}
 use Rattle.lbk_bytes.specs.Marking.{AreBelow, AreClear, Marked, MarksFurther, MarksOn, Told, uncounted}
 use Rattle.lbk_bytes.specs.Marks.{boundary_from, is_marked, stands_among}
 use Rattle.lbk_bytes.specs.Reached.{Ahead, Reached, onward_to}
+use Rattle.lbk_bytes.specs.Steps.{StepsOn}
 use Rattle.lbk_masks.proofs.BitLemmas.{set-none}
 use Rattle.lbk_masks.proofs.WordLemmas.{or-none}
 
@@ -280,10 +281,10 @@ word-none table profile text stop start row before within = record {
   marked = λ cell all flat r. Marked-none profile cell text all stop (uncounted start) (0 ∷ []) zero-clear r;
 }
 
-pub word-begun : (table : FlatTable) (profile : Profile) (steps : List (List Step)) (text : List ℕ) (stop : ℕ) (start there : FillState) (new : List ℕ) → stop ≤ length text
-    → steps ≡ steps_in profile → length new ≡ 1 → MarksOn table steps (take stop text) start.at (0 ∷ []) start new there
-    → MarksSoFar table profile text stop start (record { count = get_or new 0 0; row = there.row; at = there.at }) (get_or new 0 0 ∷ [])
-word-begun table profile steps text stop start there new within swift one m =
+pub words-begun : (table : FlatTable) (profile : Profile) (steps : List (List Step)) (text : List ℕ) (stop : ℕ) (start there : FillState) (new : List ℕ) → stop ≤ length text
+    → steps ≡ steps_in profile → MarksOn table steps (take stop text) start.at (0 ∷ []) start new there
+    → MarksSoFar table profile text stop start there new
+words-begun table profile steps text stop start there new within swift m =
     let front = take stop text in
     let ends = length-take-le stop text within in
     record {
@@ -291,9 +292,40 @@ word-begun table profile steps text stop start there new within swift one m =
       onward = m.within.1;
       within = omega (arith, ends, m.within.2);
       near = omega (arith, ends, m.within.2);
-      none = subst (λ w. AreClear start.at there.at w) (as-one new one) (m.none (λ i _. zero-clear i));
+      none = m.none (λ i _. zero-clear i);
       marked = λ cell all flat.
-          Marked-begun profile cell text all start.at stop (uncounted start) (record { count = get_or new 0 0; row = there.row; at = there.at }) (get_or new 0 0 ∷ []) within
-          (λ r. Marked-counted profile cell (front ++ drop stop text) all start.at (length front) there new one
-          (m.marked profile cell (drop stop text) all swift flat (Marked-none profile cell (front ++ drop stop text) all (length front) start (0 ∷ []) zero-clear r)));
+          Marked-begun profile cell text all start.at stop (uncounted start) there new within
+          (λ r. m.marked profile cell (drop stop text) all swift flat (Marked-none profile cell (front ++ drop stop text) all (length front) start (0 ∷ []) zero-clear r));
     }
+
+-- steps taken behind it, whatever may follow the text
+pub words-stepped : (table : FlatTable) (profile : Profile) (steps : List (List Step)) (text : List ℕ) (stop : ℕ) (start here there : FillState) (old new : List ℕ)
+    → here.at ≤ stop → steps ≡ steps_in profile
+    → MarksSoFar table profile text stop start here old
+    → StepsOn (λ words count at stop. (start.at ≤ at) × (stop ≤ start.at + 64 * length words)) (λ words count from at. AreClear start.at at words)
+    (λ profile cell text all last here words. Marked profile cell text all start.at last here words) steps table.kinds text stop old here new there
+    → MarksSoFar table profile text stop start there new
+words-stepped table profile steps text stop start here there old new before swift so_far more = record {
+  row = more.within.1;
+  onward = omega (arith, so_far.onward, more.onward.0);
+  within = more.within.2;
+  near = more.near before;
+  none = more.in_order 0 so_far.none;
+  marked = λ cell all flat r.
+      Marked-alone profile cell text all start.at stop here there old new (more.reached profile cell [] all stop swift flat.kinds (omega arith)) (so_far.marked cell all flat r);
+}
+
+-- its bits in the place of the count
+pub word-counted : (table : FlatTable) (profile : Profile) (text : List ℕ) (stop : ℕ) (start here there : FillState) (words : List ℕ) → length words ≡ 1
+    → there ≡ record { count = get_or words 0 0; row = here.row; at = here.at } → MarksSoFar table profile text stop start here words
+    → MarksSoFar table profile text stop start there (there.count ∷ [])
+word-counted table profile text stop start here there words one is so_far =
+    subst (λ s. MarksSoFar table profile text stop start s (s.count ∷ [])) (sym is)
+    (record {
+      row = so_far.row;
+      onward = so_far.onward;
+      within = so_far.within;
+      near = so_far.near;
+      none = subst (λ w. AreClear start.at here.at w) (as-one words one) so_far.none;
+      marked = λ cell all flat r. Marked-counted profile cell text all start.at stop here words one (so_far.marked cell all flat r);
+    })

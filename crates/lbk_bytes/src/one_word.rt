@@ -1,17 +1,18 @@
 //! One word of bits, which a caller may ask for again and again: little is done before its first byte.
 
-ghost use Rattle.std.specs.Prelude.{ℕ, ◌+◌, ◌<◌, ◌≤◌, ◌∷◌, [], length};
+ghost use Rattle.std.specs.Prelude.{◌≡◌, ℕ, ◌+◌, ◌<◌, ◌≤◌, ◌∷◌, [], get_or, length};
 ghost use Rattle.lbk_bytes.specs.Terms.{Cell, IsFlatOf, IsPlace, Profile};
 ghost use Rattle.lbk_bytes.specs.Marking.{AreClear, GathersFurther, Marked, MarksFurther, uncounted};
 ghost use Rattle.lbk_bytes.specs.Reached.{Ahead, Reached};
 
+use crate::decoding::Width;
 use crate::fill_state::FillState;
 use crate::held::take_ones;
 use crate::mark_blocks::{are_told, mark_block};
 use crate::marks::BITS;
 use crate::pieces::pieces;
-use crate::stepping::scalars;
-use crate::target::BreakKinds;
+use crate::stepping::{run, scalars};
+use crate::target::{Bits, BreakKinds};
 use lbk_masks::nonzero;
 use lbk_rules::{FlatTable, Profile, rows_of};
 
@@ -59,10 +60,25 @@ fn by_block(
         return FillState { count: 0, ..start };
     }
     let mut word = [0];
-    let there = mark_block(table, rows_of(profile), start, start.at, front, &mut word);
+    let steps = rows_of(profile);
+    let there = mark_block(table, steps, start, start.at, front, &mut word);
+    if there.at + 1 != stop {
+        return counted(there, &word);
+    }
+    // A scalar of two bytes that begins in the last byte goes on behind it, so no block has it.
+    let bits = Bits { from: start.at };
+    let past = run(bits, Width::Two, table, steps, there, stop, text, &mut word);
+    counted(past, &word)
+}
+
+/// The state with the bits of a word in the place of the count.
+#[inline(always)]
+fn counted(here: FillState, word: &[u64; 1]) -> FillState
+    ensures { result ≡ record { count = get_or word.now 0 0; row = here.row; at = here.at } }
+{
     FillState {
         count: word[0] as usize,
-        ..there
+        ..here
     }
 }
 

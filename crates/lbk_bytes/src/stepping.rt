@@ -126,7 +126,7 @@ pub(crate) fn runs<T: Target, K: KindSource>(
 /// A run of scalars of one width. In a text most scalars have the width of the one before, so a loop of its own for
 /// each width seldom goes where the processor does not expect it.
 #[inline(always)]
-fn run<T: Target, K: KindSource>(
+pub(crate) fn run<T: Target, K: KindSource>(
     target: T,
     width: Width,
     kinds: &K,
