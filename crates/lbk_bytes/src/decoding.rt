@@ -93,7 +93,7 @@ fn scalar_of_four(bytes: &[u8]) -> Option<Scalar>
 {
     let (first, next, third, last) = (bytes[0], bytes[1], bytes[2], bytes[3]);
     let spelled = joined(joined(joined(u32::from(first), next), third), last);
-    if first < 0xF0 || !is_continuation(next) || !is_continuation(third) || !is_continuation(last) {
+    if !is_continuation(next) || !is_continuation(third) || !is_continuation(last) {
         return None;
     }
     if !takes_four(spelled) {
@@ -225,8 +225,8 @@ fn takes_three(spelled: u32) -> bool
     0xE_287F < spelled && spelled < 0xF_2080 && (spelled < 0xE_F880 || 0xF_007F < spelled)
 }
 
-/// Whether four joined bytes spell a scalar that takes four: it is of no fewer, and a code. So the first byte is none
-/// above F4.
+/// Whether four joined bytes spell a scalar that takes four: it is of no fewer, and a code. So the first byte need not be
+/// looked at.
 #[inline(always)]
 fn takes_four(spelled: u32) -> bool
     ensures { result ≡ true → (0x3C9_2080 ≤ spelled) × (spelled < 0x3D9_2080) }
