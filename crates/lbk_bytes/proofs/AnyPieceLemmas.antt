@@ -6,18 +6,18 @@ use Rattle.bstr.specs.Utf8.{Decoded, decoded, lossy_chars, or_replacement}
 use Rattle.bstr.proofs.lemmas.PieceLemmas.{piece-bounds}
 use Rattle.lbk_rules.specs.declared.Cell.{Cell}
 use Rattle.lbk_rules.specs.declared.steps.Step.{Step}
-use Rattle.lbk_rules.specs.declared.steps.TheConstants.{HELD}
 use Rattle.lbk_values.specs.declared.profile.Profile.{Profile}
 use Rattle.lbk_rules.specs.FlatTable.{AreFlatKinds, KnowsTaken}
 use Rattle.lbk_rules.specs.Kinds.{kind_cell, real_kind}
 use Rattle.lbk_rules.specs.Normal.{normal}
 use Rattle.lbk_rules.specs.RowMachineFits.{normals}
-use Rattle.lbk_rules.specs.Rows.{left_at, step_by, steps_in}
+use Rattle.lbk_rules.specs.Chain.{from_cells}
+use Rattle.lbk_rules.specs.Rows.{left_at, step_by, steps_in, verdict_shown}
 use Rattle.lbk_rules.specs.Verdict.{verdict_between_in}
 use Rattle.lbk_bytes.specs.Decided.{IsDecided}
 use Rattle.lbk_bytes.proofs.CutLemmas.{four-more}
 use Rattle.lbk_bytes.proofs.PieceLemmas.{Reads, piece-within, read-scalar, rest-of, scalar-below}
-use Rattle.lbk_bytes.proofs.StepLemmas.{IsSwiftStep, decides-text, knows-more, swift-step}
+use Rattle.lbk_bytes.proofs.StepLemmas.{IsSwiftStep, Settles, decides-text, knows-more, settled-step, swift-step}
 
 -- what begins here is read as this scalar, and takes so many bytes
 pub record ReadsAs (text : List ℕ) (at code size : ℕ) : Type 0 where
@@ -80,10 +80,10 @@ reads-as-more text more at code size four r =
 -- a step by such a piece decides the position before it
 pub read-decided : (profile : Profile) (cell : ℕ → Cell) (text : List ℕ) (steps : List (List Step)) (kinds : List ℕ) (row at code size : ℕ) (step : Step)
     → steps ≡ steps_in profile → AreFlatKinds kinds cell → ReadsAs text at code size
-    → step ≡ step_by steps row (get_or kinds code 0) → ¬ (step.shown ≡ HELD)
+    → step ≡ step_by steps row (get_or kinds code 0) → Settles steps step
     → (taken : List ℕ) → KnowsTaken cell row taken
     → IsDecided profile cell text at taken (record { shown = step.shown; row = step.next; at = at + size })
-read-decided profile cell text steps kinds row at code size step are are_kinds reads same apart taken known =
+read-decided profile cell text steps kinds row at code size step are are_kinds reads same settles taken known =
     let kind = real_kind (get_or kinds code 0) in
     let is_kind = are_kinds code reads.scalar in
     let here : IsSwiftStep profile (left_at row) (kind_cell kind) step =
@@ -94,6 +94,7 @@ read-decided profile cell text steps kinds row at code size step are are_kinds r
       knows = subst (λ x. KnowsTaken cell step.next (taken ++ x ∷ [])) reads.is_char
           (knows-more cell row step.next code kind is_kind here.begins here.leads taken known);
       decides = decides-text profile cell taken code kind step.shown right is_kind
-          (here.decides apart (reverse (normals cell taken)) (map normal right) (sym known.1))
+          (subst (λ (s : Step). verdict_shown s.shown ≡ from_cells profile (reverse (normals cell taken)) (kind_cell kind ∷ map normal right)) (sym same)
+          (settled-step profile steps row (get_or kinds code 0) are known.0 (subst (Settles steps) same settles) (reverse (normals cell taken)) (map normal right) (sym known.1)))
           ∙ ap (λ x. verdict_between_in profile (map cell taken) (cell x ∷ right)) reads.is_char;
     }

@@ -1,5 +1,5 @@
 -- One more scalar, in the fast loop and behind it.
-use Rattle.std.proofs.Common.{◌≡◌, ℕ, ◌+◌, ◌<◌, List, [], ◌++◌, length, get_or, drop, refl, sym, ap, ◌∙◌}
+use Rattle.std.proofs.Common.{◌≡◌, ℕ, ◌+◌, ◌<◌, List, [], ◌++◌, length, get_or, drop, refl, sym, ap, ◌∙◌, inl}
 use Rattle.bstr.specs.Utf8.{decoded}
 use Rattle.lbk_rules.specs.declared.Cell.{Cell}
 use Rattle.lbk_rules.specs.declared.steps.Step.{Step}
@@ -51,4 +51,4 @@ pub Reached-swift : (profile : Profile) (cell : ℕ → Cell) (text : List ℕ) 
     → Reached profile cell text all (record { count = next; row = step.next; at = at + size }) (given_in after next)
 Reached-swift profile cell text all steps kinds out after count next row at code size step are are_kinds reads inside same apart front r =
     Reached-decided profile cell text all out after (record { count = count; row = row; at = at }) next (record { shown = step.shown; row = step.next; at = at + size })
-    inside (read-decided profile cell text steps kinds row at code size step are are_kinds (as-read text at code size reads) same apart) front r
+    inside (read-decided profile cell text steps kinds row at code size step are are_kinds (as-read text at code size reads) same (inl apart)) front r

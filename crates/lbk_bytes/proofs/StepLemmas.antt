@@ -1,5 +1,6 @@
 -- What a step says of the text.
-use Rattle.std.proofs.Common.{◌≡◌, ℕ, true, false, List, [], ◌∷◌, ◌++◌, get_or, map, reverse, refl, sym, ap, subst, ◌∙◌}
+use Rattle.std.proofs.Common.{◌≡◌, ◌⊎◌, ℕ, ◌<◌, ◌≤◌, Bool, true, false, List, [], ◌∷◌, ◌++◌, get_or, map, reverse, refl, sym, ap, subst, ◌∙◌, ⊎_elim, arith}
+use Rattle.std.proofs.lemmas.Bool.{cases_lt}
 use Rattle.std.specs.Char.{IsScalar}
 use Rattle.lbk_rules.specs.declared.Cell.{Cell}
 use Rattle.lbk_rules.specs.declared.Left.{Left}
@@ -68,6 +69,42 @@ pub swift-step : (profile : Profile) (steps : List (List Step)) (row number : �
     → IsSwiftStep profile (left_at row) (kind_cell (real_kind number)) (step_by steps row number)
 swift-step profile steps row number are is_place =
     subst (λ s. IsSwiftStep profile (left_at row) (kind_cell (real_kind number)) (step_by s row number)) (sym are) (swift-step-in profile row number is_place)
+
+-- where a profile has the steps of the first, none of them leaves a position held
+pub settles-as-first : (profile : Profile) (row number : ℕ) → steps_in profile ≡ steps_in First → IsPlace row
+    → (side more : Side) → facts side ≡ left_at row
+    → verdict_shown (step_by (steps_in profile) row number).shown ≡ from_cells profile side (kind_cell (real_kind number) ∷ more)
+settles-as-first First row number same is_place = (flat-step row number is_place).decides
+settles-as-first Second row number same is_place = λ side more known.
+    let cell = kind_cell (real_kind number) in
+    let one = step_by (steps_in First) row number in
+    let other = step_by (steps_in Second) row number in
+    let step = flat-step row number is_place in
+    let Decides : Type 0 = verdict_shown other.shown ≡ from_cells Second side (cell ∷ more) in
+    let is_one : verdict_shown other.shown ≡ verdict_shown one.shown = ap (λ s. verdict_shown (step_by s row number).shown) same in
+    let held : other.shown ≡ HELD → Decides = λ at_15b.
+    (elim (leaves_closed (units_after (hard cell.class) more)) as (λ (b : Bool). leaves_closed (units_after (hard cell.class) more) ≡ b → Decides) [
+      | true ↦ λ closed. step.closes side more known closed
+      | false ↦ λ stays. is_one ∙ step.opens at_15b side more known stays
+    ]) refl in
+    ⊎_elim (λ (low : other.shown < HELD). step.settled (λ same. omega arith) side more known)
+    (λ (most : HELD ≤ other.shown).
+    ⊎_elim (λ (high : HELD < other.shown). step.settled (λ same. omega arith) side more known)
+    (λ (least : other.shown ≤ HELD). held (omega arith)) (cases_lt HELD other.shown)) (cases_lt other.shown HELD)
+
+-- a step settles the position before its scalar: it does not leave it held, or it is one of the first profile's
+abbrev pub Settles : List (List Step) → Step → Type 0
+Settles steps step = ¬ (step.shown ≡ HELD) ⊎ (steps ≡ steps_in First)
+
+-- so is the position decided
+pub settled-step : (profile : Profile) (steps : List (List Step)) (row number : ℕ) → steps ≡ steps_in profile → IsPlace row
+    → Settles steps (step_by steps row number) → (side more : Side) → facts side ≡ left_at row
+    → verdict_shown (step_by steps row number).shown ≡ from_cells profile side (kind_cell (real_kind number) ∷ more)
+settled-step profile steps row number are is_place settles side more known =
+    ⊎_elim (λ (apart : ¬ ((step_by steps row number).shown ≡ HELD)). (swift-step profile steps row number are is_place).decides apart side more known)
+    (λ (first : steps ≡ steps_in First).
+    subst (λ s. verdict_shown (step_by s row number).shown ≡ from_cells profile side (kind_cell (real_kind number) ∷ more)) (sym are)
+    (settles-as-first profile row number (sym are ∙ first) is_place side more known)) settles
 
 -- what is known of bytes side by side
 pub told-as : (profile : Profile) (kinds : List ℕ) (pairs there : Neighbours) (cell : ℕ → Cell) (steps : List (List Step)) → IsFlatBy kinds pairs cell

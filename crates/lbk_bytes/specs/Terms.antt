@@ -2,6 +2,7 @@
 pub use Rattle.lbk_masks.specs.Bits.{AreKeptBelow, IsLowest}
 pub use Rattle.lbk_masks.specs.Sets.{is_set}
 pub use Rattle.lbk_values.specs.declared.profile.Profile.{Profile}
+pub use Rattle.lbk_values.specs.declared.profile.Profile.TheVariants.{First}
 pub use Rattle.lbk_rules.specs.Classes.{hard}
 pub use Rattle.lbk_rules.specs.FlatTable.{AreFlatKinds, IsFlatBy, IsFlatOf, KnowsTaken}
 pub use Rattle.lbk_rules.specs.Neighbours.{AreTold}

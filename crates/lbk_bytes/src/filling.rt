@@ -1,7 +1,7 @@
 //! A block that is filled with breaks.
 
-ghost use Rattle.std.specs.Prelude.{◌≡◌, ℕ, ◌+◌, ◌<◌, ◌≤◌, ◌++◌, [], IfSome, List, length, take};
-ghost use Rattle.lbk_bytes.specs.Terms.{Cell, IsFlatBy, IsPlace, IsShown, verdict_shown};
+ghost use Rattle.std.specs.Prelude.{◌≡◌, ℕ, ◌+◌, ◌<◌, ◌≤◌, ◌++◌, [], false, IfSome, List, length, take};
+ghost use Rattle.lbk_bytes.specs.Terms.{Cell, First, IsFlatBy, IsPlace, IsShown, verdict_shown};
 ghost use Rattle.lbk_bytes.specs.Bytes.{with_break};
 ghost use Rattle.lbk_bytes.specs.Order.{AreBreaks, AreInOrder};
 ghost use Rattle.lbk_bytes.specs.Reached.{Ahead, IsInOrder, Reached};
@@ -49,19 +49,20 @@ pub const FEW: usize = LEAST;
 /// Takes common scalars, with no call, where the block has room for more breaks than bytes are left. What it leaves is
 /// for `fill_on`.
 #[inline(always)]
-pub fn fill_few<K: KindSource>(
+pub fn fill_few<const HOLDS: bool, K: KindSource>(
     table: &K,
     profile: Profile,
     start: FillState,
     text: &[u8],
     out: &mut [RawBreak],
 ) -> FillState
-    requires { IsInText start (length text.now) (length out.old)
+    requires room { IsInText start (length text.now) (length out.old)
         × (start.count + length text.now < length out.old + start.at) }
+    requires settled { HOLDS ≡ false → profile ≡ First }
     ensures in_room { result.count + length text.now < length out.old + result.at }
     ensures fills { FillsIn profile (K.kinds_of table.now) (K.pairs_of table.now) text.now out.old start out.new result }
 {
-    mixed(
+    mixed::<HOLDS, AmpleBreaks, K>(
         AmpleBreaks,
         table,
         rows_of(profile),

@@ -1,7 +1,7 @@
 //! The loops that take scalars by steps, whatever is written of their positions.
 
-ghost use Rattle.std.specs.Prelude.{◌+◌, ◌<◌, ◌≤◌, IfSome, length};
-ghost use Rattle.lbk_bytes.specs.Terms.{AreSteps, IsPlace};
+ghost use Rattle.std.specs.Prelude.{◌≡◌, ◌+◌, ◌<◌, ◌≤◌, IfSome, false, length};
+ghost use Rattle.lbk_bytes.specs.Terms.{AreSteps, First, IsPlace, steps_in};
 ghost use Rattle.lbk_bytes.specs.Steps.{MayStep, StepsOn, TakesOne};
 ghost use Rattle.lbk_bytes.specs.Widths.{more_of};
 
@@ -82,13 +82,13 @@ pub(crate) fn runs<T: Target, K: KindSource>(
     ensures { StepsOn (T.fits target) (T.in_order target) (T.reached target) steps.now (K.kinds_of kinds.now) text.now
         stop out.old start out.new result }
 {
-    let behind_one = run(target, Width::One, kinds, steps, start, stop, text, out);
+    let behind_one = run::<true, T, K>(target, Width::One, kinds, steps, start, stop, text, out);
     if stop <= behind_one.at {
         return behind_one;
     }
     let first = text[behind_one.at];
     if first < 0xE0 {
-        return run(
+        return run::<true, T, K>(
             target,
             Width::Two,
             kinds,
@@ -100,7 +100,7 @@ pub(crate) fn runs<T: Target, K: KindSource>(
         );
     }
     if first < 0xF0 {
-        return run(
+        return run::<true, T, K>(
             target,
             Width::Three,
             kinds,
@@ -111,7 +111,7 @@ pub(crate) fn runs<T: Target, K: KindSource>(
             out,
         );
     }
-    run(
+    run::<true, T, K>(
         target,
         Width::Four,
         kinds,
@@ -126,7 +126,7 @@ pub(crate) fn runs<T: Target, K: KindSource>(
 /// A run of scalars of one width. In a text most scalars have the width of the one before, so a loop of its own for
 /// each width seldom goes where the processor does not expect it.
 #[inline(always)]
-pub(crate) fn run<T: Target, K: KindSource>(
+pub(crate) fn run<const HOLDS: bool, T: Target, K: KindSource>(
     target: T,
     width: Width,
     kinds: &K,
@@ -136,14 +136,15 @@ pub(crate) fn run<T: Target, K: KindSource>(
     text: &[u8],
     out: &mut [T::Entry],
 ) -> FillState
-    requires { MayStep (T.fits target) steps.now text.now stop out.old start }
+    requires steps { MayStep (T.fits target) steps.now text.now stop out.old start }
+    requires settled { HOLDS ≡ false → steps.now ≡ steps_in First }
     ensures { StepsOn (T.fits target) (T.in_order target) (T.reached target) steps.now (K.kinds_of kinds.now) text.now
         stop out.old start out.new result }
 {
     let mut here = start;
     let end = stop.min(text.len().saturating_sub(width.more()));
     'taking: while !target.is_full(out, here.count) && here.at < end {
-        let Some(next) = taken(target, width, kinds, steps, here, text, out) else {
+        let Some(next) = taken::<HOLDS, T, K>(target, width, kinds, steps, here, text, out) else {
             break;
         };
         here = next;
@@ -152,9 +153,10 @@ pub(crate) fn run<T: Target, K: KindSource>(
 }
 
 /// Takes a common scalar of one width, and returns where the call stands then. None comes, and nothing is written,
-/// where none begins or its position is held.
+/// where none begins or its position is held. In the first profile none is, and by its steps a loop may leave the look
+/// out (`HOLDS`).
 #[inline(always)]
-fn taken<T: Target, K: KindSource>(
+fn taken<const HOLDS: bool, T: Target, K: KindSource>(
     target: T,
     width: Width,
     kinds: &K,
@@ -163,14 +165,15 @@ fn taken<T: Target, K: KindSource>(
     text: &[u8],
     out: &mut [T::Entry],
 ) -> Option<FillState>
-    requires { T.takes target out.old here.count here.at × IsPlace here.row × AreSteps steps.now
+    requires stands { T.takes target out.old here.count here.at × IsPlace here.row × AreSteps steps.now
         × (here.at + more_of width < length text.now) }
+    requires settled { HOLDS ≡ false → steps.now ≡ steps_in First }
     ensures { TakesOne (T.fits target) (T.in_order target) (T.reached target) steps.now (K.kinds_of kinds.now) text.now
         out.old here out.new result }
 {
     let scalar = scalar_of(width, &text[here.at..])?;
     let step = step_at(steps, here.row, kinds.kind_at(scalar.code));
-    if step.shown == HELD {
+    if HOLDS && step.shown == HELD {
         return None;
     }
     let count = target.put(out, here.count, here.at, step.shown);
@@ -183,7 +186,7 @@ fn taken<T: Target, K: KindSource>(
 
 /// Does the same where the text may end within a scalar of this width.
 #[inline(always)]
-fn taken_whole<T: Target, K: KindSource>(
+fn taken_whole<const HOLDS: bool, T: Target, K: KindSource>(
     target: T,
     width: Width,
     kinds: &K,
@@ -192,20 +195,21 @@ fn taken_whole<T: Target, K: KindSource>(
     text: &[u8],
     out: &mut [T::Entry],
 ) -> Option<FillState>
-    requires { T.takes target out.old here.count here.at × IsPlace here.row × AreSteps steps.now
+    requires stands { T.takes target out.old here.count here.at × IsPlace here.row × AreSteps steps.now
         × (here.at < length text.now) }
+    requires settled { HOLDS ≡ false → steps.now ≡ steps_in First }
     ensures { TakesOne (T.fits target) (T.in_order target) (T.reached target) steps.now (K.kinds_of kinds.now) text.now
         out.old here out.new result }
 {
     if text.len() - here.at <= width.more() {
         return None;
     }
-    taken(target, width, kinds, steps, here, text, out)
+    taken::<HOLDS, T, K>(target, width, kinds, steps, here, text, out)
 }
 
 /// Does the same with a scalar of more than one byte, of the width that its first byte says.
 #[inline(always)]
-fn taken_wide<T: Target, K: KindSource>(
+fn taken_wide<const HOLDS: bool, T: Target, K: KindSource>(
     target: T,
     kinds: &K,
     steps: &Rows,
@@ -213,25 +217,26 @@ fn taken_wide<T: Target, K: KindSource>(
     text: &[u8],
     out: &mut [T::Entry],
 ) -> Option<FillState>
-    requires { T.takes target out.old here.count here.at × IsPlace here.row × AreSteps steps.now
+    requires stands { T.takes target out.old here.count here.at × IsPlace here.row × AreSteps steps.now
         × (here.at < length text.now) }
+    requires settled { HOLDS ≡ false → steps.now ≡ steps_in First }
     ensures { TakesOne (T.fits target) (T.in_order target) (T.reached target) steps.now (K.kinds_of kinds.now) text.now
         out.old here out.new result }
 {
     let first = text[here.at];
     if 0xEF < first {
-        return taken_whole(target, Width::Four, kinds, steps, here, text, out);
+        return taken_whole::<HOLDS, T, K>(target, Width::Four, kinds, steps, here, text, out);
     }
     if 0xDF < first {
-        return taken_whole(target, Width::Three, kinds, steps, here, text, out);
+        return taken_whole::<HOLDS, T, K>(target, Width::Three, kinds, steps, here, text, out);
     }
-    taken_whole(target, Width::Two, kinds, steps, here, text, out)
+    taken_whole::<HOLDS, T, K>(target, Width::Two, kinds, steps, here, text, out)
 }
 
 /// Takes common scalars that begin before a byte, as `scalars` does. In a few bytes a loop for each width would cost
 /// more.
 #[inline(always)]
-pub(crate) fn mixed<T: Target, K: KindSource>(
+pub(crate) fn mixed<const HOLDS: bool, T: Target, K: KindSource>(
     target: T,
     kinds: &K,
     steps: &Rows,
@@ -240,17 +245,18 @@ pub(crate) fn mixed<T: Target, K: KindSource>(
     text: &[u8],
     out: &mut [T::Entry],
 ) -> FillState
-    requires { MayStep (T.fits target) steps.now text.now stop out.old start }
+    requires steps { MayStep (T.fits target) steps.now text.now stop out.old start }
+    requires settled { HOLDS ≡ false → steps.now ≡ steps_in First }
     ensures { StepsOn (T.fits target) (T.in_order target) (T.reached target) steps.now (K.kinds_of kinds.now) text.now
         stop out.old start out.new result }
 {
     let mut here = start;
     'taking: while here.at < stop {
-        here = run(target, Width::One, kinds, steps, here, stop, text, out);
+        here = run::<HOLDS, T, K>(target, Width::One, kinds, steps, here, stop, text, out);
         if stop <= here.at || target.is_full(out, here.count) {
             break;
         }
-        let Some(next) = taken_wide(target, kinds, steps, here, text, out) else {
+        let Some(next) = taken_wide::<HOLDS, T, K>(target, kinds, steps, here, text, out) else {
             break;
         };
         here = next;

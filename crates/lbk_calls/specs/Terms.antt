@@ -1,6 +1,7 @@
 -- Terms of other crates, for the contracts here and in `lbk_c`.
 pub use Rattle.bstr.specs.Utf8.{Decoded, pieces}
 pub use Rattle.lbk_values.specs.declared.profile.Profile.{Profile}
+pub use Rattle.lbk_values.specs.declared.profile.Profile.TheVariants.{First}
 pub use Rattle.lbk_rules.specs.Breaks.{breaks}
 pub use Rattle.lbk_rules.specs.FlatTable.{IsFlatOf, IsWhole, digest_with}
 pub use Rattle.lbk_rules.specs.Joins.{moved}

@@ -1,8 +1,8 @@
 //! The next breaks or positions of a text, a block at a time.
 
-ghost use Rattle.std.specs.Prelude.{◌≡◌, ℕ, Bool, ◌+◌, ◌<◌, ◌≤◌, [], List, length};
+ghost use Rattle.std.specs.Prelude.{◌≡◌, ℕ, Bool, ◌+◌, ◌<◌, ◌≤◌, [], false, List, length};
 ghost use Rattle.lbk_calls.specs.Terms.{AreInOrderBy, AtEnd, Break, Cell, Decoded, IsInOrderBy, IsInText, IsPlace};
-ghost use Rattle.lbk_calls.specs.Terms.{Profile, end_in, position_end_in};
+ghost use Rattle.lbk_calls.specs.Terms.{First, Profile, end_in, position_end_in};
 ghost use Rattle.lbk_bytes.specs.Steps.{FillsIn};
 ghost use Rattle.lbk_calls.specs.Calls.{AreGivenWhole, GivesBreaks, GivesBy, GoesOver};
 ghost use Rattle.lbk_calls.specs.Coming.{IsGoing, PutsEnd, UnitsGoOn, from_state, start_by};
@@ -89,13 +89,32 @@ pub fn give_breaks<const MASKS: bool>(
 {
     // A target that has no vectors is one where the size of the code counts, as in a page.
     if MASKS && state.at <= text.len() && text.len() - state.at < FEW.min(out.len()) {
+        if state.profile == 0 && state.ended == 0 {
+            return give_plain::<MASKS>(table, state, text, out);
+        }
         return give_few::<MASKS>(table, state, text, out);
     }
     give_many::<MASKS>(table, state, text, out)
 }
 
-/// Does the same where fewer bytes are left than the block has room for. It stands apart, as `give_many` does, so that
-/// what one of them needs costs the other nothing.
+/// Does the same where fewer bytes are left than the block has room for, in the first profile, in which no position is
+/// held, and where the text ends with its last byte. It stands apart, as `give_few` and `give_many` do, so that what
+/// one of them needs costs the others nothing.
+#[inline(never)]
+fn give_plain<const MASKS: bool>(
+    table: &FlatTable,
+    state: &mut State,
+    text: &[u8],
+    out: &mut [RawBreak],
+) -> usize
+    requires plain { (state.old.profile ≡ 0) × (state.old.ended ≡ 0) }
+    requires room { (state.old.at ≤ length text.now) × (length text.now < state.old.at + length out.old) }
+    ensures { GivesBreaks table.now text.now state.old state.new (length out.old) out.new result }
+{
+    give_in::<MASKS, false>(table, Profile::First, state, text, out)
+}
+
+/// Does the same in either profile, whether the text ends there or goes on.
 #[inline(never)]
 fn give_few<const MASKS: bool>(
     table: &FlatTable,
@@ -109,13 +128,31 @@ fn give_few<const MASKS: bool>(
     let Some(profile) = going_profile(&plain(state), text.len()) else {
         return 0;
     };
+    give_in::<MASKS, true>(table, profile, state, text, out)
+}
+
+/// Does the same in a profile, by one loop for any state and one for those of `give_plain`.
+#[inline(always)]
+fn give_in<const MASKS: bool, const ANY: bool>(
+    table: &FlatTable,
+    profile: Profile,
+    state: &mut State,
+    text: &[u8],
+    out: &mut [RawBreak],
+) -> usize
+    requires going { IsGoing profile (plain state.old) (length text.now) }
+    requires room { length text.now < state.old.at + length out.old }
+    requires settled { ANY ≡ false → (profile ≡ First) × (state.old.profile ≡ 0) }
+    ensures { GivesBreaks table.now text.now state.old state.new (length out.old) out.new result }
+{
     let start = start_of(state);
-    let begun = fill_few(table, profile, start, text, out);
+    let begun = fill_few::<ANY, FlatTable>(table, profile, start, text, out);
     if begun.at < text.len() {
         let FillState { count, row, at } = begun;
         return give_rest::<MASKS>(table, profile, state, count, row, at, text, out);
     }
-    settle_end::<Breaks, u8>(state, begun, text, out)
+    let continues = ANY && goes_on(state.profile);
+    settle_end::<Breaks, u8>(continues, state, begun, text, out)
 }
 
 /// Goes on from where few bytes were taken, and moves the state. It takes that place field by field: a state that a call
@@ -201,12 +238,13 @@ fn settle<T: Given, U: Unit>(
     if here.count == out.len() {
         return here.count;
     }
-    end::<T>(state, here, text.len(), out)
+    end::<T>(goes_on(state.profile), state, here, text.len(), out)
 }
 
 /// Moves the state to the end of a text that was all taken, puts what comes there, and returns how many the block has.
 #[inline(always)]
 fn settle_end<T: Given, U: Unit>(
+    continues: bool,
     state: &mut State,
     here: FillState,
     text: &[U],
@@ -214,6 +252,7 @@ fn settle_end<T: Given, U: Unit>(
 ) -> usize
     requires within { IsInText here (length text.now) (length out.old) }
     requires ends { (here.at ≡ length text.now) × (here.count < length out.old) }
+    requires continues { continues ≡ goes_on state.old.profile }
     ensures goes_over { (profile : Profile) → IsGoing profile (plain state.old) (length text.now)
         → IsInOrderBy T.entry out.old here.count state.old.at here.at
         → GoesOver (AreInOrderBy T.entry) state.old state.new (length text.now) (length out.old) out.new result }
@@ -222,14 +261,21 @@ fn settle_end<T: Given, U: Unit>(
 {
     state.row = here.row as u16;
     state.at = text.len();
-    end::<T>(state, here, text.len(), out)
+    end::<T>(continues, state, here, text.len(), out)
 }
 
 /// Puts what comes at the end of a text, after which nothing comes from the state on, and returns how many the block
 /// has.
 #[inline(always)]
-fn end<T: Given>(state: &mut State, here: FillState, at: usize, out: &mut [RawBreak]) -> usize
-    requires { (here.count < length out.old) × IsPlace here.row }
+fn end<T: Given>(
+    continues: bool,
+    state: &mut State,
+    here: FillState,
+    at: usize,
+    out: &mut [RawBreak],
+) -> usize
+    requires room { (here.count < length out.old) × IsPlace here.row }
+    requires continues { continues ≡ goes_on state.old.profile }
     ensures ended { state.new ≡ record {
       at = state.old.at;
       row = state.old.row;
@@ -241,6 +287,5 @@ fn end<T: Given>(state: &mut State, here: FillState, at: usize, out: &mut [RawBr
         here.row out.old out.new here.count at result }
 {
     state.ended = 1;
-    let goes_on = goes_on(state.profile);
-    T::put_end(goes_on, here.row, out, here.count, at)
+    T::put_end(continues, here.row, out, here.count, at)
 }

@@ -1,4 +1,4 @@
-use Rattle.std.proofs.Common.{◌+◌, ◌<◌, ◌++◌, length, length-append, refl, ap, ◌∙◌, arith}
+use Rattle.std.proofs.Common.{◌+◌, ◌<◌, ◌++◌, length, length-append, refl, ap, ◌∙◌, inl, arith}
 use Rattle.lbk_rules.specs.Rows.{step_by}
 use Rattle.lbk_bytes.proofs.AnyPieceLemmas.{read-decided, reads-as, reads-as-more}
 use Rattle.lbk_bytes.proofs.pieces.pieces.Goals as goal
@@ -37,6 +37,6 @@ taking-preserved g c =
           put.ensures.reached profile cell (text ++ more) all last l.row (record { shown = step.shown; row = step.next; at = l.at + size }) refl
           (omega (arith, length-append text more)) (omega (arith, stops))
           (read-decided profile cell (text ++ more) c.args.steps.now (g.K.KindSource.kinds_of c.args.kinds.now) l.row l.at x size step swift are_kinds
-          (reads-as-more text more l.at x size four r) (c.step_at-step.ensures.read ∙ ap (step_by c.args.steps.now l.row) c.kind_at.ensures) c.if-step-eq-HELD.false)
+          (reads-as-more text more l.at x size four r) (c.step_at-step.ensures.read ∙ ap (step_by c.args.steps.now l.row) c.kind_at.ensures) (inl c.if-step-eq-HELD.false))
           (l.invariant.reached profile cell more all last swift are_kinds stops start);
     }

@@ -1,8 +1,10 @@
-use Rattle.std.proofs.Common.{◌+◌, ◌<◌, ◌++◌, length, length-append, refl, ap, ◌∙◌, arith}
+use Rattle.std.proofs.Common.{ℕ, not, ◌==◌, ◌+◌, ◌<◌, ◌++◌, length, length-append, refl, ap, ◌∙◌, inl, inr, arith}
 use Rattle.lbk_rules.specs.Rows.{step_by}
 use Rattle.lbk_bytes.proofs.AnyPieceLemmas.{as-read, read-decided}
 use Rattle.lbk_bytes.proofs.CutLemmas.{reads-more}
 use Rattle.lbk_bytes.proofs.PieceLemmas.{reads}
+use Rattle.lbk_bytes.proofs.StepLemmas.{Settles}
+use Rattle.lbk_bytes.proofs.stepping.taken.Goals.{else-this-ne0-via-then-this-ne0+else-step-eq-HELD, else-this-ne0-via-else-this-ne0}
 use Rattle.lbk_bytes.proofs.stepping.taken.Goals as goal
 
 pub kind_at-requires : goal.kind_at-requires
@@ -23,6 +25,11 @@ returns g c =
     let put = c.put-count.ensures in
     let text = c.args.text.now in
     let inside : here.at < length text = omega arith in
+    let settles : Settles c.args.steps.now step =
+    elim c.else-this-ne0.branch [
+      | else-this-ne0-via-then-this-ne0+else-step-eq-HELD w ↦ inl w.if-step-eq-HELD.false
+      | else-this-ne0-via-else-this-ne0 w ↦ inr (c.requires.settled (ap (λ (n : ℕ). not (n == 0)) w.if-this-ne0.false))
+    ] in
     let r = reads text here.at s.code s.size inside c.in_ok-scalar.ensures in (
       omega (arith, r.some),
       λ stop before fits.
@@ -35,7 +42,7 @@ returns g c =
                 put.reached profile cell (text ++ more) all last here.row (record { shown = step.shown; row = step.next; at = here.at + s.size }) refl
                 (omega (arith, length-append text more)) (omega (arith, stops))
                 (read-decided profile cell (text ++ more) c.args.steps.now (g.K.KindSource.kinds_of c.args.kinds.now) here.row here.at s.code s.size step swift are_kinds
-                (as-read (text ++ more) here.at s.code s.size (reads-more text more here.at s.code s.size inside r)) (c.step_at-step.ensures.read ∙ ap (step_by c.args.steps.now here.row) c.kind_at.ensures) c.if-step-eq-HELD.false)
+                (as-read (text ++ more) here.at s.code s.size (reads-more text more here.at s.code s.size inside r)) (c.step_at-step.ensures.read ∙ ap (step_by c.args.steps.now here.row) c.kind_at.ensures) settles)
                 start;
           },
     )

@@ -1,32 +1,7 @@
-use Rattle.std.proofs.Common.{length, subst, arith}
-use Rattle.bstr.specs.Utf8.{pieces}
-use Rattle.lbk_bytes.specs.Bytes.{end_in}
-use Rattle.lbk_bytes.specs.Order.{IsBreak}
-use Rattle.lbk_bytes.specs.Reached.{onward_to}
-use Rattle.lbk_bytes.proofs.FillsLemmas.{fills-once}
+use Rattle.std.proofs.Common.{length, subst}
 use Rattle.lbk_calls.specs.Coming.{IsGoing}
-use Rattle.lbk_calls.proofs.UnitsComingLemmas.{bytes-begin, fills-bytes, gives-filled}
 use Rattle.lbk_calls.proofs.giving.give_few.Goals as goal
 
-pub give_rest-requires-clause-going : goal.give_rest-requires-clause-going
-give_rest-requires-clause-going g c =
+pub give_in-requires-clause-going : goal.give_in-requires-clause-going
+give_in-requires-clause-going g c =
     subst (λ s. IsGoing c.in-Some.profile s (length c.args.text.now)) c.plain.ensures c.in-Some.ensures
-
-pub returns-then-begun-text : goal.returns-then-begun-text
-returns-then-begun-text g c =
-    let start = c.start_of-start in
-    let begun = c.fill_few-begun in
-    c.give_rest.ensures start.result c.args.out.now start.ensures.starts start.ensures.same (omega (arith, begun.auto.out)) begun.ensures.fills
-
-pub returns : goal.returns
-returns g c =
-    let a = c.args in
-    let start = c.start_of-start in
-    let begun = c.fill_few-begun in
-    let settle = c.settle_end in
-    gives-filled IsBreak onward_to end_in pieces _ _ a.table.now a.text.now a.state.now (bytes-begin a.table.now a.text.now a.state.now) c.in-Some.profile
-    start.result begun.result a.out.now begun.new.out settle.new.state settle.new.out settle.result
-    (subst (λ s. IsGoing c.in-Some.profile s (length a.text.now)) c.plain.ensures c.in-Some.ensures) start.ensures.starts start.ensures.same (omega (arith, begun.auto.out))
-    (fills-bytes a.table.now c.in-Some.profile a.text.now a.out.now start.result begun.new.out begun.result
-    (fills-once (omega (arith, c.requires)) (λ room. omega (arith, begun.ensures.fills.within.2, c.if-begun-text.false)) begun.ensures.fills))
-    (λ p going order _. settle.ensures.goes_over p going order) settle.ensures.goes
