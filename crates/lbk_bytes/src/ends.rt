@@ -1,6 +1,6 @@
 //! The end of a text, or of a part of one.
 
-ghost use Rattle.std.specs.Prelude.{◌≡◌, ℕ, ◌+◌, ◌<◌, ◌≤◌, ◌++◌, [], List, length};
+ghost use Rattle.std.specs.Prelude.{◌≡◌, ℕ, ◌+◌, ◌<◌, ◌≤◌, ◌++◌, [], false, List, length};
 ghost use Rattle.lbk_bytes.specs.Terms.{Cell, IsPlace, IsShown, KnowsTaken, Profile, verdict_shown};
 ghost use Rattle.lbk_bytes.specs.Bytes.{end_in, with_break};
 ghost use Rattle.lbk_bytes.specs.Order.{AreBreaks, AreInOrder};
@@ -36,7 +36,27 @@ pub fn put_end(goes_on: bool, row: usize, out: &mut [RawBreak], count: usize, at
         → (0 < row → 0 < length taken) → given_in out.new result ≡ given_in out.old count
         ++ end_in goes_on profile cell taken at }
 {
-    put(out, count, at, end_shown(goes_on, row))
+    if goes_on {
+        return put(out, count, at, end_shown(true, row));
+    }
+    put_last(row, out, count, at)
+}
+
+/// Does the same where the text ends.
+fn put_last(row: usize, out: &mut [RawBreak], count: usize, at: usize) -> usize
+    requires { (count < length out.old) × IsPlace row }
+    ensures within { (result ≤ length out.old) × (count ≤ result) × (result ≤ count + 1) }
+    ensures breaks { AreBreaks out.old count → AreBreaks out.new result }
+    ensures in_order { (from to : ℕ) → at < to → IsInOrder out.old count from at → AreInOrder out.new result from to }
+    ensures front { (profile : Profile) (cell : ℕ → Cell) (taken : List ℕ)
+        → KnowsTaken cell row taken
+        → (0 < row → 0 < length taken) → given_in out.new result ≡ given_in out.old count
+        ++ end_in false profile cell taken at }
+{
+    if row == 0 {
+        return count;
+    }
+    put(out, count, at, END)
 }
 
 /// The number of the verdict at an end, or one by which no line breaks. Where the text goes on, that is the verdict
