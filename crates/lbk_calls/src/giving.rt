@@ -88,11 +88,14 @@ pub fn give_breaks<const MASKS: bool>(
     ensures { GivesBreaks table.now text.now state.old state.new (length out.old) out.new result }
 {
     // A target that has no vectors is one where the size of the code counts, as in a page.
-    if MASKS && state.at <= text.len() && text.len() - state.at < FEW.min(out.len()) {
-        if state.profile == 0 && state.ended == 0 {
-            return give_plain::<MASKS>(table, state, text, out);
+    if MASKS && state.at <= text.len() {
+        let left = text.len() - state.at;
+        if left < FEW && left < out.len() {
+            if state.profile == 0 && state.ended == 0 {
+                return give_plain::<MASKS>(table, state, text, out);
+            }
+            return give_few::<MASKS>(table, state, text, out);
         }
-        return give_few::<MASKS>(table, state, text, out);
     }
     give_many::<MASKS>(table, state, text, out)
 }
