@@ -24,3 +24,4 @@ pub mod Room
 pub mod Gathering
 pub mod Cuts
 pub mod Found
+pub mod NearKinds

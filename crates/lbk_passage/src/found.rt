@@ -1,12 +1,15 @@
 //! The breaks of a text, found a block at a time by the engine for bytes.
 
-ghost use Rattle.std.specs.Prelude.{◌≡◌, ◌+◌, ◌≤◌, ◌++◌, length, take};
+ghost use Rattle.std.specs.Prelude.{◌≡◌, ◌+◌, ◌≤◌, ◌++◌, ℕ, List, length, take};
 ghost use Rattle.lbk_rules.specs.declared.Break.{Break};
+ghost use Rattle.lbk_rules.specs.declared.neighbours.Neighbours.{Neighbours};
+ghost use Rattle.lbk_rules.specs.FlatTable.{IsFlatBy};
 ghost use Rattle.lbk_bytes.specs.Order.{AreBreaks};
 ghost use Rattle.lbk_bytes.specs.Shown.{given_in, raw_of};
 ghost use Rattle.lbk_bytes.specs.Steps.{Fills, IsInText};
 ghost use Rattle.lbk_passage.specs.Found.{FindsNext, IsFound};
 
+use crate::near_kinds::NearKinds;
 use lbk_bytes::{FillState, RawBreak, fill, put_end};
 use lbk_rules::{Break, CellSource, CellTable, KindSource, Profile, verdict_of};
 
@@ -54,13 +57,12 @@ pub(crate) fn find<C: CellSource>(
     if from.ended {
         return from;
     }
-    let table = CellTable::new(cells);
     let start = FillState {
         count: 0,
         row: from.state.row,
         at: from.state.at,
     };
-    let here = fill_from(&table, profile, start, text.as_bytes(), out);
+    let here = fill_by(cells, profile, start, text.as_bytes(), out);
     if here.count == out.len() {
         return Progress {
             state: FillState {
@@ -80,6 +82,25 @@ pub(crate) fn find<C: CellSource>(
         },
         ended: true,
     }
+}
+
+/// Fills a block of breaks by the kinds of these cells, as the source keeps them.
+#[inline(always)]
+fn fill_by<C: CellSource>(
+    cells: &C,
+    profile: Profile,
+    start: FillState,
+    text: &[u8],
+    out: &mut [RawBreak],
+) -> FillState
+    requires { IsInText start (length text.now) (length out.old) }
+    ensures { (kinds : List ℕ) × (pairs : Neighbours) × IsFlatBy kinds pairs (C.cell_of cells.now)
+        × Fills profile kinds pairs text.now out.old start out.new result }
+{
+    let Some(table) = NearKinds::of(cells) else {
+        return fill_from(&CellTable::new(cells), profile, start, text, out);
+    };
+    fill_from(&table, profile, start, text, out)
 }
 
 /// Fills a block of breaks, by blocks of bytes and by steps, or by steps alone where a scalar of three bytes or more comes

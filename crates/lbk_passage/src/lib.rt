@@ -17,6 +17,7 @@ mod kept;
 mod known;
 pub mod laws;
 pub mod lines;
+mod near_kinds;
 mod paragraph;
 mod passage;
 mod pieces;

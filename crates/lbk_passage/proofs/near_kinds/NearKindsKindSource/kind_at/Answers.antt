@@ -1,0 +1,12 @@
+use Rattle.std.proofs.Common.{sym, ◌∙◌, arith}
+use Rattle.lbk_rules.specs.CellTable.{cell_in}
+use Rattle.lbk_rules.proofs.CellTableLemmas.{kinds-at}
+use Rattle.lbk_rules.proofs.PagesLemmas.{scalar_below}
+use Rattle.lbk_passage.proofs.near_kinds.NearKindsKindSource.kind_at.Goals as goal
+
+pub returns-then-place-lt-NEAR : goal.returns-then-place-lt-NEAR
+returns-then-place-lt-NEAR g c =
+    let near = c.args.self.now in
+    let code = c.args.code in
+    near.same code c.requires (omega (arith, near.near, c.if-place-lt-NEAR.true))
+    ∙ sym (kinds-at (cell_in g.C.CellSource.cell_of near.table) code (scalar_below code c.requires))
