@@ -67,7 +67,16 @@ fn by_block(
     }
     // A scalar of two bytes that begins in the last byte goes on behind it, so no block has it.
     let bits = Bits { from: start.at };
-    let past = run::<true, Bits, FlatTable>(bits, Width::Two, table, steps, there, stop, text, &mut word);
+    let past = run::<true, Bits, FlatTable>(
+        bits,
+        Width::Two,
+        table,
+        steps,
+        there,
+        stop,
+        text,
+        &mut word,
+    );
     counted(past, &word)
 }
 
