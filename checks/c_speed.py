@@ -39,14 +39,14 @@ BOUNDS = [
     ("the pages", "lbk_words", 0.45),
     ("the pages", "lbk_cut", 3),
     ("the pages", "lbk_cut_before", 3),
-    ("the pages", "lbk_breaks_utf16", 0.36),
-    ("the pages", "lbk_breaks_utf32", 0.36),
+    ("the pages", "lbk_breaks_utf16", 0.62),
+    ("the pages", "lbk_breaks_utf32", 0.6),
     ("the pages", "lbk_positions_utf16", 0.14),
     ("the pages", "lbk_positions_utf32", 0.14),
     ("the pages", "lbk_cut_utf16", 2),
     ("the pages", "lbk_cut_before_utf16", 2),
     ("the pages", "lbk_marks-1", 0.4),
-    ("the pages", "lbk_feed_utf16", 0.33),
+    ("the pages", "lbk_feed_utf16", 0.58),
     ("letters of two bytes", "lbk_breaks", 0.35),
     ("letters of two bytes", "lbk_breaks-2", 0.35),
     ("letters of two bytes", "lbk_breaks-8", 0.06),
@@ -56,14 +56,14 @@ BOUNDS = [
     ("letters of two bytes", "lbk_words", 0.1),
     ("letters of two bytes", "lbk_cut", 3),
     ("letters of two bytes", "lbk_cut_before", 3),
-    ("letters of two bytes", "lbk_breaks_utf16", 0.6),
-    ("letters of two bytes", "lbk_breaks_utf32", 0.55),
+    ("letters of two bytes", "lbk_breaks_utf16", 1.05),
+    ("letters of two bytes", "lbk_breaks_utf32", 1.0),
     ("letters of two bytes", "lbk_positions_utf16", 0.22),
     ("letters of two bytes", "lbk_positions_utf32", 0.22),
     ("letters of two bytes", "lbk_cut_utf16", 3),
     ("letters of two bytes", "lbk_cut_before_utf16", 3),
     ("letters of two bytes", "lbk_marks-1", 0.38),
-    ("letters of two bytes", "lbk_feed_utf16", 0.57),
+    ("letters of two bytes", "lbk_feed_utf16", 1.0),
     ("letters of three bytes", "lbk_breaks", 0.17),
     ("letters of three bytes", "lbk_breaks-2", 0.17),
     ("letters of three bytes", "lbk_breaks-8", 0.06),
@@ -73,14 +73,14 @@ BOUNDS = [
     ("letters of three bytes", "lbk_words", 0.13),
     ("letters of three bytes", "lbk_cut", 2),
     ("letters of three bytes", "lbk_cut_before", 2),
-    ("letters of three bytes", "lbk_breaks_utf16", 0.75),
-    ("letters of three bytes", "lbk_breaks_utf32", 0.75),
+    ("letters of three bytes", "lbk_breaks_utf16", 1.45),
+    ("letters of three bytes", "lbk_breaks_utf32", 1.4),
     ("letters of three bytes", "lbk_positions_utf16", 0.3),
     ("letters of three bytes", "lbk_positions_utf32", 0.3),
     ("letters of three bytes", "lbk_cut_utf16", 4),
     ("letters of three bytes", "lbk_cut_before_utf16", 4),
     ("letters of three bytes", "lbk_marks-1", 0.1),
-    ("letters of three bytes", "lbk_feed_utf16", 0.57),
+    ("letters of three bytes", "lbk_feed_utf16", 1.2),
     # Without the loop of steps it was 0.033, and `lbk_feed` 0.029; with it 0.056 at least, with other load on the
     # machine.
     (HELD, "lbk_breaks-2", 0.045),
@@ -98,7 +98,7 @@ BOUNDS = [
 # steps alone. So a third less is seen: 1.3, 1.9, 3.4 and 2.5 are measured, where steps that are constants of the code
 # made positions up to 1.3 times as fast as before. Of letters of three bytes 0.6 of the ratio was left where bytes that
 # masks do not tell were never found to be many. UTF-16 and UTF-32 have no masks, so that their breaks are compared with
-# the loop alone, and a third less is seen there (docs/log/2026-11-28-alone.md).
+# the loop alone, at 0.7 of what is measured (docs/log/2026-11-28-alone.md).
 BESIDE = [
     ("letters of three bytes", "lbk_breaks", "lbk_positions", 1.05),
     ("letters of two bytes", "lbk_breaks", "lbk_positions", 2.5),
