@@ -1,6 +1,5 @@
 -- What a reader has to believe.
 pub mod Calls
-pub mod Columns
 pub mod Labels
 pub mod Padding
 pub mod Refused

@@ -1,7 +1,7 @@
 //! Breaks as columns.
 
 ghost use Rattle.std.specs.Prelude.{◌≡◌, ℕ, ◌+◌, ◌<◌, ◌≤◌, ◌%◌, ◌^◌, length, min, slice_index_or};
-ghost use Rattle.lbk_calls.specs.Columns.{no_break};
+ghost use Rattle.lbk_bytes.specs.Order.{no_break};
 
 use lbk_bytes::RawBreak;
 

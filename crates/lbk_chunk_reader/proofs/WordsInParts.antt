@@ -5,7 +5,6 @@ use Rattle.std.specs.List.{concat, flat_map}
 use Rattle.std.proofs.lemmas.List.{drop-append-le, length-map, map-append, take-append-le}
 use Rattle.std.proofs.lemmas.Grind.{flat_map-append}
 use Rattle.bstr.specs.Utf8.{Decoded, or_replacement, pieces}
-use Rattle.bstr.proofs.lemmas.PieceLemmas.{sizes}
 use Rattle.lbk_rules.specs.declared.Cell.{Cell}
 use Rattle.lbk_rules.specs.declared.Verdict.{Verdict}
 use Rattle.lbk_values.specs.declared.profile.Profile.TheVariants.{First}
@@ -19,7 +18,7 @@ use Rattle.lbk_streams.proofs.PieceStartLemmas.{sizes-front}
 use Rattle.lbk_words.specs.Letters.{has_letter}
 use Rattle.lbk_words.specs.Words.{bytes_of, parts_of, words_among, words_of}
 use Rattle.lbk_words.specs.Words.{scalars_of as scalars_read}
-use Rattle.lbk_words.proofs.WalkLemmas.{bytes-append}
+use Rattle.lbk_words.proofs.WalkLemmas.{bytes-append, bytes-sizes}
 use Rattle.lbk_words.proofs.WellFormedLemmas.{concat-parts}
 use Rattle.lbk_chunk_reader.specs.Agreement.{AgreeOnLines}
 use Rattle.lbk_chunk_reader.specs.PassageWords.{moved_word}
@@ -94,11 +93,6 @@ among-moved place at reads (part ∷ parts) =
     (map (moved_word place) rest)
     ≡ map (moved_word place) (cond b (record { start = at; end = end } ∷ rest) rest))
     [ true ↦ refl | false ↦ refl ]
-
-bytes-sizes : (ps : List Decoded) → bytes_of ps ≡ sizes ps
-unfolding sizes
-bytes-sizes [] = refl
-bytes-sizes (p ∷ ps) = ap (λ n. p.size + n) (bytes-sizes ps)
 
 pub words-in-parts : (cell : ℕ → Cell) (text : List ℕ) (place : ℕ) → AgreeOnLines cell → place ≤ length text
     → EndsBefore cell text place

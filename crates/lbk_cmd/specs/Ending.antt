@@ -33,7 +33,8 @@ is_last (Refused (Replay replay.Write)) = true
 is_last (Refused (Replay replay.Memory)) = true
 is_last _ = false
 
--- the ending of a run over texts, from that of the earlier texts and of one more, whose refusal is reported
+-- the ending of a run over texts, from that of the earlier texts and of one more, whose refusal is reported; of files
+-- that differ, that of the first
 abbrev pub ending_after : Ending → Ending → Ending
 ending_after before (Refused fault) = Reported
 ending_after Done next = next

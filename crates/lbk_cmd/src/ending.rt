@@ -41,7 +41,8 @@ pub enum Ending {
     Help { text: String },
     /// The arguments are not a command line of the program; the text says why.
     Usage { text: String },
-    /// The test file was replayed, and one of its lines differs or is refused.
+    /// The test files were replayed, and lines differ or are refused. This is the report of the first file that has such
+    /// a line.
     Differs(Report),
     /// A step failed.
     Refused(RunFault),

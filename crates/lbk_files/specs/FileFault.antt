@@ -4,6 +4,7 @@ use Rattle.lbk_feed.specs.Devices.{count_up}
 use Rattle.lbk_ucd.specs.declared.tables.Files.{Files}
 use Rattle.lbk_ucd.specs.declared.which.Which.{Which}
 use Rattle.lbk_ucd.specs.declared.which.Which.TheVariants.{LineBreak, EastAsianWidth, Category, Emoji}
+use Rattle.lbk_ucd.specs.File.{longest_file}
 use Rattle.lbk_ucd.specs.Files.{AreLawful, IsRefused}
 use Rattle.lbk_rules.specs.declared.Cell.{Cell}
 use Rattle.lbk_rules.specs.Cells.{AreCellsOf}
@@ -13,10 +14,6 @@ use Rattle.lbk_ucd.specs.Published.{IsClaimCause}
 use Rattle.lbk_ucd.specs.declared.published.ClaimCause.{ClaimCause}
 use Rattle.lbk_files.specs.declared.faults.CellsFault.{CellsFault}
 use Rattle.lbk_files.specs.declared.faults.CellsFault.TheVariants.{Load, Claim, Tables, Memory}
-
--- the most bytes that a property file may have; one more is loaded, so that a longer file is refused as too long
-unfoldable pub greatest_file : ℕ
-greatest_file = 8388608
 
 -- what a store tells about a file, and whether it has to be the published one, because no option names it
 pub record Told : Type 0 where
@@ -30,9 +27,10 @@ pub record FourFiles : Type 0 where
   pub category : Told
   pub emoji : Told
 
--- the bytes are the result of loading the file
+-- the bytes are the result of loading the file: up to one more than a file may have, so that a longer one is refused as
+-- too long
 abbrev pub IsRead : Told → List ℕ → Type 0
-IsRead file bytes = IsFront file.contents greatest_file bytes
+IsRead file bytes = IsFront file.contents longest_file bytes
 
 -- and they are the published ones, if they have to be
 pub record IsLoaded (which : Which) (file : Told) (bytes : List ℕ) : Type 0 where

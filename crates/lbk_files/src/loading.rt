@@ -80,7 +80,6 @@ fn load_file<S: Store>(
 }
 
 /// The bytes of the file with this name.
-#[tactic(auto, unfolding(crate::specs::FileFault::greatest_file))]
 fn load_named<S: Store>(
     alloc: Global,
     name: &str,

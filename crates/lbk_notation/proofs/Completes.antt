@@ -1,7 +1,7 @@
 -- The reader answers what the grammar relates to the bytes.
 use Rattle.std.proofs.Common.{◌≡◌, ◌≢◌, ℕ, suc, ◌+◌, ◌*◌, ◌<◌, true, ltb, leb, nat_eq, ◌&&◌, List, [], ◌∷◌, ◌++◌, length, Option, Some, None, Ok, Err, refl, ap, ◌∙◌, arith, append-nil, append_assoc, ◌⊎◌, inl, inr}
-use Rattle.std.specs.List.{AllByRecursion}
-use Rattle.std.proofs.lemmas.Bool.{cond-true, eq-eqb, le-leb, lt-ltb, and_from, or_left, or_right}
+use Rattle.std.specs.List.{AllByRecursion, list_all}
+use Rattle.std.proofs.lemmas.Bool.{cond-true, eq-eqb, le-leb, lt-ltb, and_from, and_parts, or_left, or_right}
 use Rattle.lbk_notation.specs.declared.marks.Form.{Form}
 use Rattle.lbk_notation.specs.declared.marks.Form.TheVariants.{Plain, Kinds}
 use Rattle.lbk_notation.specs.declared.marks.Mark.{Mark}
@@ -13,7 +13,7 @@ use Rattle.lbk_notation.specs.declared.reader.State.TheVariants.{Start, Half, Ma
 use Rattle.lbk_notation.specs.declared.reader.Taken.{Taken}
 use Rattle.lbk_notation.specs.declared.reader.Taken.TheVariants.{Dead, On, OneScalar, OneMark}
 use Rattle.lbk_notation.specs.TestLine.{Line, made}
-use Rattle.lbk_notation.specs.Grammar.{IsBlank, IsGap, mark_bytes, Has, digit_byte, token_bytes, number_of, IsToken, IsEnd, IsAfter, last, more, IsLine, no_line, line}
+use Rattle.lbk_notation.specs.Grammar.{is_space, IsBlank, IsGap, mark_bytes, Has, digit_byte, token_bytes, number_of, IsToken, IsEnd, IsAfter, last, more, IsLine, no_line, line}
 use Rattle.lbk_notation.specs.Run.{step_of, sort_of, marking, comment_step, digits_step, takes_digit, is_scalar, can_end, run, run_line}
 use Rattle.lbk_notation.proofs.Runs.{run_taken, run_step}
 use Rattle.lbk_notation.proofs.Sorts.{sort-space, sort-digit, sign-sorts, sort-no-line-feed}
@@ -36,8 +36,9 @@ pub blanks : (form : Form) (state : State) (scalars : List ℕ) (marks : List Ma
     → Gives form state scalars marks (blank ++ rest) value
 blanks form state scalars marks [] rest value loops blank gives = gives
 blanks form state scalars marks (byte ∷ bytes) rest value loops blank gives =
-    take_byte form state (On state) scalars marks byte (bytes ++ rest) value (ap (step_of form state) (sort-space byte blank.0) ∙ loops)
-    (λ place. blanks form state scalars marks bytes rest value loops blank.1 gives (place + 1))
+    let parts = and_parts (is_space byte) (list_all is_space bytes) blank in
+    take_byte form state (On state) scalars marks byte (bytes ++ rest) value (ap (step_of form state) (sort-space byte parts.0) ∙ loops)
+    (λ place. blanks form state scalars marks bytes rest value loops parts.1 gives (place + 1))
 
 comment_on : (byte : ℕ) (sort : Sort) → sort_of byte ≡ sort → byte ≢ 10 → comment_step sort ≡ On Comment
 comment_on byte LineFeed is other = absurd (other (sort-no-line-feed byte is))
@@ -163,7 +164,8 @@ afters form before before' _ _ _ (last [] end blank ends') =
     rw (append-nil before, append-nil before') (ends form Marked before before' end refl refl refl ends')
 afters form before before' _ _ _ (last (byte ∷ blank) end space ends') =
     rw (append-nil before, append-nil before')
-    (gaps form before before' (byte ∷ blank) end (made before before') space (ends form Spaced before before' end refl refl refl ends'))
+    (gaps form before before' (byte ∷ blank) end (made before before') (and_parts (is_space byte) (list_all is_space blank) space)
+    (ends form Spaced before before' end refl refl refl ends'))
 afters form before before' _ _ _ (more gap digits gap' mark rest scalars marks space token space' has after) =
     rw (← append_assoc before (number_of digits ∷ []) scalars, ← append_assoc before' (mark ∷ []) marks)
     (gaps form before before' gap _ _ space

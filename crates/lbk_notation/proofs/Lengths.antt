@@ -120,7 +120,7 @@ short scalars (verdict ∷ verdicts) e =
 
 -- a tab and a comment behind a written line
 comment_end : (form : Form) (comment : List ℕ) → AllByRecursion (λ byte. byte ≢ 10) comment → IsAfter form [] [] (9 ∷ 35 ∷ comment)
-comment_end form comment none = last (9 ∷ []) (35 ∷ comment) (refl, tt) (inr (refl, none))
+comment_end form comment none = last (9 ∷ []) (35 ∷ comment) refl (inr (refl, none))
 
 pub commented : (form : Form) (said : Line) (comment : List ℕ) → length said.marks ≡ length said.scalars + 1 → AllScalars said.scalars
     → AllByRecursion (λ byte. byte ≢ 10) comment → IsLine form (written_line form said ++ (9 ∷ 35 ∷ comment)) (Some (shown_line form said))

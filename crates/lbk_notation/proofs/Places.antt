@@ -48,7 +48,7 @@ goes_token form count number scalars marks four scalar =
       more = 32 ∷ on.more;
       bytes_more = (lit< tt, on.bytes_more);
       value = on.value;
-      gives = token_off form count number scalars marks (32 ∷ []) on.more on.value four scalar (refl, tt) on.gives;
+      gives = token_off form count number scalars marks (32 ∷ []) on.more on.value four scalar (refl, refl) on.gives;
     }
 
 -- digits that a 0 may follow

@@ -1,8 +1,8 @@
 -- The grammar relates to the bytes what the reader answers.
 use Rattle.std.proofs.Common.{◌≡◌, ◌≢◌, ℕ, ◌+◌, ◌*◌, ◌<◌, ◌≤◌, Bool, true, false, ltb, leb, ◌&&◌, cond, IsTrue, List, [], ◌∷◌, ◌++◌, length, Option, Result, Ok, Err, refl, ap, sym, subst, ◌∙◌, arith, append-nil, append_assoc, length-append, inl, inr}
-use Rattle.std.specs.List.{AllByRecursion}
+use Rattle.std.specs.List.{AllByRecursion, list_all}
 use Rattle.std.proofs.lemmas.Bool.Decides.{nat_tests}
-use Rattle.std.proofs.lemmas.Bool.{and_parts, or_cases, ltb-true, leb-true}
+use Rattle.std.proofs.lemmas.Bool.{and_from, and_parts, or_cases, ltb-true, leb-true}
 use Rattle.lbk_notation.specs.declared.marks.Form.{Form}
 use Rattle.lbk_notation.specs.declared.marks.Form.TheVariants.{Plain, Kinds}
 use Rattle.lbk_notation.specs.declared.marks.Mark.{Mark}
@@ -73,13 +73,16 @@ Follows form (On next) scalars marks bytes = Rest form next scalars marks bytes
 Follows form (OneScalar scalar) scalars marks bytes = ScalarThen form scalar scalars marks bytes
 Follows form (OneMark mark) scalars marks bytes = MarkThen form mark scalars marks bytes
 
+blank-more : (byte : ℕ) (blank : List ℕ) → IsTrue (is_space byte) → IsBlank blank → IsBlank (byte ∷ blank)
+blank-more byte blank space b = and_from (is_space byte) (list_all is_space blank) space b
+
 -- white space before what may follow a mark may follow it too
 widen : (form : Form) (scalars : List ℕ) (marks : List Mark) (bytes : List ℕ) (byte : ℕ) → IsTrue (is_space byte)
     → IsAfter form scalars marks bytes → IsAfter form scalars marks (byte ∷ bytes)
-widen form _ _ _ byte space (last blank end b e) = last (byte ∷ blank) end (space, b) e
+widen form _ _ _ byte space (last blank end b e) = last (byte ∷ blank) end (blank-more byte blank space b) e
 widen form _ _ _ byte space (more [] digits gap' mark rest scalars marks g t g' h a) = elim g [ ]
 widen form _ _ _ byte space (more (b ∷ gap) digits gap' mark rest scalars marks g t g' h a) =
-    more (byte ∷ (b ∷ gap)) digits gap' mark rest scalars marks (space, g) t g' h a
+    more (byte ∷ (b ∷ gap)) digits gap' mark rest scalars marks (space, blank-more b gap g.0 g.1) t g' h a
 
 -- a comment or a carriage return, behind white space that may stand there
 ended : (form : Form) (byte : ℕ) (sort : Sort) (scalars : List ℕ) (marks : List Mark) (bytes : List ℕ) → Sorted byte sort
@@ -97,11 +100,11 @@ ended_after form blank byte sort scalars marks bytes b is follows =
 -- a mark that begins here
 begun : (form : Form) (byte : ℕ) (sort : Sort) (scalars : List ℕ) (marks : List Mark) (bytes : List ℕ) → Sorted byte sort
     → Follows form (marking form sort) scalars marks bytes → IsMarked form scalars marks (byte ∷ bytes)
-begun Kinds byte Lead _ _ _ is (times scalars marks rest after) = rw is (mark_in [] No rest scalars marks tt tt after)
-begun Kinds byte Lead _ _ _ is (division scalars marks rest after) = rw is (mark_in [] May rest scalars marks tt tt after)
-begun Plain byte Lead _ _ _ is (times scalars marks rest after) = rw is (mark_in [] No rest scalars marks tt tt after)
-begun Plain byte Lead _ _ _ is (division scalars marks rest after) = rw is (mark_in [] May rest scalars marks tt tt after)
-begun Kinds byte Exclamation _ _ _ is (mark_then scalars marks rest after) = rw is (mark_in [] Must rest scalars marks tt tt after)
+begun Kinds byte Lead _ _ _ is (times scalars marks rest after) = rw is (mark_in [] No rest scalars marks refl tt after)
+begun Kinds byte Lead _ _ _ is (division scalars marks rest after) = rw is (mark_in [] May rest scalars marks refl tt after)
+begun Plain byte Lead _ _ _ is (times scalars marks rest after) = rw is (mark_in [] No rest scalars marks refl tt after)
+begun Plain byte Lead _ _ _ is (division scalars marks rest after) = rw is (mark_in [] May rest scalars marks refl tt after)
+begun Kinds byte Exclamation _ _ _ is (mark_then scalars marks rest after) = rw is (mark_in [] Must rest scalars marks refl tt after)
 begun Plain byte Exclamation scalars marks bytes is follows = elim follows [ ]
 begun Kinds byte _ scalars marks bytes is follows = elim follows [ ]
 begun Plain byte _ scalars marks bytes is follows = elim follows [ ]
@@ -109,18 +112,18 @@ begun Plain byte _ scalars marks bytes is follows = elim follows [ ]
 -- white space before a mark
 widen_marked : (form : Form) (scalars : List ℕ) (marks : List Mark) (bytes : List ℕ) (byte : ℕ) → IsTrue (is_space byte)
     → IsMarked form scalars marks bytes → IsMarked form scalars marks (byte ∷ bytes)
-widen_marked form _ _ _ byte space (mark_in blank mark rest scalars marks b h a) = mark_in (byte ∷ blank) mark rest scalars marks (space, b) h a
+widen_marked form _ _ _ byte space (mark_in blank mark rest scalars marks b h a) = mark_in (byte ∷ blank) mark rest scalars marks (blank-more byte blank space b) h a
 
 widen_start : (form : Form) (scalars : List ℕ) (marks : List Mark) (bytes : List ℕ) (byte : ℕ) → IsTrue (is_space byte)
     → IsStart form scalars marks bytes → IsStart form scalars marks (byte ∷ bytes)
-widen_start form _ _ _ byte space (nothing blank end b e) = nothing (byte ∷ blank) end (space, b) e
+widen_start form _ _ _ byte space (nothing blank end b e) = nothing (byte ∷ blank) end (blank-more byte blank space b) e
 widen_start form _ _ _ byte space (something scalars marks bytes m) = something scalars marks (byte ∷ bytes) (widen_marked form scalars marks bytes byte space m)
 
 ended_start : (form : Form) (byte : ℕ) (sort : Sort) (scalars : List ℕ) (marks : List Mark) (bytes : List ℕ) → Sorted byte sort
     → Follows form (ending sort) scalars marks bytes → IsStart form scalars marks (byte ∷ bytes)
 ended_start form byte sort scalars marks bytes is follows =
     let e = ended form byte sort scalars marks bytes is follows in
-    rw (e.0, e.1) (nothing [] (byte ∷ bytes) tt e.2)
+    rw (e.0, e.1) (nothing [] (byte ∷ bytes) refl e.2)
 
 back_start : (form : Form) (byte : ℕ) (sort : Sort) (scalars : List ℕ) (marks : List Mark) (bytes : List ℕ) → Sorted byte sort
     → Follows form (start_step form sort) scalars marks bytes → IsStart form scalars marks (byte ∷ bytes)
@@ -141,8 +144,8 @@ back_half form byte _ scalars marks bytes is follows = elim follows [ ]
 back_marked : (form : Form) (byte : ℕ) (sort : Sort) (scalars : List ℕ) (marks : List Mark) (bytes : List ℕ) → Sorted byte sort
     → Follows form (marked_step sort) scalars marks bytes → IsAfter form scalars marks (byte ∷ bytes)
 back_marked form byte Space scalars marks bytes is follows = follows byte is
-back_marked form byte Return scalars marks bytes is follows = ended_after form [] byte Return scalars marks bytes tt is follows
-back_marked form byte Hash scalars marks bytes is follows = ended_after form [] byte Hash scalars marks bytes tt is follows
+back_marked form byte Return scalars marks bytes is follows = ended_after form [] byte Return scalars marks bytes refl is follows
+back_marked form byte Hash scalars marks bytes is follows = ended_after form [] byte Hash scalars marks bytes refl is follows
 back_marked form byte _ scalars marks bytes is follows = elim follows [ ]
 
 back_spaced : (form : Form) (byte : ℕ) (sort : Sort) (scalars : List ℕ) (marks : List Mark) (bytes : List ℕ) → Sorted byte sort
@@ -150,8 +153,8 @@ back_spaced : (form : Form) (byte : ℕ) (sort : Sort) (scalars : List ℕ) (mar
 back_spaced form byte Space scalars marks bytes is follows = λ b space. widen form scalars marks (byte ∷ bytes) b space (follows byte is)
 back_spaced form byte (Digit digit) scalars marks bytes is follows =
     λ b space. rw is.1 (follows (digit ∷ []) (record { each = (is.0, tt); many = refl; is = refl }) b space)
-back_spaced form byte Return scalars marks bytes is follows = λ b space. ended_after form (b ∷ []) byte Return scalars marks bytes (space, tt) is follows
-back_spaced form byte Hash scalars marks bytes is follows = λ b space. ended_after form (b ∷ []) byte Hash scalars marks bytes (space, tt) is follows
+back_spaced form byte Return scalars marks bytes is follows = λ b space. ended_after form (b ∷ []) byte Return scalars marks bytes (blank-more b [] space refl) is follows
+back_spaced form byte Hash scalars marks bytes is follows = λ b space. ended_after form (b ∷ []) byte Hash scalars marks bytes (blank-more b [] space refl) is follows
 back_spaced form byte _ scalars marks bytes is follows = elim follows [ ]
 
 back_coded : (form : Form) (byte : ℕ) (sort : Sort) (scalars : List ℕ) (marks : List Mark) (bytes : List ℕ) → Sorted byte sort
@@ -248,7 +251,7 @@ back_token form count number byte _ _ _ o e is (scalar_then _ _ _ (mark_in blank
     let token : IsToken digits =
     record { each = spells.each; shape = shaped digits count number spells o (leb-true 4 count parts.0) parts.1 } in
     subst (λ n. IsAfter form (n ∷ scalars) (mark ∷ marks) (b ∷ (token_bytes digits ++ (byte ∷ (blank ++ (mark_bytes mark ++ rest)))))) spells.is
-    (more (b ∷ []) digits (byte ∷ blank) mark rest scalars marks (space, tt) token (is, white) has after)
+    (more (b ∷ []) digits (byte ∷ blank) mark rest scalars marks (space, refl) token (is, white) has after)
 
 back_scalar : (form : Form) (count number byte : ℕ) (scalars : List ℕ) (marks : List Mark) (bytes : List ℕ) (here : Bool) → IsOpen count number
     → (leb 4 count && is_scalar number) ≡ here → IsTrue (is_space byte)
@@ -279,10 +282,10 @@ back form Ended byte sort scalars marks bytes good is follows = elim follows [ ]
 
 -- where a line may end, nothing may come
 stop : (form : Form) (state : State) → can_end state ≡ true → Rest form state [] [] []
-stop form Start can = nothing [] [] tt tt
+stop form Start can = nothing [] [] refl tt
 stop form Half can = absurd (cc)
-stop form Marked can = last [] [] tt tt
-stop form Spaced can = λ byte space. last (byte ∷ []) [] (space, tt) tt
+stop form Marked can = last [] [] refl tt
+stop form Spaced can = λ byte space. last (byte ∷ []) [] (blank-more byte [] space refl) tt
 stop form (Digits count number) can = absurd (cc)
 stop form Coded can = absurd (cc)
 stop form Comment can = comment [] tt

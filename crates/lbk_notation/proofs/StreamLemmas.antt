@@ -1,7 +1,8 @@
 -- What one byte more does to the lines of a file.
-use Rattle.std.proofs.Common.{◌≡◌, ◌≢◌, ℕ, ◌+◌, Bool, true, false, cond, eqb, ◌&&◌, List, [], ◌∷◌, ◌++◌, length, refl, sym, ap, subst, ◌∙◌, inl, inr, arith, append_assoc, append-nil}
+use Rattle.std.proofs.Common.{◌≡◌, ◌≢◌, ℕ, ◌+◌, Bool, true, false, ◌<◌, cond, eqb, nat_eq, ◌&&◌, List, [], ◌∷◌, ◌++◌, length, refl, sym, ap, subst, ◌∙◌, inl, inr, arith, append_assoc, append-nil}
 use Rattle.std.proofs.lemmas.Bool.{cases_Bool, cases_eq, eqb-false, eqb-true, false_from_ne_true, false≢true}
-use Rattle.std.specs.List.{AllByRecursion}
+use Rattle.std.specs.Cmp.Lexicographic.{same_text}
+use Rattle.std.specs.List.{AllByRecursion, starts_with}
 use Rattle.lbk_notation.specs.Stream.{Cut, HasNoLineEnd, byte_order_mark, cut_of, cut_on, nothing_cut, then_byte, with_line_ends, without_mark}
 
 pub cut_on-append : (cut : Cut) (xs ys : List ℕ) → cut_on cut (xs ++ ys) ≡ cut_on (cut_on cut xs) ys
@@ -13,25 +14,42 @@ abbrev pub is_mark : List ℕ → Bool
 is_mark [] = false
 is_mark (a ∷ []) = false
 is_mark (a ∷ b ∷ []) = false
-is_mark (a ∷ b ∷ c ∷ []) = eqb a 0xEF && eqb b 0xBB && eqb c 0xBF
+is_mark (a ∷ b ∷ c ∷ []) = starts_with nat_eq (a ∷ b ∷ c ∷ []) byte_order_mark
 is_mark (a ∷ b ∷ c ∷ d ∷ _) = false
 
 not_mark : (a b c d : ℕ) (rest : List ℕ) → is_mark (a ∷ b ∷ c ∷ (rest ++ d ∷ [])) ≡ false
 not_mark a b c d [] = refl
 not_mark a b c d (x ∷ rest) = refl
 
+-- fewer bytes than the mark has are kept
+mark_missing : (bytes : List ℕ) → length bytes < 3 → without_mark bytes ≡ bytes
+mark_missing [] few = refl
+mark_missing (a ∷ []) few = elim (nat_eq 0xEF a) as (λ v. cond (v && false) [] (a ∷ []) ≡ a ∷ []) [ true ↦ refl | false ↦ refl ]
+mark_missing (a ∷ b ∷ []) few =
+    elim (nat_eq 0xEF a) as (λ v. cond (v && (nat_eq 0xBB b && false)) [] (a ∷ b ∷ []) ≡ a ∷ b ∷ []) [
+      | true ↦ elim (nat_eq 0xBB b) as (λ v. cond (v && false) [] (a ∷ b ∷ []) ≡ a ∷ b ∷ []) [ true ↦ refl | false ↦ refl ]
+      | false ↦ refl
+    ]
+mark_missing (a ∷ b ∷ c ∷ rest) few = absurd (omega arith)
+
+cut_of-few : (bytes : List ℕ) → length bytes < 3 → cut_of bytes ≡ cut_on nothing_cut bytes
+unfolding cut_of
+cut_of-few bytes few = ap (cut_on nothing_cut) (mark_missing bytes few)
+
 -- a byte completes the byte order mark, or comes after all others
 pub cut_of-snoc : (used : List ℕ) (byte : ℕ)
     → cut_of (used ++ byte ∷ []) ≡ cond (is_mark (used ++ byte ∷ [])) nothing_cut (then_byte (cut_of used) byte)
 unfolding cut_of
-cut_of-snoc [] byte = refl
-cut_of-snoc (a ∷ []) byte = refl
+cut_of-snoc [] byte = cut_of-few (byte ∷ []) (omega arith)
+cut_of-snoc (a ∷ []) byte =
+    cut_of-few (a ∷ byte ∷ []) (omega arith) ∙ ap (λ cut. then_byte cut byte) (sym (cut_of-few (a ∷ []) (omega arith)))
 cut_of-snoc (a ∷ b ∷ []) byte =
-    elim (eqb a 0xEF && eqb b 0xBB && eqb byte 0xBF)
+    (elim (is_mark (a ∷ b ∷ byte ∷ []))
     as (λ v. cut_on nothing_cut (cond v [] (a ∷ b ∷ byte ∷ [])) ≡ cond v nothing_cut (cut_on nothing_cut (a ∷ b ∷ byte ∷ [])))
-    [ true ↦ refl | false ↦ refl ]
+    [ true ↦ refl | false ↦ refl ])
+    ∙ ap (λ cut. cond (is_mark (a ∷ b ∷ byte ∷ [])) nothing_cut (then_byte cut byte)) (sym (cut_of-few (a ∷ b ∷ []) (omega arith)))
 cut_of-snoc (a ∷ b ∷ c ∷ rest) byte =
-    (elim (eqb a 0xEF && eqb b 0xBB && eqb c 0xBF)
+    (elim (is_mark (a ∷ b ∷ c ∷ []))
     as (λ v. cut_on nothing_cut (cond v (rest ++ byte ∷ []) (a ∷ b ∷ c ∷ (rest ++ byte ∷ [])))
     ≡ then_byte (cut_on nothing_cut (cond v rest (a ∷ b ∷ c ∷ rest))) byte) [
       | true ↦ cut_on-append nothing_cut rest (byte ∷ [])
@@ -39,21 +57,11 @@ cut_of-snoc (a ∷ b ∷ c ∷ rest) byte =
     ])
     ∙ ap (λ v. cond v nothing_cut (then_byte (cut_of (a ∷ b ∷ c ∷ rest)) byte)) (sym (not_mark a b c byte rest))
 
-both : (a b : Bool) → (a && b) ≡ true → (a ≡ true) × (b ≡ true)
-both true b h = (refl, h)
-both false b h = absurd (false≢true h)
-
 mark_alone : (bytes : List ℕ) → is_mark bytes ≡ true → bytes ≡ byte_order_mark
 mark_alone [] h = absurd (false≢true h)
 mark_alone (a ∷ []) h = absurd (false≢true h)
 mark_alone (a ∷ b ∷ []) h = absurd (false≢true h)
-mark_alone (a ∷ b ∷ c ∷ []) h =
-    let ab = both (eqb a 0xEF && eqb b 0xBB) (eqb c 0xBF) h in
-    let first = both (eqb a 0xEF) (eqb b 0xBB) ab.0 in
-    let e1 : a ≡ 0xEF = eqb-true a 0xEF first.0 in
-    let e2 : b ≡ 0xBB = eqb-true b 0xBB first.1 in
-    let e3 : c ≡ 0xBF = eqb-true c 0xBF ab.1 in
-    cc
+mark_alone (a ∷ b ∷ c ∷ []) h = sym (same_text byte_order_mark (a ∷ b ∷ c ∷ []) (sym h))
 mark_alone (a ∷ b ∷ c ∷ d ∷ rest) h = absurd (false≢true h)
 
 snoc-apart : (used : List ℕ) (byte : ℕ) → used ++ byte ∷ [] ≡ byte_order_mark → (used ≡ 0xEF ∷ 0xBB ∷ []) × (byte ≡ 0xBF)
@@ -96,7 +104,8 @@ mark_held (a ∷ b ∷ []) byte count e =
     let outer : (cut_on nothing_cut (a ∷ b ∷ [])).rest ≡ cond (eqb b 10) [] ((then_byte nothing_cut a).rest ++ b ∷ []) =
     then_byte-rest (then_byte nothing_cut a) b in
     three_bytes (eqb a 10) (eqb b 10) a b byte
-    (ap (λ l. cond (eqb b 10) [] (l ++ b ∷ []) ++ byte ∷ []) (sym inner) ∙ ap (λ l. l ++ byte ∷ []) (sym outer) ∙ e)
+    (ap (λ l. cond (eqb b 10) [] (l ++ b ∷ []) ++ byte ∷ []) (sym inner) ∙ ap (λ l. l ++ byte ∷ []) (sym outer)
+    ∙ ap (λ cut. cut.rest ++ byte ∷ []) (sym (cut_of-few (a ∷ b ∷ []) (omega arith))) ∙ e)
 
 pub is_mark-mark : (bytes : List ℕ) → bytes ≡ byte_order_mark → is_mark bytes ≡ true
 is_mark-mark bytes e = ap is_mark e

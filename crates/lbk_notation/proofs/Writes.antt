@@ -37,7 +37,7 @@ written-IsAfter form (scalar ∷ scalars) [] end e all ended = absurd (omega ari
 written-IsAfter form (scalar ∷ scalars) (mark ∷ marks) end e all ended =
     let rest : length marks ≡ length scalars = omega arith in
     let behind = more (32 ∷ []) (digits_of scalar) (32 ∷ []) (shown form mark) (written_after form scalars marks ++ end) scalars (map (shown form) marks)
-    (refl, tt) (digits-IsToken scalar all.0) (refl, tt) (has_shown form mark) (written-IsAfter form scalars marks end rest all.1 ended) in
+    (refl, refl) (digits-IsToken scalar all.0) (refl, refl) (has_shown form mark) (written-IsAfter form scalars marks end rest all.1 ended) in
     subst (λ bytes. IsAfter form (scalar ∷ scalars) (shown form mark ∷ map (shown form) marks) bytes)
     (sym (regroup (token scalar) (mark_bytes (shown form mark)) (written_after form scalars marks) end))
     (subst (λ number. IsAfter form (number ∷ scalars) (shown form mark ∷ map (shown form) marks)
@@ -51,7 +51,7 @@ written-IsLine form scalars [] end e all ended = absurd (omega arith)
 written-IsLine form scalars (mark ∷ marks) end e all ended =
     let rest : length marks ≡ length scalars = omega arith in
     rw append_assoc
-    (line [] (shown form mark) (written_after form scalars marks ++ end) scalars (map (shown form) marks) tt (has_shown form mark)
+    (line [] (shown form mark) (written_after form scalars marks ++ end) scalars (map (shown form) marks) refl (has_shown form mark)
     (written-IsAfter form scalars marks end rest all ended))
 
 -- what is written, with nothing behind it
@@ -59,7 +59,7 @@ pub written-alone : (form : Form) (scalars : List ℕ) (marks : List Mark) → l
     → IsLine form (written_marks form scalars marks) (Some (shown_line form (record { scalars = scalars; marks = marks })))
 written-alone form scalars marks e all =
     subst (λ bytes. IsLine form bytes (Some (shown_line form (record { scalars = scalars; marks = marks }))))
-    (append-nil (written_marks form scalars marks)) (written-IsLine form scalars marks [] e all (last [] [] tt tt))
+    (append-nil (written_marks form scalars marks)) (written-IsLine form scalars marks [] e all (last [] [] refl tt))
 
 -- bytes that were written for a line
 pub written_from : (form : Form) (line : Line) (scalars : List ℕ) (marks : List Mark) (bytes : List ℕ) → scalars ≡ line.scalars → marks ≡ line.marks

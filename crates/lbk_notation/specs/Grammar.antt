@@ -2,22 +2,16 @@
 --     ws* [ mark (ws+ hex ws+ mark)* ws* ] [ # any bytes but LF ]
 -- A carriage return as the very last byte may replace the comment. A line without marks, blank or a comment, has no
 -- meaning.
-use Rattle.std.specs.Prelude.{◌≡◌, ◌≢◌, ℕ, ◌+◌, ◌*◌, ◌<◌, Bool, ◌==◌, ltb, ◌||◌, if◌then◌else◌, IsTrue, List, [], ◌∷◌}
+use Rattle.std.specs.Prelude.{◌≡◌, ◌≢◌, ℕ, ◌+◌, ◌*◌, ◌<◌, ltb, if◌then◌else◌, IsTrue, List, [], ◌∷◌}
 use Rattle.std.specs.Prelude.{◌++◌, map, Option, Some, None, ◌⊎◌}
 use Rattle.std.specs.List.{AllByRecursion}
+pub use Rattle.lbk_ucd.specs.Grammar.{IsBlank}
+pub use Rattle.lbk_ucd.specs.PropertyLine.{is_space}
 use Rattle.lbk_notation.specs.declared.marks.Form.{Form}
 use Rattle.lbk_notation.specs.declared.marks.Form.TheVariants.{Plain, Kinds}
 use Rattle.lbk_notation.specs.declared.marks.Mark.{Mark}
 use Rattle.lbk_notation.specs.declared.marks.Mark.TheVariants.{No, May, Must}
 use Rattle.lbk_notation.specs.TestLine.{Line}
-
--- white space: a space or a tab
-abbrev pub is_space : ℕ → Bool
-is_space byte = (byte == 32) || (byte == 9)
-
--- ws*
-abbrev pub IsBlank : List ℕ → Type 0
-IsBlank bytes = AllByRecursion (λ byte. IsTrue (is_space byte)) bytes
 
 -- ws+
 abbrev pub IsGap : List ℕ → Type 0

@@ -1,19 +1,12 @@
 -- The lines of a test file.
-use Rattle.std.specs.Prelude.{◌≢◌, ℕ, ◌==◌, ◌&&◌, if◌then◌else◌, List, [], ◌∷◌, ◌++◌}
+use Rattle.std.specs.Prelude.{◌≢◌, ℕ, ◌==◌, if◌then◌else◌, List, [], ◌∷◌, ◌++◌}
 use Rattle.std.specs.List.{AllByRecursion}
 use Rattle.lbk_feed.specs.Text.{longest_text}
+pub use Rattle.lbk_ucd.specs.File.{byte_order_mark, without_mark}
 
 -- the most bytes of a replayed file: as many as of a text
 abbrev pub longest_stream : ℕ
 longest_stream = longest_text
-
-abbrev pub byte_order_mark : List ℕ
-byte_order_mark = 0xEF ∷ 0xBB ∷ 0xBF ∷ []
-
--- a file without a leading byte order mark
-abbrev pub without_mark : List ℕ → List ℕ
-without_mark (a ∷ b ∷ c ∷ bytes) = if (a == 0xEF) && (b == 0xBB) && (c == 0xBF) then bytes else a ∷ b ∷ c ∷ bytes
-without_mark bytes = bytes
 
 -- the lines that an LF ends, each without it, and the text after the last LF
 pub record Cut : Type 0 where

@@ -1,6 +1,7 @@
 -- The digests of the property files that Unicode 15.0.0 published.
 use Rattle.std.specs.Prelude.{◌≡◌, ℕ, ◌≤◌, ◌==◌, ◌&&◌, Bool, List, [], ◌∷◌, length, slice_index, if◌then◌else◌}
 use Rattle.sha2.specs.Sha256.{sha256}
+use Rattle.lbk_ucd.specs.File.{longest_file}
 use Rattle.lbk_ucd.specs.declared.tables.Files.{Files}
 use Rattle.lbk_ucd.specs.declared.which.Which.{Which}
 use Rattle.lbk_ucd.specs.declared.which.Which.TheVariants.{LineBreak, EastAsianWidth, Category, Emoji}
@@ -29,9 +30,9 @@ abbrev pub with_line_feeds : List ℕ → List ℕ
 with_line_feeds [] = []
 with_line_feeds (byte ∷ rest) = if is_before_feed byte rest then with_line_feeds rest else byte ∷ with_line_feeds rest
 
--- a file is the published one, except for its line ends; none of 15.0.0 has more than 8,388,608 bytes
+-- a file is the published one, except for its line ends; none of 15.0.0 is longer than a file may be
 pub record IsPublished (which : Which) (bytes : List ℕ) : Type 0 where
-  pub size : length bytes ≤ 8388608
+  pub size : length bytes ≤ longest_file
   pub digest : sha256 (with_line_feeds bytes) ≡ digest_of which
 
 -- all four are the published ones

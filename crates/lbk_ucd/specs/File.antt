@@ -27,9 +27,16 @@ pub record Format (V : Type 0) : Type 0 where
 abbrev pub named : {V : Type 0} → List (List ℕ × V) → List ℕ → Option V
 named names name = option_map (λ entry. entry.1) (find (λ entry. bytes_eq entry.0 name) names)
 
--- without a byte order mark, EF BB BF
+-- the most bytes of a file
+abbrev pub longest_file : ℕ
+longest_file = 8388608
+
+abbrev pub byte_order_mark : List ℕ
+byte_order_mark = 0xEF ∷ 0xBB ∷ 0xBF ∷ []
+
+-- a file without a leading byte order mark
 abbrev pub without_mark : List ℕ → List ℕ
-without_mark bytes = if starts_with nat_eq bytes (239 ∷ 187 ∷ 191 ∷ []) then drop 3 bytes else bytes
+without_mark bytes = if starts_with nat_eq bytes byte_order_mark then drop 3 bytes else bytes
 
 -- the lines of a file, each without its LF
 abbrev pub lines_of : List ℕ → List (List ℕ)
@@ -114,12 +121,12 @@ module _ {V : Type 0} where
 
   -- a file without a fault
   pub record IsLawful (format : Format V) (bytes : List ℕ) : Type 0 where
-    pub short : length bytes ≤ 8388608
+    pub short : length bytes ≤ longest_file
     pub lines : IsLawfulBefore format (lines_of bytes) (length (lines_of bytes))
 
   -- the first line with a cause has this number, from 1, and this cause
   pub record IsLineFault (format : Format V) (bytes : List ℕ) (number : ℕ) (cause : UcdCause) : Type 0 where
-    pub short : length bytes ≤ 8388608
+    pub short : length bytes ≤ longest_file
     pub index : ℕ
     pub within : index < length (lines_of bytes)
     pub counted : number ≡ index + 1
@@ -129,11 +136,11 @@ module _ {V : Type 0} where
   -- the file's fault
   abbrev pub IsFault : Format V → List ℕ → ℕ → UcdCause → Type 0
   IsFault format bytes number cause =
-      ((8388608 < length bytes) × (number ≡ 0) × (cause ≡ FileTooLong)) ⊎ IsLineFault format bytes number cause
+      ((longest_file < length bytes) × (number ≡ 0) × (cause ≡ FileTooLong)) ⊎ IsLineFault format bytes number cause
 
   -- a line with a row or a default, and no line up to it has a cause: the tables grow there
   pub record IsGrowth (format : Format V) (bytes : List ℕ) (number : ℕ) : Type 0 where
-    pub short : length bytes ≤ 8388608
+    pub short : length bytes ≤ longest_file
     pub index : ℕ
     pub within : index < length (lines_of bytes)
     pub counted : number ≡ index + 1

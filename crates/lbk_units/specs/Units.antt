@@ -9,6 +9,8 @@ use Rattle.lbk_rules.specs.Marks.{marks}
 use Rattle.lbk_bytes.specs.Bytes.{breaks_after, of_part, open_end}
 pub use Rattle.lbk_bytes.specs.Pieces.{pieces_of_utf16, pieces_of_utf32, utf16_piece, utf32_piece}
 use Rattle.lbk_bytes.specs.Reached.{scalars_of}
+-- how many units some pieces have
+pub use Rattle.lbk_words.specs.Words.{bytes_of as units_of}
 
 -- the breaks of a text of some pieces: places are in units
 abbrev pub breaks_of_pieces : Profile → (ℕ → Cell) → List Decoded → List Break
@@ -19,11 +21,6 @@ breaks_of_utf16 profile cell units = breaks_of_pieces profile cell (pieces_of_ut
 
 abbrev pub breaks_of_utf32 : Profile → (ℕ → Cell) → List ℕ → List Break
 breaks_of_utf32 profile cell units = breaks_of_pieces profile cell (pieces_of_utf32 units)
-
--- how many units some pieces have
-abbrev pub units_of : List Decoded → ℕ
-units_of [] = 0
-units_of (p ∷ ps) = p.size + units_of ps
 
 -- the breaks of a part of a text by itself, which has these pieces. Where the text goes on after it, the last of them
 -- is as it is there

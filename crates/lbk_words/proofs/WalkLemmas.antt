@@ -4,7 +4,7 @@ use Rattle.std.proofs.lemmas.List.{length-drop, map-append, reverse-append, take
 use Rattle.std.proofs.Math.ListN.{drop_of_length-le}
 use Rattle.std.proofs.Math.Seq.{drop-drop}
 use Rattle.bstr.specs.Utf8.{Decoded, decoded, or_replacement, pieces}
-use Rattle.bstr.proofs.lemmas.PieceLemmas.{piece-bounds, pieces-nil, pieces-step}
+use Rattle.bstr.proofs.lemmas.PieceLemmas.{piece-bounds, pieces-nil, pieces-step, sizes}
 use Rattle.ucd_breaks.specs.WordBreak.{word_break}
 use Rattle.unicode_segmentation.specs.Segments.{cut, prepend}
 use Rattle.unicode_segmentation.specs.Word.{is_word_break, significant, value_at}
@@ -50,6 +50,12 @@ pub scalars-end : (text : List ℕ) (at : ℕ) → length text ≤ at → scalar
 scalars-end text at past = ap (λ l. scalars_of (pieces l)) (drop_of_length-le text {i = at} past) ∙ ap scalars_of pieces-nil
 
 -- The first part
+
+-- how many bytes some pieces have, as it is counted elsewhere
+pub bytes-sizes : (ps : List Decoded) → bytes_of ps ≡ sizes ps
+unfolding sizes
+bytes-sizes [] = refl
+bytes-sizes (p ∷ ps) = ap (λ n. p.size + n) (bytes-sizes ps)
 
 pub bytes-append : (ps qs : List Decoded) → bytes_of (ps ++ qs) ≡ bytes_of ps + bytes_of qs
 bytes-append [] qs = omega arith

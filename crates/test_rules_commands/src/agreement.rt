@@ -1,12 +1,12 @@
 //! The machines agree with the evaluator on every short list of cells.
 
 use crate::calls::{decided, late_step, same, start_late, step, step_over, stepper};
+use lbk_cmd::SAMPLE_FILES;
 use lbk_rules::{Cell, CellPages, Class, Machine, Profile, Quote, Verdict};
 use std::process::Abort;
 use std::test::Fail;
 use test_support::calls::cell_of;
 use test_support::cells::{mark, pictograph, plain, wide};
-use test_support::property_files::SAMPLES;
 use test_support::triples::{
     Scalar, cells_of_three, pages_of_each_once, pages_with, texts_of_three, triples,
 };
@@ -119,7 +119,7 @@ fn sample_scalars() -> [Scalar; 15] {
 // Properties that no rule uses, such as the width of an ideograph, change no result.
 #[test]
 fn stepper_asks_what_rules_ask(rt: HostRuntime) -> Result<(), Fail> {
-    let pages = pages_with(rt.alloc(), SAMPLES, &[])?;
+    let pages = pages_with(rt.alloc(), SAMPLE_FILES, &[])?;
     assert!(&rt; cell_of(&pages, 'a') != plain(Class::Alphabetic));
     for text in &triples(rt.alloc(), &sample_scalars())? {
         let _ = late_answers(&rt, &pages, Profile::First, text);

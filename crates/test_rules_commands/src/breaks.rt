@@ -2,6 +2,7 @@
 //! and with tables, in blocks of all sizes; and of every text of three scalars.
 
 use crate::calls::{Setting, decided, must, same};
+use lbk_cmd::SAMPLE_FILES;
 use lbk_passage::{Break, Breaks};
 use lbk_rules::{CellPages, CellSource, Kind, Profile, Rule, Verdict};
 use std::alloc::{AllocError, Global};
@@ -10,7 +11,6 @@ use std::process::Abort;
 use std::test::Fail;
 use test_support::calls::{pages_by, tables_of};
 use test_support::cells::cells_of;
-use test_support::property_files::SAMPLES;
 use test_support::texts::{FIRST, SECOND};
 use test_support::triples::{Scalar, pages_of_each_once, texts_of_three};
 
@@ -174,8 +174,8 @@ fn check_source<C: CellSource>(rt: &impl Abort, alloc: Global, source: &C) {
 
 #[test]
 fn breaks_of_texts(rt: HostRuntime) -> Result<(), Fail> {
-    check_source(&rt, rt.alloc(), &pages_by(rt.alloc(), SAMPLES)?);
-    check_source(&rt, rt.alloc(), &tables_of(rt.alloc(), SAMPLES)?);
+    check_source(&rt, rt.alloc(), &pages_by(rt.alloc(), SAMPLE_FILES)?);
+    check_source(&rt, rt.alloc(), &tables_of(rt.alloc(), SAMPLE_FILES)?);
     Ok(())
 }
 

@@ -2,13 +2,11 @@
 //! operands if there are no texts.
 
 use crate::calls::{must, same};
-use lbk_cmd::{Ending, MemoryStore, SAMPLE_FILES, Store, run};
+use lbk_cmd::{Ending, MemoryStore, Store, run};
 use lbk_feed::devices::{MemorySink, MemorySource};
 use std::alloc::Global;
 use std::process::Abort;
-use test_support::property_files::words_on_files;
-
-const BAD_ROW: &[u8] = b"0061;AK\n";
+use test_support::property_files::{NAMED, words_on_files};
 
 /// The subcommand, the first two files, the arguments after them, the output for `ab cd`, the status, whether texts
 /// were reported, and how many files were loaded.
@@ -60,14 +58,7 @@ fn ended(
     reader: &mut MemorySource<'_>,
     writer: &mut MemorySink,
 ) -> (Ending, u64) {
-    let files = [
-        ("L", SAMPLE_FILES.line_break),
-        ("E", SAMPLE_FILES.east_asian),
-        ("C", SAMPLE_FILES.category),
-        ("M", SAMPLE_FILES.emoji),
-        ("B", BAD_ROW),
-    ];
-    let mut store = MemoryStore::new(files.as_slice());
+    let mut store = MemoryStore::new(&NAMED);
     let ending = run(alloc, words, &mut store, reader, writer);
     (ending, store.loads())
 }

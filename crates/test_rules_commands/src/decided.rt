@@ -2,6 +2,7 @@
 //! machines.
 
 use crate::calls::{Setting, decided, late_step, must, same, start_late, step_over, stepper};
+use lbk_cmd::SAMPLE_FILES;
 use lbk_rules::{Cell, CellSource, Kind, Profile, Rule, Verdict, decide_all, decide_all_in};
 use std::alloc::{AllocError, Global};
 use std::fmt::Write;
@@ -9,7 +10,7 @@ use std::process::Abort;
 use std::test::Fail;
 use test_support::calls::{pages_by, tables_of};
 use test_support::cells::cells_of;
-use test_support::property_files::{SAMPLES, line_break_alone};
+use test_support::property_files::line_break_alone;
 use test_support::texts::{FIRST, SECOND, STEPS};
 
 /// A text, and its labels.
@@ -166,8 +167,8 @@ fn check_source<C: CellSource>(rt: &impl Abort, alloc: Global, source: &C) {
 
 #[test]
 fn sample_rows(rt: HostRuntime) -> Result<(), Fail> {
-    check_source(&rt, rt.alloc(), &pages_by(rt.alloc(), SAMPLES)?);
-    check_source(&rt, rt.alloc(), &tables_of(rt.alloc(), SAMPLES)?);
+    check_source(&rt, rt.alloc(), &pages_by(rt.alloc(), SAMPLE_FILES)?);
+    check_source(&rt, rt.alloc(), &tables_of(rt.alloc(), SAMPLE_FILES)?);
     Ok(())
 }
 

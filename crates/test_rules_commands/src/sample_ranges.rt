@@ -3,12 +3,12 @@
 
 use crate::calls::{must, same};
 use crate::property_calls::{LAST_CODE, values_of};
+use lbk_cmd::SAMPLE_FILES;
 use lbk_ucd::{Category, EastAsian, LineBreak, Tables};
 use std::alloc::{AllocError, Global};
 use std::process::Abort;
 use std::test::Fail;
 use test_support::calls::tables_of;
-use test_support::property_files::SAMPLES;
 
 /// First code point, last code point and value of a range. The last range of each table is the default.
 type Range<T> = (u32, u32, T);
@@ -183,7 +183,7 @@ fn codes(rt: &impl Abort, alloc: Global) -> Vec<u32> {
 
 #[test]
 fn sample_ranges(rt: HostRuntime) -> Result<(), Fail> {
-    let tables = tables_of(rt.alloc(), SAMPLES)?;
+    let tables = tables_of(rt.alloc(), SAMPLE_FILES)?;
     for code in &codes(&rt, rt.alloc()) {
         check(&rt, &tables, *code);
     }

@@ -2,13 +2,14 @@
 
 use crate::calls::{must, same};
 use crate::property_calls::{Values, run_of, values_of};
+use lbk_cmd::SAMPLE_FILES;
 use lbk_ucd::{Category, EastAsian, Files, LineBreak, Places, Tables, UcdCause, UcdFault, Which};
 use std::alloc::{AllocError, Global};
 use std::fmt::Write;
 use std::process::Abort;
 use std::test::Fail;
 use test_support::calls::tables_of;
-use test_support::property_files::{NO_FILES, SAMPLES, line_break_alone};
+use test_support::property_files::{NO_FILES, line_break_alone};
 
 /// Property files with content only in this one.
 fn one_file(which: Which, bytes: &[u8]) -> Files<'_> {
@@ -207,7 +208,7 @@ fn check_rows(rt: &impl Abort, alloc: Global, files: Files<'_>, rows: &[Row]) {
 
 #[test]
 fn values(rt: HostRuntime) -> Result<(), Fail> {
-    check_rows(&rt, rt.alloc(), SAMPLES, &SAMPLE_ROWS);
+    check_rows(&rt, rt.alloc(), SAMPLE_FILES, &SAMPLE_ROWS);
     check_rows(&rt, rt.alloc(), NO_FILES, &ROW_OF_NO_FILES);
     check_rows(&rt, rt.alloc(), DEFAULTS, &ROWS_OF_DEFAULTS);
     let text = many_defaults(rt.alloc())?;

@@ -1,14 +1,7 @@
-//! The sample files, by name too, and property files with content in one file or none.
+//! The sample files by name, and property files with content in one file or none.
 
 use lbk_ucd::{Files, SAMPLE_CATEGORY, SAMPLE_EAST_ASIAN, SAMPLE_EMOJI, SAMPLE_LINE_BREAK};
 use std::alloc::{AllocError, Global};
-
-pub const SAMPLES: Files<'static> = Files {
-    line_break: SAMPLE_LINE_BREAK,
-    east_asian: SAMPLE_EAST_ASIAN,
-    category: SAMPLE_CATEGORY,
-    emoji: SAMPLE_EMOJI,
-};
 
 pub const NO_FILES: Files<'static> = Files {
     line_break: b"",

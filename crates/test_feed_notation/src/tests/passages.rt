@@ -2,7 +2,7 @@
 
 use crate::tests::calls::{cut_source, sample_cells};
 use crate::tests::told::push_told;
-use lbk_cmd::CmdFault;
+use lbk_cmd::{CmdFault, SAMPLE_FILES};
 use lbk_feed::devices::MemorySource;
 use lbk_passage::{Passage, Segmenter};
 use lbk_rules::{CellPages, CellSource, Profile};
@@ -12,7 +12,6 @@ use std::fmt::Write;
 use std::test::Fail;
 use test_support::calls::{next_passage, segmenter_of, tables_of};
 use test_support::checks::same;
-use test_support::property_files::SAMPLES;
 use test_support::texts::{FIRST, SECOND};
 
 /// Writes all that is known about the next passage, or that there is none.
@@ -86,6 +85,6 @@ fn check_tables(alloc: Global, tables: &Tables) -> Result<(), Fail> {
 #[test]
 fn passages_by_tables_and_by_pages(rt: HostRuntime) -> Result<(), Fail> {
     let alloc = rt.alloc();
-    let tables = tables_of(alloc, SAMPLES)?;
+    let tables = tables_of(alloc, SAMPLE_FILES)?;
     check_tables(alloc, &tables)
 }

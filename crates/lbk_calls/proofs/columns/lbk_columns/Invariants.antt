@@ -1,5 +1,5 @@
 use Rattle.std.proofs.Common.{◌-◌, ◌+◌, ◌≡◌, ◌≤◌, ◌<◌, ◌%◌, ◌^◌, ℕ, get_or}
-use Rattle.lbk_calls.specs.Columns.{no_break}
+use Rattle.lbk_bytes.specs.Order.{no_break}
 use Rattle.lbk_calls.proofs.columns.lbk_columns.Given as goal
 
 abbrev pub invariant-loop-k : goal.invariant-loop-k
