@@ -1,5 +1,4 @@
 pub mod Deciding
-pub mod LineWriting
 pub mod PassageLines
 pub mod Breaking
 pub mod InMemory

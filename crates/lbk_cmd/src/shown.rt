@@ -3,16 +3,14 @@
 ghost use Rattle.std.specs.Prelude.{◌≡◌, ◌+◌, ◌<◌, ◌++◌, ◌∷◌, [], length, OnOk};
 ghost use Rattle.std.specs.Option.{ForSome};
 ghost use Rattle.std.specs.Str.{chars};
-ghost use Rattle.lbk_notation.specs.Shown.{passage_line, written_labels, passage_marks};
-ghost use Rattle.lbk_notation.specs.Written.{written_line};
-ghost use Rattle.lbk_notation.specs.declared.marks.Form.TheVariants.{Kinds};
+ghost use Rattle.lbk_notation.specs.Shown.{passage_line};
 ghost use Rattle.lbk_passage.specs.Marks.{marks, ended};
 ghost use Rattle.lbk_passage.specs.Adding.{Adds};
 ghost use Rattle.lbk_rules.specs.Answers.{written};
 ghost use Rattle.lbk_cmd.specs.Show.{verdicts_of};
 ghost use Rattle.lbk_cmd.specs.Deciding.{IsPassageText, placed};
 
-use lbk_notation::{Form, mark_of, push_mark, push_scalar};
+use lbk_notation::push_passage_line;
 use lbk_rules::{CellSource, Kind, Profile, Rule, Stepper, Verdict};
 use std::alloc::AllocError;
 
@@ -62,41 +60,12 @@ fn now_or_none(now: Option<Verdict>) -> Verdict
     })
 }
 
-/// Appends the line of a passage to `out`, with its line end: the marks of its positions with its scalars between them,
-/// a tab, `#`, and the number of the rule that decided each position. After an error some of it may be appended.
-#[tactic(auto, using(lbk_passage::proofs::Places::front_append))]
+/// Appends the line of a passage to `out`, with its line end. After an error some of it may be appended.
 pub fn push_shown(out: &mut Vec<u8>, text: &str, verdicts: &[Verdict]) -> Result<(), AllocError>
     requires { length verdicts.now ≡ length (chars text.now) + 1 }
     ensures { Adds out.old.items out.new.items (passage_line (chars text.now) verdicts.now ++ 10 ∷ []) result }
 {
-    push_marks(out, text, verdicts)?;
-    out.extend_from_slice(b"\t#")?;
-    push_labels(out, verdicts)?;
+    push_passage_line(out, text, verdicts)?;
     out.push(b'\n')?;
-    Ok(())
-}
-
-#[tactic(auto, using(lbk_passage::proofs::Places::front_append))]
-fn push_marks(out: &mut Vec<u8>, text: &str, verdicts: &[Verdict]) -> Result<(), AllocError>
-    requires { length verdicts.now ≡ length (chars text.now) + 1 }
-    ensures { Adds out.old.items out.new.items (written_line Kinds (passage_marks (chars text.now) verdicts.now))
-        result }
-{
-    push_mark(out, mark_of(verdicts[0].kind), Form::Kinds)?;
-    let mut k = 1;
-    for c in text.chars() {
-        push_scalar(out, c, mark_of(verdicts[k].kind), Form::Kinds)?;
-        k += 1;
-    }
-    Ok(())
-}
-
-fn push_labels(out: &mut Vec<u8>, verdicts: &[Verdict]) -> Result<(), AllocError>
-    ensures { Adds out.old.items out.new.items (written_labels verdicts.now) result }
-{
-    for verdict in verdicts {
-        out.push(b' ')?;
-        out.extend_from_slice(verdict.rule.label().as_bytes())?;
-    }
     Ok(())
 }

@@ -9,6 +9,7 @@ pub mod JudgeLemmas
 pub mod Tokens
 pub mod Writes
 pub mod Fronts
+pub mod LineWriting
 pub mod Markings
 pub mod Lengths
 pub mod FindingLemmas

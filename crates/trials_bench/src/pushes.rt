@@ -27,21 +27,16 @@ fn line_of(alloc: Global, line: &TestLine, form: Form) -> Result<String, AllocEr
 }
 
 pub fn passage_line(alloc: Global, input: &Input<'_>) -> Result<String, AllocError> {
-    let line = input.line(alloc)?;
     let cells = input.cell_list(alloc)?;
     let verdicts = verdicts_of(alloc, &cells, input.profile)?;
-    passage_line_of(alloc, line.scalars(), &verdicts)
+    passage_line_of(alloc, input.text(), &verdicts)
 }
 
-fn passage_line_of(
-    alloc: Global,
-    scalars: &[char],
-    verdicts: &[Verdict],
-) -> Result<String, AllocError> {
+fn passage_line_of(alloc: Global, text: &str, verdicts: &[Verdict]) -> Result<String, AllocError> {
     let mut out = before(alloc)?;
     begin(alloc);
-    let answer = if !verdicts.is_empty() && verdicts.len() - 1 == scalars.len() {
-        push_passage_line(&mut out, scalars, verdicts)
+    let answer = if verdicts.len() == text.chars().count() + 1 {
+        push_passage_line(&mut out, text, verdicts)
     } else {
         Ok(())
     };

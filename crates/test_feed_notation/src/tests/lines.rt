@@ -267,12 +267,12 @@ fn verdicts_of(alloc: Global, cells: &[Cell]) -> Result<Vec<Verdict>, AllocError
 }
 
 /// The line of a passage.
-fn passage_line(alloc: Global, scalars: &[char], verdicts: &[Verdict]) -> Result<Vec<u8>, Fail> {
-    if verdicts.len() != scalars.len() + 1 {
+fn passage_line(alloc: Global, text: &str, verdicts: &[Verdict]) -> Result<Vec<u8>, Fail> {
+    if verdicts.len() != text.chars().count() + 1 {
         return Err(Fail::new("verdicts for other positions"));
     }
     let mut shown = Vec::new(alloc);
-    push_passage_line(&mut shown, scalars, verdicts)?;
+    push_passage_line(&mut shown, text, verdicts)?;
     Ok(shown)
 }
 
@@ -295,9 +295,10 @@ fn check_passage_line(alloc: Global, shown: &[u8]) -> Result<(), Fail> {
 fn lines_of_passages(rt: HostRuntime) -> Result<(), Fail> {
     let alloc = rt.alloc();
     let source = sample_cells(alloc)?;
-    let cells = cells_of(alloc, &source, "a\r\n")?;
+    let text = "a\r\n";
+    let cells = cells_of(alloc, &source, text)?;
     let verdicts = verdicts_of(alloc, &cells)?;
-    let shown = passage_line(alloc, &['a', '\r', '\n'], &verdicts)?;
+    let shown = passage_line(alloc, text, &verdicts)?;
     laws_of_lines();
     check_passage_line(alloc, &shown)
 }

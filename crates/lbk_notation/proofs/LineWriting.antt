@@ -1,5 +1,5 @@
--- A passage's marks and scalars, written one after another.
-use Rattle.std.proofs.Common.{◌≡◌, ℕ, suc, ◌+◌, ◌<◌, List, [], ◌∷◌, ◌++◌, map, length, drop, drop-cons, get_or, append_assoc, append-nil, sym, ap, subst, ◌∙◌, arith}
+-- The marks and scalars of a passage, written one after another.
+use Rattle.std.proofs.Common.{◌≡◌, ℕ, suc, ◌+◌, ◌<◌, ◌≤◌, List, [], ◌∷◌, ◌++◌, map, length, drop, drop-cons, get_or, append_assoc, append-nil, sym, ap, subst, ◌∙◌, arith}
 use Rattle.std.specs.Char.{encode_utf8}
 use Rattle.std.specs.Str.{IsUtf8, chars}
 use Rattle.std.proofs.lemmas.List.{nil_from_length}
@@ -8,8 +8,9 @@ use Rattle.lbk_notation.specs.declared.marks.Form.TheVariants.{Kinds}
 use Rattle.lbk_notation.specs.declared.marks.Mark.{Mark}
 use Rattle.lbk_notation.specs.Grammar.{mark_bytes}
 use Rattle.lbk_notation.specs.Marked.{mark_of}
-use Rattle.lbk_notation.specs.Written.{shown, token, written_after, written_marks}
+use Rattle.lbk_notation.specs.Written.{HasPut, shown, token, written_after, written_marks}
 use Rattle.lbk_rules.specs.declared.Verdict.{Verdict}
+use Rattle.lbk_notation.proofs.Fronts.{HasPut-within}
 
 abbrev marks_in : List Verdict → List Mark
 marks_in verdicts = map (λ v. mark_of v.kind) verdicts
@@ -34,14 +35,12 @@ Writes-start text (w ∷ ws) v d rest old out utf8 whole many first pushed = rec
       ∙ append_assoc old (mark_bytes (shown Kinds (mark_of w.kind))) (written_after Kinds (chars text) (marks_in ws));
 }
 
-regroup : (out word mark rest : List ℕ) → (out ++ (32 ∷ (word ++ (32 ∷ mark)))) ++ rest ≡ out ++ (32 ∷ (word ++ (32 ∷ (mark ++ rest))))
-regroup out word mark rest =
-    append_assoc out (32 ∷ (word ++ (32 ∷ mark))) rest ∙ ap (λ l. out ++ (32 ∷ l)) (append_assoc word (32 ∷ mark) rest)
-
-pub Writes-step : (verdicts : List Verdict) (k c : ℕ) (v d : Verdict) (rest more out out' all : List ℕ) → rest ≡ encode_utf8 c ++ more
-    → v ≡ get_or verdicts k d → out' ≡ out ++ (32 ∷ (token c ++ (32 ∷ mark_bytes (shown Kinds (mark_of v.kind)))))
-    → Writes verdicts k rest out all → Writes verdicts (k + 1) more out' all
-Writes-step verdicts k c v d rest more out out' all splits here pushed w =
+-- the next scalar, the mark after it, and what stands behind these are all
+next-part : (verdicts : List Verdict) (k c : ℕ) (v d : Verdict) (rest more out all : List ℕ) → rest ≡ encode_utf8 c ++ more
+    → v ≡ get_or verdicts k d → Writes verdicts k rest out all
+    → out ++ ((32 ∷ (token c ++ (32 ∷ mark_bytes (shown Kinds (mark_of v.kind)))))
+    ++ written_after Kinds (chars more) (marks_in (drop (k + 1) verdicts))) ≡ all
+next-part verdicts k c v d rest more out all splits here w =
     let begins : chars rest ≡ c ∷ chars more = chars_past_char rest more c w.utf8 splits in
     let within : k < length verdicts = omega (arith, w.place, ap length begins) in
     let next : suc k ≡ k + 1 = omega arith in
@@ -49,14 +48,31 @@ Writes-step verdicts k c v d rest more out out' all splits here pushed w =
     drop-cons verdicts k d within ∙ ap (λ x. x ∷ drop (suc k) verdicts) (sym here) ∙ ap (λ n. v ∷ drop n verdicts) next in
     let mark = mark_bytes (shown Kinds (mark_of v.kind)) in
     let behind = written_after Kinds (chars more) (marks_in (drop (k + 1) verdicts)) in
+    ap (λ l. out ++ (32 ∷ l)) (append_assoc (token c) (32 ∷ mark) behind)
+    ∙ ap (λ l. out ++ written_after Kinds (c ∷ chars more) (marks_in l)) (sym cut)
+    ∙ ap (λ l. out ++ written_after Kinds l (marks_in (drop k verdicts))) (sym begins) ∙ w.joined
+
+pub Writes-step : (verdicts : List Verdict) (k c : ℕ) (v d : Verdict) (rest more out out' all : List ℕ) → rest ≡ encode_utf8 c ++ more
+    → v ≡ get_or verdicts k d → out' ≡ out ++ (32 ∷ (token c ++ (32 ∷ mark_bytes (shown Kinds (mark_of v.kind)))))
+    → Writes verdicts k rest out all → Writes verdicts (k + 1) more out' all
+Writes-step verdicts k c v d rest more out out' all splits here pushed w =
+    let begins : chars rest ≡ c ∷ chars more = chars_past_char rest more c w.utf8 splits in
+    let part = 32 ∷ (token c ++ (32 ∷ mark_bytes (shown Kinds (mark_of v.kind)))) in
+    let behind = written_after Kinds (chars more) (marks_in (drop (k + 1) verdicts)) in
     record {
       utf8 = IsUtf8-past_char rest more c w.utf8 splits;
       place = omega (arith, w.place, ap length begins);
-      joined =
-          ap (λ l. l ++ behind) pushed ∙ regroup out (token c) mark behind
-          ∙ ap (λ l. out ++ written_after Kinds (c ∷ chars more) (marks_in l)) (sym cut)
-          ∙ ap (λ l. out ++ written_after Kinds l (marks_in (drop k verdicts))) (sym begins) ∙ w.joined;
+      joined = ap (λ l. l ++ behind) pushed ∙ append_assoc out part behind ∙ next-part verdicts k c v d rest more out all splits here w;
     }
+
+-- memory could not grow within the next part
+pub Writes-refused : (verdicts : List Verdict) (k c : ℕ) (v d : Verdict) (rest more out new old bytes : List ℕ) → rest ≡ encode_utf8 c ++ more
+    → v ≡ get_or verdicts k d → HasPut out new (32 ∷ (token c ++ (32 ∷ mark_bytes (shown Kinds (mark_of v.kind)))))
+    → Writes verdicts k rest out (old ++ bytes) → length old ≤ length out → HasPut old new bytes
+Writes-refused verdicts k c v d rest more out new old bytes splits here put w longer =
+    HasPut-within old out new (32 ∷ (token c ++ (32 ∷ mark_bytes (shown Kinds (mark_of v.kind)))))
+    (written_after Kinds (chars more) (marks_in (drop (k + 1) verdicts))) bytes put
+    (next-part verdicts k c v d rest more out (old ++ bytes) splits here w) longer
 
 pub Writes-end : (verdicts : List Verdict) (k : ℕ) (rest out all : List ℕ) → length rest ≡ 0 → Writes verdicts k rest out all → out ≡ all
 Writes-end verdicts k rest out all none w =
