@@ -1,5 +1,5 @@
 -- What a `Device` shows: its inner reader or writer, and its counts.
-use Rattle.std.specs.Prelude.{◌≡◌, ℕ, Bool, ◌⊎◌, Result, Ok, Err, IsErr}
+use Rattle.std.specs.Prelude.{◌≡◌, ℕ, ◌<◌, Bool, ◌⊎◌, Result, Ok, Err, IsErr}
 use Rattle.lbk_feed.specs.Devices.{Reads}
 use Rattle.lbk_feed.specs.declared.adapter.Device.{Device}
 
@@ -24,7 +24,7 @@ abbrev pub Passes : {E F : Type 0} → Result ℕ E → Result ℕ F → Type 0
 Passes (Ok n) result = result ≡ Ok n
 Passes (Err _) result = IsErr result
 
--- the result of a write, likewise; a count of 0 may also be a failure
-abbrev pub PassesSome : {E F : Type 0} → Result ℕ E → Result ℕ F → Type 0
-PassesSome (Ok n) result = (result ≡ Ok n) ⊎ ((n ≡ 0) × IsErr result)
-PassesSome (Err _) result = IsErr result
+-- the result of a write of so many bytes, likewise; a count of 0 is a failure where there are bytes
+abbrev pub PassesSome : {E F : Type 0} → ℕ → Result ℕ E → Result ℕ F → Type 0
+PassesSome size (Ok n) result = (result ≡ Ok n) ⊎ ((n ≡ 0) × (0 < size) × IsErr result)
+PassesSome _ (Err _) result = IsErr result

@@ -96,7 +96,7 @@ impl<W: OneWrite> Sink for Device<W> {
         ensures bytes { Puts (W.contents (inner_of self.old)) (W.contents (inner_of self.new)) result bytes.now }
         ensures failures { failures_of self.new ≡ failures_after (failures_of self.old) result }
         ensures one_call { (outcome : Result ℕ Error)
-            × W.is_one_write (inner_of self.old) outcome (inner_of self.new) × PassesSome outcome result }
+            × W.is_one_write (inner_of self.old) outcome (inner_of self.new) × PassesSome (length bytes.now) outcome result }
     {
         let outcome = match self.inner.write_once(bytes) {
             Ok(0) if !bytes.is_empty() => Err(Failed),
