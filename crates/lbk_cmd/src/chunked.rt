@@ -35,9 +35,9 @@ pub struct Asked {
 /// It writes the lines of the chunks that are settled before the next read, and before it returns a fault; a chunk is
 /// settled once a break after its end is known. `limit` and the faults are as in `show`.
 pub fn chunk<R: Source, W: Sink, C: CellSource>(
+    alloc: Global,
     limits: Limits,
     asked: Asked,
-    alloc: Global,
     reader: &mut R,
     writer: &mut W,
     cells: &C,

@@ -27,13 +27,13 @@ pub fn mark<R: Source, W: Sink, C: CellSource>(
     ensures { Marks default_sign (C.cell_of cells.now) limit profile
         (devices_of R.Source W.Sink reader.old writer.old) (devices_of R.Source W.Sink reader.new writer.new) result }
 {
-    mark_with(DEFAULT_SIGN, alloc, reader, writer, cells, limit, profile)
+    mark_with(alloc, DEFAULT_SIGN, reader, writer, cells, limit, profile)
 }
 
 /// As `mark`, with this sign instead of `÷`.
 pub fn mark_with<R: Source, W: Sink, C: CellSource>(
-    sign: &str,
     alloc: Global,
+    sign: &str,
     reader: &mut R,
     writer: &mut W,
     cells: &C,
@@ -49,7 +49,7 @@ pub fn mark_with<R: Source, W: Sink, C: CellSource>(
         profile,
     };
     let lines = Lines::Text(TextLines::Signed { sign });
-    write_lines(lines, alloc, reader, writer, &how)
+    write_lines(alloc, lines, reader, writer, &how)
 }
 
 /// Writes a line for each passage of a text (UAX #14, section 6): the marks of its positions with its scalars between
@@ -75,7 +75,7 @@ pub fn show<R: Source, W: Sink, C: CellSource>(
         limit,
         profile,
     };
-    write_lines(Lines::Text(TextLines::Shown), alloc, reader, writer, &how)
+    write_lines(alloc, Lines::Text(TextLines::Shown), reader, writer, &how)
 }
 
 /// Writes the segments and words of a text: for each passage a line `P` with its first byte and the byte after its
@@ -99,7 +99,7 @@ pub fn segment<R: Source, W: Sink, C: CellSource>(
         limit,
         profile,
     };
-    write_lines(Lines::Segmented, alloc, reader, writer, &how)
+    write_lines(alloc, Lines::Segmented, reader, writer, &how)
 }
 
 /// How a text is broken: by these cells and the rules of this profile, with at most so many bytes in a paragraph.
@@ -130,8 +130,8 @@ pub(crate) enum TextLines<'a> {
 
 /// Reads a text to its end, and writes the lines of each passage before the next read.
 pub fn write_lines<R: Source, W: Sink, C: CellSource>(
-    lines: Lines<'_>,
     alloc: Global,
+    lines: Lines<'_>,
     reader: &mut R,
     writer: &mut W,
     how: &Breaking<'_, C>,

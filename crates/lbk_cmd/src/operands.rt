@@ -2,7 +2,7 @@
 
 ghost use Rattle.std.specs.Prelude.{◌≡◌, ◌++◌, ◌∷◌, ℕ, List, [], None, Option, Some, option_map};
 ghost use Rattle.lbk_cmd.specs.declared.ending.RunFault.{RunFault};
-ghost use Rattle.lbk_cmd.specs.MemoryTexts.{Notes, refusals_told_by, told_by};
+ghost use Rattle.lbk_cmd.specs.MemoryTexts.{Notes, faults_of, files_of, refusals_told_by, told_by};
 
 use super::ending::RunFault;
 use lbk_args::Order;
@@ -37,8 +37,8 @@ pub struct MemoryTexts<'a> {
 impl<'a> MemoryTexts<'a> {
     /// Texts with these names. No other name can be opened.
     pub fn new(alloc: Global, files: MemoryStore<'a>) -> MemoryTexts<'a>
-        ensures files { result.files ≡ files.entry }
-        ensures none { result.refused.items ≡ [] }
+        ensures files { files_of result ≡ files.entry }
+        ensures none { faults_of result ≡ [] }
     {
         MemoryTexts {
             files,
@@ -48,7 +48,7 @@ impl<'a> MemoryTexts<'a> {
 
     /// Why texts were refused, in order, as long as memory could grow for the list.
     pub fn refused(&self) -> &[RunFault]
-        ensures { result.now ≡ self.now.refused.items }
+        ensures { result.now ≡ faults_of self.now }
     {
         &self.refused
     }

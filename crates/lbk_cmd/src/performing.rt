@@ -161,9 +161,9 @@ fn perform_chunk<R: Source, W: Sink>(
         (devices_of R.Source W.Sink reader.old writer.old) (devices_of R.Source W.Sink reader.new writer.new) result }
 {
     Ending::of_text(chunk(
+        alloc,
         limits(sizes),
         asked,
-        alloc,
         reader,
         writer,
         &ready.cells,
@@ -203,8 +203,8 @@ fn perform_lines<R: Source, W: Sink>(
         profile: ready.profile,
     };
     match ready.part {
-        None => Ending::of_text(write_lines(lines, alloc, reader, writer, &how)),
-        Some(part) => Ending::of_text(write_range(lines, part, alloc, reader, writer, &how)),
+        None => Ending::of_text(write_lines(alloc, lines, reader, writer, &how)),
+        Some(part) => Ending::of_text(write_range(alloc, lines, part, reader, writer, &how)),
     }
 }
 

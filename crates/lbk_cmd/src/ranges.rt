@@ -19,9 +19,9 @@ use std::alloc::Global;
 ///
 /// `limit` and the faults are those of `show`: the text before the range is refused as in a run over the whole text.
 pub fn write_range<R: Source, W: Sink, C: CellSource>(
+    alloc: Global,
     lines: Lines<'_>,
     part: Part,
-    alloc: Global,
     reader: &mut R,
     writer: &mut W,
     how: &Breaking<'_, C>,

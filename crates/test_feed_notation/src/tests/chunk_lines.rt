@@ -27,7 +27,7 @@ fn chunked(
 ) -> Result<(), CmdFault> {
     let limits = limits_of(&[4, 0, 2, 0]);
     let profile = Profile::First;
-    chunk(limits, asked, alloc, reader, writer, cells, LIMIT, profile)
+    chunk(alloc, limits, asked, reader, writer, cells, LIMIT, profile)
 }
 
 /// A text, read in these sizes, has these lines, and the run ends so.
