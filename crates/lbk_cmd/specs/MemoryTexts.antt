@@ -7,11 +7,11 @@ use Rattle.lbk_cmd.specs.declared.ending.RunFault.{RunFault}
 use Rattle.lbk_cmd.specs.declared.operands.MemoryTexts.{MemoryTexts}
 
 -- the texts, by their names
-unfoldable pub files_of : MemoryTexts → MemoryStore
+abbrev pub files_of : MemoryTexts → MemoryStore
 files_of texts = texts.files
 
 -- why texts were refused, in order
-unfoldable pub faults_of : MemoryTexts → List RunFault
+abbrev pub faults_of : MemoryTexts → List RunFault
 faults_of texts = texts.refused.items
 
 -- the content of the file with a name

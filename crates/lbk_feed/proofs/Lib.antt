@@ -10,4 +10,5 @@ pub mod Taking
 pub mod Drawing
 pub mod Outcomes
 pub mod Written
+pub mod Appended
 pub mod Stepping

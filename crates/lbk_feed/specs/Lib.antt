@@ -4,6 +4,7 @@ pub mod Devices
 pub mod View
 pub mod Runs
 pub mod Writes
+pub mod Appended
 pub mod Tally
 pub mod Device
 pub mod MemorySource

@@ -8,9 +8,10 @@ use Rattle.lbk_notation.specs.declared.marks.Form.TheVariants.{Kinds}
 use Rattle.lbk_notation.specs.declared.marks.Mark.{Mark}
 use Rattle.lbk_notation.specs.Grammar.{mark_bytes}
 use Rattle.lbk_notation.specs.Marked.{mark_of}
-use Rattle.lbk_notation.specs.Written.{HasPut, shown, token, written_after, written_marks}
+use Rattle.lbk_feed.specs.Appended.{HasPut}
+use Rattle.lbk_notation.specs.Written.{shown, token, written_after, written_marks}
 use Rattle.lbk_rules.specs.declared.Verdict.{Verdict}
-use Rattle.lbk_notation.proofs.Fronts.{HasPut-within}
+use Rattle.lbk_feed.proofs.Appended.{HasPut-within}
 
 abbrev marks_in : List Verdict → List Mark
 marks_in verdicts = map (λ v. mark_of v.kind) verdicts

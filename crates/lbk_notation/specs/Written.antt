@@ -1,6 +1,6 @@
 -- The written line: marks and scalars, separated by one space, without other white space, each scalar as its only
 -- token.
-use Rattle.std.specs.Prelude.{◌≡◌, ℕ, ◌/◌, ◌%◌, ltb, if◌then◌else◌, List, [], ◌∷◌, ◌++◌, map, take, Result, OnOk, OnErr}
+use Rattle.std.specs.Prelude.{◌≡◌, ℕ, ◌/◌, ◌%◌, ltb, if◌then◌else◌, List, [], ◌∷◌, ◌++◌, map, Result, OnOk, OnErr}
 use Rattle.lbk_notation.specs.declared.marks.Form.{Form}
 use Rattle.lbk_notation.specs.declared.marks.Form.TheVariants.{Plain}
 use Rattle.lbk_notation.specs.declared.marks.Mark.{Mark}
@@ -46,8 +46,3 @@ written_line form line = written_marks form line.scalars line.marks
 pub record AppendsAll {X Y : Type 0} (old new bytes : List ℕ) (result : Result X Y) : Type 0 where
   pub text : OnOk result (new ≡ old ++ bytes)
   pub refused : OnErr result (new ≡ old)
-
--- a prefix of these bytes was appended to the bytes before, of which none is lost
-pub record HasPut (old new bytes : List ℕ) : Type 0 where
-  pub count : ℕ
-  pub is : new ≡ old ++ take count bytes

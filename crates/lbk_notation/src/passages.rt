@@ -2,9 +2,10 @@
 
 ghost use Rattle.std.specs.Prelude.{◌≡◌, ◌+◌, ◌++◌, length, OnOk, OnErr};
 ghost use Rattle.std.specs.Str.{chars};
+ghost use Rattle.lbk_feed.specs.Appended.{HasPut};
 ghost use Rattle.lbk_notation.specs.declared.marks.Form.TheVariants.{Kinds};
 ghost use Rattle.lbk_notation.specs.Shown.{passage_line, passage_marks, written_labels};
-ghost use Rattle.lbk_notation.specs.Written.{HasPut, written_line};
+ghost use Rattle.lbk_notation.specs.Written.{written_line};
 
 use super::marking::mark_of;
 use super::marks::Form;

@@ -5,7 +5,8 @@ ghost use Rattle.std.specs.Prelude.{OnErr, EachIndex, slice_index};
 ghost use Rattle.std.specs.Char.{IsScalar};
 ghost use Rattle.lbk_notation.specs.Grammar.{IsLine, digit_byte, mark_bytes};
 ghost use Rattle.lbk_notation.specs.TestLine.{Line};
-ghost use Rattle.lbk_notation.specs.Written.{AppendsAll, HasPut, shown, shown_line, token, written_line};
+ghost use Rattle.lbk_feed.specs.Appended.{HasPut};
+ghost use Rattle.lbk_notation.specs.Written.{AppendsAll, shown, shown_line, token, written_line};
 ghost use Rattle.lbk_notation.specs.Written.{written_marks};
 
 use super::marks::{Form, Mark};

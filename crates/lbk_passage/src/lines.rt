@@ -1,7 +1,9 @@
 //! The lines that `segment` writes for a passage.
 
 ghost use Rattle.std.specs.Prelude.{◌≡◌, ℕ, ◌+◌, ◌*◌, ◌<◌, ◌≤◌, ◌^◌, List, ◌++◌, ◌∷◌, [], length, take};
+ghost use Rattle.std.specs.Prelude.{OnErr};
 ghost use Rattle.std.specs.List.{flat_map};
+ghost use Rattle.lbk_feed.specs.Appended.{HasPut};
 ghost use Rattle.lbk_rules.specs.Labels.{label_of};
 ghost use Rattle.lbk_passage.specs.Adding.{Adds};
 ghost use Rattle.lbk_passage.specs.Placing.{Placed, PlacedIn};
@@ -26,7 +28,7 @@ const PARTS: usize = 64;
 static ROOM: [u8; LINE * PARTS] = [b'\n'; LINE * PARTS];
 
 /// Appends the lines of a passage to `out`: `P` with its offsets, `S` for each segment with the kind and the rule at
-/// its end, `W` for each word. Offsets count bytes of the whole text. After an error some of them may be appended.
+/// its end, `W` for each word. Offsets count bytes of the whole text. After an error a prefix of them may be appended.
 pub fn push_segmented(
     out: &mut Vec<u8>,
     offsets: &mut Offsets,
@@ -34,8 +36,10 @@ pub fn push_segmented(
 ) -> Result<(), AllocError>
     requires start { passage.now.start ≤ 2 ^ 62 }
     requires few { length passage.now.text.now < 2 ^ 32 }
-    ensures { Adds out.old.items out.new.items (passage_lines passage.now.start (length passage.now.text.now)
+    ensures adds { Adds out.old.items out.new.items (passage_lines passage.now.start (length passage.now.text.now)
         passage.now.segments.now passage.now.pieces.now) result }
+    ensures refused { OnErr result (HasPut out.old.items out.new.items (passage_lines passage.now.start
+        (length passage.now.text.now) passage.now.segments.now passage.now.pieces.now)) }
 {
     let start = passage.start;
     let whole = Whole {
@@ -54,7 +58,8 @@ fn push_lines<T: HasLine>(
     parts: &[T],
 ) -> Result<(), AllocError>
     requires { start ≤ 2 ^ 62 }
-    ensures { Adds out.old.items out.new.items (flat_map (T.line start) parts.now) result }
+    ensures adds { Adds out.old.items out.new.items (flat_map (T.line start) parts.now) result }
+    ensures refused { OnErr result (HasPut out.old.items out.new.items (flat_map (T.line start) parts.now)) }
 {
     for some in parts.chunks(PARTS) {
         let at = out.len();

@@ -7,7 +7,7 @@ use Rattle.lbk_notation.specs.declared.marks.Form.TheVariants.{Kinds}
 use Rattle.lbk_rules.specs.declared.Verdict.{Verdict}
 use Rattle.lbk_rules.specs.declared.Kind.TheVariants.{No}
 use Rattle.lbk_rules.specs.declared.Rule.TheVariants.{Lb2}
-use Rattle.lbk_notation.proofs.Fronts.{on_err}
+use Rattle.lbk_feed.proofs.Appended.{on_err}
 use Rattle.lbk_notation.proofs.LineWriting.{Writes-start, Writes-step, Writes-refused, Writes-end}
 use Rattle.lbk_notation.proofs.passages.push_kinds.Goals as goal
 

@@ -1,5 +1,6 @@
 use Rattle.std.proofs.Common.{◌∙◌}
-use Rattle.lbk_notation.proofs.Fronts.{HasPut-label, HasPut-labels, on_err}
+use Rattle.lbk_feed.proofs.Appended.{on_err}
+use Rattle.lbk_notation.proofs.Fronts.{HasPut-label, HasPut-labels}
 use Rattle.lbk_rules.specs.declared.Verdict.{Verdict}
 use Rattle.lbk_rules.specs.declared.Kind.TheVariants.{No}
 use Rattle.lbk_rules.specs.declared.Rule.TheVariants.{Lb2}

@@ -1,7 +1,7 @@
 use Rattle.std.proofs.Common.{◌≡◌, ◌≤◌, ◌++◌, ◌∷◌, length, arith, append_assoc, length-append, refl}
 use Rattle.std.specs.Str.{chars}
 use Rattle.lbk_notation.specs.Shown.{passage_line, written_labels}
-use Rattle.lbk_notation.proofs.Fronts.{HasPut-before, HasPut-within, on_err, refused-within}
+use Rattle.lbk_feed.proofs.Appended.{HasPut-before, HasPut-within, on_err, refused-within}
 use Rattle.lbk_notation.proofs.passages.push_passage_line.Goals as goal
 
 pub returns-in_err-push_kinds-clause-refused : goal.returns-in_err-push_kinds-clause-refused

@@ -2,7 +2,8 @@ use Rattle.std.proofs.Common.{◌+◌, ◌++◌, ◌∙◌, ap, drop, arith}
 use Rattle.std.proofs.lemmas.List.{drop_more}
 use Rattle.lbk_notation.specs.declared.marks.Mark.TheVariants.{No}
 use Rattle.lbk_notation.specs.Written.{written_after}
-use Rattle.lbk_notation.proofs.Fronts.{HasPut-within, on_err, written_after-more}
+use Rattle.lbk_feed.proofs.Appended.{HasPut-within, on_err}
+use Rattle.lbk_notation.proofs.Fronts.{written_after-more}
 use Rattle.lbk_notation.proofs.writing.push_line.Goals as goal
 
 pub returns-in_err-push_scalar-clause-refused : goal.returns-in_err-push_scalar-clause-refused

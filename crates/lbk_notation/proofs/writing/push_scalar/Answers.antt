@@ -1,7 +1,7 @@
 use Rattle.std.proofs.Common.{◌≡◌, ◌≤◌, ◌∷◌, ◌++◌, ◌∙◌, [], ap, length, arith, append_assoc, length-append}
 use Rattle.lbk_notation.specs.Grammar.{mark_bytes}
 use Rattle.lbk_notation.specs.Written.{shown, token}
-use Rattle.lbk_notation.proofs.Fronts.{HasPut-unchanged, refused-before}
+use Rattle.lbk_feed.proofs.Appended.{HasPut-unchanged, refused-before}
 use Rattle.lbk_notation.proofs.writing.push_scalar.Goals as goal
 
 pub returns-in_err-push_token-clause-refused : goal.returns-in_err-push_token-clause-refused

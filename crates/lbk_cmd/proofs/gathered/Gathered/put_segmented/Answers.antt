@@ -41,7 +41,7 @@ returns-in-Err g c = λ cell profile limit.
             (g.R.Source.unread c.args.reader.now) (g.R.Source.unread c.next.new.reader) (g.R.Source.has_ended c.args.reader.now) (g.R.Source.has_ended c.next.new.reader)
             (g.R.Source.reads_made c.args.reader.now) (g.R.Source.reads_made c.next.new.reader) r) was c.next.follows.holds-at-none.0;
         failed = c.next.ensures.failures ∙ ap (λ r. failures_with (g.R.Source.failure_count c.args.reader.now) (fault_in r)) was;
-        puts = inr (c.take_back.ensures.memory, c.take_back.ensures.lines ∙ ap (λ n. take n c.push_segmented.new.out.items) whole ∙ c.push_segmented.ensures.kept);
+        puts = inr (c.take_back.ensures.memory, c.take_back.ensures.lines ∙ ap (λ n. take n c.push_segmented.new.out.items) whole ∙ c.push_segmented.ensures.adds.kept);
       };
       settled = search rules;
     }
