@@ -137,7 +137,7 @@ def folders(runs, folder):
         contents = (folder / name).read_bytes()
         of_another = contents.replace(b"15.0", b"15.1", 1)
         changed = f"^lbk: {here}/{name}: the file was changed or truncated: .*; download it again, or pass your own file by --"
-        version = f"^lbk: {here}/{name}: this is (Unicode 15.1.0|Emoji 15.1), and lbk needs 15.0"
+        version = f"^lbk: {here}/{name}: this is (Unicode 15.1.0|Emoji 15.1), and lbk needs 15.0(.0)?; get it from .*UCD.zip$"
         for what, bytes_of, err in [
             ("lacks its last byte", contents[:-1], changed),
             ("lacks rows from the middle", without_rows(contents), changed),

@@ -29,7 +29,8 @@ CHANGED = (
     "lbk: U/{0}: the file was changed or truncated: it differs from Unicode 15.0.0's {0}; "
     "download it again, or pass your own file by {1}\n"
 )
-TITLE = "lbk: U/LineBreak.txt: this is not LineBreak.txt of the Unicode Character Database\n"
+REMEDY = "; get it from Debian 12's unicode-data or https://www.unicode.org/Public/15.0.0/ucd/UCD.zip\n"
+TITLE = "lbk: U/LineBreak.txt: this is not LineBreak.txt of the Unicode Character Database" + REMEDY
 NO_VALUE = "unknown property value; lbk knows those of Unicode 15.0 and earlier"
 TWO_WORDS = "× 0061 × 0062 × 0020 ÷ 0063 × 0064 !\t# 2 28 7 18 28 3\n"
 
@@ -183,7 +184,7 @@ LINE_BREAKS = [
     (
         "of another version",
         b"# LineBreak-14.0.0.txt\n# EOF\n",
-        "lbk: U/LineBreak.txt: this is Unicode 14.0.0, and lbk needs 15.0.0\n",
+        "lbk: U/LineBreak.txt: this is Unicode 14.0.0, and lbk needs 15.0.0" + REMEDY,
     ),
 ]
 

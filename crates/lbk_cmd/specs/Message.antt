@@ -21,6 +21,7 @@ use Rattle.lbk_args.specs.declared.order.FileName.{FileName}
 use Rattle.lbk_args.specs.declared.order.FileName.TheVariants.{Given, InFolder}
 use Rattle.lbk_args.specs.declared.order.FileNames.{FileNames}
 use Rattle.lbk_files.specs.declared.faults.CellsFault.TheVariants as cells
+use Rattle.lbk_ucd.specs.ClaimTexts.{remedy_text}
 use Rattle.lbk_files.specs.declared.ClaimCause.{ClaimCause}
 use Rattle.lbk_files.specs.declared.ClaimCause.TheVariants.{Changed}
 use Rattle.lbk_files.specs.FaultText.{fault_text}
@@ -72,6 +73,7 @@ option_of Emoji = codes "--emoji"
 
 abbrev pub advice : Caller → Which → ClaimCause → List ℕ
 advice (Words engine files) which Changed = codes "; download it again, or pass your own file by " ++ option_of which
+advice (Words engine files) which cause = codes "; " ++ remedy_text
 advice _ which cause = []
 
 -- the text with a name

@@ -15,7 +15,7 @@ use lbk_feed::TEXT_MAX;
 use lbk_files::{CellsFault, ClaimCause, NamedFault};
 use lbk_notation::ReplayFault;
 use lbk_passage::{LIMIT_MAX, PassageFault};
-use lbk_ucd::Which;
+use lbk_ucd::{Which, remedy_text};
 use std::fmt;
 
 /// Who asked for a run. It decides how messages name files and devices.
@@ -148,12 +148,15 @@ impl<'a> Message<'a> {
     {
         let fault = self.named(CellsFault::Claim(which, cause), which);
         write!(f, "{fault}")?;
-        match self.caller {
-            Caller::Words { .. } if cause == ClaimCause::Changed => {
+        let Caller::Words { .. } = self.caller else {
+            return Ok(());
+        };
+        match cause {
+            ClaimCause::Changed => {
                 let option = option_of(which);
                 write!(f, "; download it again, or pass your own file by {option}")
             }
-            _ => Ok(()),
+            ClaimCause::Title | ClaimCause::Version(_) => write!(f, "; {}", remedy_text()),
         }
     }
 

@@ -21,7 +21,7 @@ returns-in-Ok g c = λ cell profile limit.
           refl,
           refl,
           λ ms cell_is profile_is of.
-              c.in-Ok.ensures.all
+              c.in-Ok.ensures.adds.all
               ∙ ap (λ l. before ++ l) (segmented-is s ms p cell cell_is of),
         );
       };
