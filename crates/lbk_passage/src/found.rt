@@ -97,7 +97,7 @@ fn fill_by<C: CellSource>(
     ensures { (kinds : List ℕ) × (pairs : Neighbours) × IsFlatBy kinds pairs (C.cell_of cells.now)
         × Fills profile kinds pairs text.now out.old start out.new result }
 {
-    let Some(table) = NearKinds::of(cells) else {
+    let Some(table) = NearKinds::of(cells, cells.kinds()) else {
         return fill_from(&CellTable::new(cells), profile, start, text, out);
     };
     fill_from(&table, profile, start, text, out)

@@ -34,7 +34,7 @@ impl KindTable {
         ensures kinds { IfOk result (λ table. (code : ℕ) → code < 0x11_0000
             → kind_at table code ≡ kind_of (C.cell_at source.now code)) }
     {
-        let mut walk = Walk::begin(alloc, source, CODES)?;
+        let mut walk = Walk::<C, CODES>::begin(alloc, source)?;
         while walk.kinds.kinds.len() < CODES {
             walk.go_on()?;
         }

@@ -30,7 +30,7 @@ mod walk;
 pub use class_labels::class_label;
 pub use lbk_uax14::{Cell, Class, Quote, resolve};
 pub use pages::CellPages;
-pub use source::CellSource;
+pub use source::{CellSource, FOUR_PLANES};
 
 // Positions decided, at once or cell by cell.
 pub use lbk_uax14::{

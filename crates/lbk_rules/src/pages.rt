@@ -5,27 +5,25 @@ ghost use Rattle.std.specs.Char.{IsScalar};
 ghost use Rattle.lbk_uax14.specs.PageCells.{cell_of_pages};
 ghost use Rattle.lbk_rules.specs.FirstBytes.{AreQuiet};
 ghost use Rattle.lbk_rules.specs.KindTable.{kind_at};
-ghost use Rattle.lbk_rules.specs.Kinds.{kind_of, kinds_of_cells};
+ghost use Rattle.lbk_rules.specs.Kinds.{AreKindsOf, kind_of, kinds_of_cells};
 ghost use Rattle.lbk_rules.specs.Neighbours.{AreNeighboursOf};
 ghost use Rattle.lbk_rules.specs.declared.neighbours.Neighbours.{Neighbours};
+ghost use Rattle.lbk_rules.specs.declared.source.TheConstants.{FOUR_PLANES};
 
 use crate::cell_table::CellTable;
 use crate::kind_table::KindTable;
 use crate::kinds::kind_of;
 use crate::neighbours::{NO_NEIGHBOURS, Neighbours};
 use crate::runs::CellRuns;
-use crate::source::CellSource;
+use crate::source::{CellSource, FOUR_PLANES};
 use crate::walk::Walk;
 use lbk_uax14::{Cell, Pages};
 use lbk_ucd::Tables;
 use std::alloc::{AllocError, Global};
 
-/// How many codes have their kinds side by side: those of four planes, in which nearly all text lies.
-const MOST_KINDS: usize = 0x4_0000;
-
 /// The cells of all scalar values, for a look-up of two reads: the number of a page, and a cell in
-/// it. Equal pages are kept once. Beside them the kinds of the first cells, by which positions are decided
-/// fast.
+/// it. Equal pages are kept once. Beside them the kinds of the cells of four planes, by which positions are
+/// decided fast.
 #[derive(Debug, Drop)]
 pub struct CellPages {
     pages: Pages,
@@ -34,6 +32,7 @@ pub struct CellPages {
     quiet_first_bytes: [bool; 256],
     /// What the steps tell of bytes side by side, once it was found.
     neighbours: Option<Neighbours>,
+    ghost near: { length kinds.kinds.items ≡ FOUR_PLANES },
     ghost same: { (code : ℕ) → IsScalar code → code < length kinds.kinds.items
         → kind_at kinds code ≡ kind_of (cell_of_pages pages code) },
     ghost quiet: { AreQuiet (cell_of_pages pages) quiet_first_bytes },
@@ -69,7 +68,7 @@ impl CellPages {
         ensures { IfOk result (λ pages. (code : ℕ) → IsScalar code
             → page_cell pages code ≡ C.cell_at source.now code) }
     {
-        let mut walk = Walk::begin(alloc, source, MOST_KINDS)?;
+        let mut walk = Walk::<C, FOUR_PLANES>::begin(alloc, source)?;
         let pages = Pages::build(alloc, &mut walk)?;
         Ok(CellPages {
             pages,
@@ -101,7 +100,10 @@ impl CellSource for CellPages {
 
     #[inline]
     #[tactic(auto, unfolding(crate::specs::CellPages::page_cell, crate::specs::KindTable::kind_at))]
-    fn kinds(&self) -> &[u8] {
+    fn kinds(&self) -> &[u8]
+        ensures count { length result.now ≡ FOUR_PLANES }
+        ensures kinds { AreKindsOf (page_cell self.now) result.now }
+    {
         &self.kinds.kinds
     }
 

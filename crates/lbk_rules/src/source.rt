@@ -7,6 +7,9 @@ use crate::neighbours::{NO_NEIGHBOURS, Neighbours};
 use lbk_uax14::{Cell, resolve};
 use lbk_ucd::Tables;
 
+/// How many codes the planes 0 to 3 have, in which nearly all text lies.
+pub const FOUR_PLANES: usize = 0x4_0000;
+
 /// Something that knows the cell of each scalar value.
 pub trait CellSource {
     ghost use Rattle.lbk_rules.specs.FirstBytes.{AreQuiet};
@@ -30,8 +33,8 @@ pub trait CellSource {
         kind_of(self.cell(c))
     }
 
-    /// The kinds of the first codes, where the source keeps them: by those of all codes a loop finds a kind by one
-    /// read.
+    /// The kinds of the first codes, as many as the source keeps, or none. Where it keeps those of [`FOUR_PLANES`] a
+    /// loop finds the kinds of nearly all text by one read each.
     #[inline]
     fn kinds(&self) -> &[u8]
         ensures { AreKindsOf (cell_of self.now) result.now }

@@ -14,12 +14,11 @@ use lbk_uax14::{CellRange, CellWalk};
 use lbk_ucd::Places;
 use std::alloc::{AllocError, Global};
 
-/// The range that a walk is at, and what is known by kind alone of the codes up to its end.
+/// The range that a walk is at, and what is known by kind alone of the codes up to its end. At most `MOST` codes have
+/// their kinds told.
 #[derive(Drop)]
-pub(crate) struct Walk<'a, C: CellRuns> {
+pub(crate) struct Walk<'a, C: CellRuns, const MOST: usize> {
     source: &'a C,
-    /// How many codes have their kinds told at most.
-    most: usize,
     /// The first code of the range.
     pub(crate) first: u32,
     pub(crate) run: CellRun,
@@ -28,32 +27,26 @@ pub(crate) struct Walk<'a, C: CellRuns> {
     pub(crate) quiet_first_bytes: [bool; 256],
     ghost rises: { (first ≤ run.last) × (run.last ≤ 0x10FFFF) },
     ghost same: { AreSame (C.cell_at source.now) first run.last run.cell },
-    ghost counted: { (length kinds.kinds.items ≤ run.last + 1) × (length kinds.kinds.items ≤ most) },
-    ghost complete: { length kinds.kinds.items < most → length kinds.kinds.items ≡ run.last + 1 },
+    ghost counted: { (length kinds.kinds.items ≤ run.last + 1) × (length kinds.kinds.items ≤ MOST) },
+    ghost complete: { length kinds.kinds.items < MOST → length kinds.kinds.items ≡ run.last + 1 },
     ghost of_cells: { (code : ℕ) → code < length kinds.kinds.items
         → kind_at kinds code ≡ kind_of (C.cell_at source.now code) },
     ghost quiet: { AreQuietTo (C.cell_at source.now) quiet_first_bytes (run.last + 1) },
 }
 
-impl<'a, C: CellRuns> Walk<'a, C> {
-    /// At the first range. The kinds of `most` codes are told.
-    pub(crate) fn begin(
-        alloc: Global,
-        source: &'a C,
-        most: usize,
-    ) -> Result<Walk<'a, C>, AllocError>
+impl<'a, C: CellRuns, const MOST: usize> Walk<'a, C, MOST> {
+    /// At the first range.
+    pub(crate) fn begin(alloc: Global, source: &'a C) -> Result<Walk<'a, C, MOST>, AllocError>
         ensures source { IfOk result (λ walk. walk.source.now ≡ source.now) }
-        ensures most { IfOk result (λ walk. walk.most ≡ most) }
         ensures first { IfOk result (λ walk. walk.first ≡ 0) }
     {
-        let mut kinds = KindTable::with_room(alloc, most)?;
+        let mut kinds = KindTable::with_room(alloc, MOST)?;
         let run = source.cell_run(0, Places::START);
-        kinds.fill_to(most.min(run.last as usize + 1), run.cell)?;
+        kinds.fill_to(MOST.min(run.last as usize + 1), run.cell)?;
         let mut quiet_first_bytes = [true; 256];
         leave_out_ends(&mut quiet_first_bytes, 0, &run);
         Ok(Walk {
             source,
-            most,
             first: 0,
             run,
             kinds,
@@ -62,7 +55,7 @@ impl<'a, C: CellRuns> Walk<'a, C> {
     }
 }
 
-impl<'a, C: CellRuns> CellWalk for Walk<'a, C> {
+impl<'a, C: CellRuns, const MOST: usize> CellWalk for Walk<'a, C, MOST> {
     ghost use Rattle.lbk_uax14.specs.declared.ranges.CellRange.{CellRange};
 
     ghost cell_at = { λ walk. C.cell_at walk.source.now };
@@ -82,12 +75,11 @@ impl<'a, C: CellRuns> CellWalk for Walk<'a, C> {
     fn go_on(&mut self) -> Result<(), AllocError>
         requires { self.old.run.last < 0x10FFFF }
         ensures source { self.new.source.now ≡ self.old.source.now }
-        ensures most { self.new.most ≡ self.old.most }
         ensures next { IfOk result (λ _. self.new.first ≡ self.old.run.last + 1) }
     {
         let first = self.run.last + 1;
         let run = self.source.cell_run(first, self.run.places);
-        let end = self.most.min(run.last as usize + 1);
+        let end = MOST.min(run.last as usize + 1);
         self.kinds.fill_to(end, run.cell)?;
         leave_out_ends(&mut self.quiet_first_bytes, first, &run);
         self.first = first;
