@@ -333,23 +333,20 @@ module _ {profile : Profile} {cell : ℕ → Cell} {text : List ℕ} {end : Verd
   pub lines-many : length (segments_of (ended end (marks profile cell (chars text)))) ≡ length (take a.told (drop (a.next - a.told) a.block))
   lines-many = sym (ap length h.cut) ∙ length-cut 0 (told_in a (length text)) ∙ found-told ∙ sym (slice-many a sizes)
 
--- after the call that filled a paragraph, or looked for one
-module _ (profile : Profile) (cell : ℕ → Cell) (p q : Paragraph) (old a : Ahead) where
-  pub IsAhead-kept : (r : Option Told) → Tells profile cell p old a r → IfSome r (λ told. GivesTold p q told)
-      → ((p.is_held || p.is_spent) ≡ true → q ≡ p) → IsAhead profile cell p.feed.ready old → IsAhead profile cell q.feed.ready a
-  IsAhead-kept None tells gives same was =
-      ⊎_elim (λ h. subst (λ k. IsAhead profile cell k.feed.ready a) (sym (same h.0)) (subst (IsAhead profile cell p.feed.ready) (sym h.1) was))
-      (λ h. h.1 q.feed.ready) tells
-  IsAhead-kept (Some told) tells gives same was = subst (λ l. IsAhead profile cell l a) (sym gives.ready) tells.1
-
-  pub KeepsTold-kept : (r : Option Told) → Tells profile cell p old a r → IfSome r (λ told. GivesTold p q told)
-      → ((p.is_held || p.is_spent) ≡ true → q ≡ p) → KeepsTold profile cell p old → KeepsTold profile cell q a
-  KeepsTold-kept None tells gives same was =
-      ⊎_elim (λ h. subst (λ k. KeepsTold profile cell k a) (sym (same h.0)) (subst (KeepsTold profile cell p) (sym h.1) was))
-      (λ h held some. absurd (omega (arith, some, h.2))) tells
-  KeepsTold-kept (Some told) tells gives same was = λ held some end is.
+-- what was found ahead is so still after the call that filled a paragraph, or looked for one
+pub ahead-kept : (profile : Profile) (cell : ℕ → Cell) (p q : Paragraph) (old a : Ahead) (r : Option Told)
+    → Tells profile cell p old a r → IfSome r (λ told. GivesTold p q told) → ((p.is_held || p.is_spent) ≡ true → q ≡ p)
+    → KeepsTold profile cell p old → IsAhead profile cell p.feed.ready old → KeepsTold profile cell q a × IsAhead profile cell q.feed.ready a
+ahead-kept profile cell p q old a None tells gives same told found =
+    let keeps = λ (k : Paragraph) (n : Ahead). KeepsTold profile cell k n × IsAhead profile cell k.feed.ready n in
+    ⊎_elim (λ h. subst (λ k. keeps k a) (sym (same h.0)) (subst (keeps p) (sym h.1) (told, found)))
+    (λ h. ((λ held some. absurd (omega (arith, some, h.2))), h.1 q.feed.ready)) tells
+ahead-kept profile cell p q old a (Some told) tells gives same was found = (
+  (λ held some end is.
       let end_is : told.end ≡ end = (let both : Some told.end ≡ Some end = sym gives.end ∙ is in cc) in
-      subst (λ l. HasTold profile cell l end a) (sym gives.text) (subst (λ v. HasTold profile cell (take told.len p.feed.ready) v a) end_is tells.2)
+      subst (λ l. HasTold profile cell l end a) (sym gives.text) (subst (λ v. HasTold profile cell (take told.len p.feed.ready) v a) end_is tells.2)),
+  subst (λ l. IsAhead profile cell l a) (sym gives.ready) tells.1,
+)
 
 -- nothing was found yet
 pub HasAhead-nothing : (block : List RawBreak) → length block ≡ 256 → HasAhead (record { block = block; next = 0; left = 0; told = 0; base = 0 }) []

@@ -1,4 +1,4 @@
-use Rattle.std.proofs.Common.{◌≡◌, ℕ, ◌*◌, ◌<◌, not, List, length, chars, Ok, Err, string_bytes, vec_capacity, inl, inr, refl, sym, ap, subst, ◌∙◌, arith}
+use Rattle.std.proofs.Common.{◌≡◌, true, ℕ, ◌*◌, ◌<◌, not, List, length, chars, Ok, Err, string_bytes, vec_capacity, inl, inr, refl, sym, ap, subst, ◌∙◌, arith}
 use Rattle.std.proofs.Math.Nat.{le-max_left}
 use Rattle.std.proofs.lemmas.Result.{err_from_is_err_and}
 use Rattle.lbk_passage.specs.Marks.{marks, ended}
@@ -9,11 +9,27 @@ use Rattle.lbk_passage.specs.Next.{failures_with, fault_in}
 use Rattle.lbk_passage.specs.Shown.{found_by}
 use Rattle.lbk_passage.specs.State.{state_with}
 use Rattle.lbk_passage.specs.Gathering.{IsFirst}
+use Rattle.lbk_passage.specs.Stays.{IsWhole}
 use Rattle.lbk_passage.proofs.Giving.{After-fault, After-lent, After-memory, After-none, Goes-fault, Goes-lent, Goes-none, Goes-some, Keeps-same, lacks_room, most_of, never_memory, no_fault, on_err, on_ok}
-use Rattle.lbk_passage.specs.Ahead.{HasTold, IsAhead}
-use Rattle.lbk_passage.proofs.AheadLemmas.{IsAhead-kept, KeepsTold-kept}
+use Rattle.lbk_passage.specs.Ahead.{HasTold, IsAhead, KeepsTold}
+use Rattle.lbk_passage.proofs.AheadLemmas.{ahead-kept}
 use Rattle.lbk_passage.proofs.Taking.{string_len-is}
+use Rattle.lbk_passage.proofs.segmenter.Segmenter.next.Given.{Over}
 use Rattle.lbk_passage.proofs.segmenter.Segmenter.next.Goals as goal
+use Rattle.lbk_passage.proofs.segmenter.Segmenter.next.Goals.{After-fill}
+
+-- what a segmenter keeps once its paragraph is filled
+filled : (g : Over) (c : After-fill g)
+    → record {
+      told : KeepsTold c.args.self.now.profile (g.C.CellSource.cell_of c.args.self.now.known.cells.now) c.fill.new.self c.tell-told.new.self;
+      found : IsAhead c.args.self.now.profile (g.C.CellSource.cell_of c.args.self.now.known.cells.now) c.fill.new.self.feed.ready c.tell-told.new.self;
+      whole : c.fill.new.self.is_held ≡ true → IsWhole (g.C.CellSource.cell_of c.args.self.now.known.cells.now) c.fill.new.self;
+    }
+filled g c =
+    let s = c.args.self.now in
+    let kept = ahead-kept s.profile (g.C.CellSource.cell_of s.known.cells.now) s.paragraph c.fill.new.self s.ahead c.tell-told.new.self c.tell-told.result
+    c.tell-told.ensures c.fill.ensures.told c.fill.ensures.in_hand s.told s.found in
+    record { told = kept.0; found = kept.1; whole = c.fill.ensures.whole }
 
 pub returns-in_err-end : goal.returns-in_err-end
 returns-in_err-end g c =
@@ -173,46 +189,18 @@ pub cut_lines-requires-clause-told : goal.cut_lines-requires-clause-told
 cut_lines-requires-clause-told g c = λ some.
     let s = c.args.self.now in
     let cell = g.C.CellSource.cell_of s.known.cells.now in
-    let kept = KeepsTold-kept s.profile cell s.paragraph c.fill.new.self s.ahead c.tell-told.new.self c.tell-told.result c.tell-told.ensures c.fill.ensures.told
-    c.fill.ensures.in_hand s.told in
+    let kept = (filled g (goal.at.cut_lines-requires-clause-told g c).After-fill).told in
     subst (λ l. HasTold s.profile cell l c.in-Some.end c.tell-told.new.self) (sym c.text-text.ensures.text)
     (kept c.in_ok-end.ensures.held some c.in-Some.end (sym c.in_ok-end.ensures.end ∙ c.in-Some.is))
 
 pub invariant_of-self : goal.invariant_of-self
-invariant_of-self g c =
-    let s = c.args.self.now in
-    let cell = g.C.CellSource.cell_of s.known.cells.now in
-    record {
-      told = KeepsTold-kept s.profile cell s.paragraph c.fill.new.self s.ahead c.tell-told.new.self c.tell-told.result c.tell-told.ensures c.fill.ensures.told
-          c.fill.ensures.in_hand s.told;
-      found = IsAhead-kept s.profile cell s.paragraph c.fill.new.self s.ahead c.tell-told.new.self c.tell-told.result c.tell-told.ensures c.fill.ensures.told
-          c.fill.ensures.in_hand s.found;
-      whole = c.fill.ensures.whole;
-    }
+invariant_of-self g c = filled g (goal.at.invariant_of-self g c).After-fill
 
 pub invariant_of-self-then-is_err : goal.invariant_of-self-then-is_err
-invariant_of-self-then-is_err g c =
-    let s = c.args.self.now in
-    let cell = g.C.CellSource.cell_of s.known.cells.now in
-    record {
-      told = KeepsTold-kept s.profile cell s.paragraph c.fill.new.self s.ahead c.tell-told.new.self c.tell-told.result c.tell-told.ensures c.fill.ensures.told
-          c.fill.ensures.in_hand s.told;
-      found = IsAhead-kept s.profile cell s.paragraph c.fill.new.self s.ahead c.tell-told.new.self c.tell-told.result c.tell-told.ensures c.fill.ensures.told
-          c.fill.ensures.in_hand s.found;
-      whole = c.fill.ensures.whole;
-    }
+invariant_of-self-then-is_err g c = filled g (goal.at.invariant_of-self-then-is_err g c).After-fill
 
 pub invariant_of-self-then-is_err-2 : goal.invariant_of-self-then-is_err-2
-invariant_of-self-then-is_err-2 g c =
-    let s = c.args.self.now in
-    let cell = g.C.CellSource.cell_of s.known.cells.now in
-    record {
-      told = KeepsTold-kept s.profile cell s.paragraph c.fill.new.self s.ahead c.tell-told.new.self c.tell-told.result c.tell-told.ensures c.fill.ensures.told
-          c.fill.ensures.in_hand s.told;
-      found = IsAhead-kept s.profile cell s.paragraph c.fill.new.self s.ahead c.tell-told.new.self c.tell-told.result c.tell-told.ensures c.fill.ensures.told
-          c.fill.ensures.in_hand s.found;
-      whole = c.fill.ensures.whole;
-    }
+invariant_of-self-then-is_err-2 g c = filled g (goal.at.invariant_of-self-then-is_err-2 g c).After-fill
 
 pub invariant_of-self-2 : goal.invariant_of-self-2
 invariant_of-self-2 g c =
@@ -221,7 +209,6 @@ invariant_of-self-2 g c =
     record {
       told = λ held. absurd (let no = sym c.release.ensures.held ∙ held in cc);
       found = subst (λ f. IsAhead s.profile cell f.ready c.tell-told.new.self) (sym c.release.ensures.feed)
-          (IsAhead-kept s.profile cell s.paragraph c.fill.new.self s.ahead c.tell-told.new.self c.tell-told.result c.tell-told.ensures c.fill.ensures.told
-          c.fill.ensures.in_hand s.found);
+          (filled g (goal.at.invariant_of-self-2 g c).After-fill).found;
       whole = λ held. absurd (let no = sym c.release.ensures.held ∙ held in cc);
     }
