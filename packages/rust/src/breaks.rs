@@ -10,16 +10,17 @@ use crate::found::{ByBreaks, ByPositions, Found};
 use crate::table::Table;
 
 /// The rules for quotation marks.
-#[derive(Clone, Copy, PartialEq, Eq, Debug)]
+#[derive(Clone, Copy, PartialEq, Eq, Hash, Default, Debug)]
 pub enum Profile {
     /// Rule 15 of Unicode 15.0.
+    #[default]
     First = 0,
     /// Rules 15a and 15b instead, which look at both sides of a quotation mark.
     Second = 1,
 }
 
-/// Whether a line may or must end at a break.
-#[derive(Clone, Copy, PartialEq, Eq, Debug)]
+/// Whether a line may or must end at a break; `May` is the lesser.
+#[derive(Clone, Copy, PartialEq, Eq, PartialOrd, Ord, Hash, Debug)]
 pub enum Kind {
     May,
     Must,
@@ -89,7 +90,7 @@ impl Table {
 }
 
 /// An offset in a text where a line may or must end.
-#[derive(Clone, Copy, PartialEq, Eq, Debug)]
+#[derive(Clone, Copy, PartialEq, Eq, PartialOrd, Ord, Hash, Debug)]
 pub struct Break {
     /// The offset of the byte after it, or the text's length.
     pub at: usize,
@@ -155,7 +156,7 @@ impl fmt::Debug for Breaks<'_> {
 }
 
 /// A position in a text: before one of its scalars, or at its end.
-#[derive(Clone, Copy, PartialEq, Eq, Debug)]
+#[derive(Clone, Copy, PartialEq, Eq, PartialOrd, Ord, Hash, Debug)]
 pub struct Position {
     /// The offset of the byte after it, or the text's length.
     pub at: usize,
@@ -212,7 +213,7 @@ impl fmt::Debug for Positions<'_> {
 }
 
 /// A part of a text between two breaks.
-#[derive(Clone, Copy, PartialEq, Eq, Debug)]
+#[derive(Clone, Copy, PartialEq, Eq, PartialOrd, Ord, Hash, Debug)]
 pub struct Segment<'a> {
     /// Its offset in the text, in bytes.
     pub start: usize,

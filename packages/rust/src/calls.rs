@@ -166,7 +166,7 @@ pub fn shown(text: &[u8]) -> &str {
 }
 
 #[repr(C)]
-#[derive(Clone, Copy, PartialEq, Eq, Debug)]
+#[derive(Clone, Copy, PartialEq, Eq)]
 pub struct Text {
     pub text: [u8; 96],
 }

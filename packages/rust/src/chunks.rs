@@ -1,5 +1,11 @@
 //! Chunks of a text, for search and retrieval.
 
+use alloc::borrow::Cow;
+use alloc::boxed::Box;
+use alloc::rc::Rc;
+use alloc::string::String;
+use alloc::sync::Arc;
+use alloc::vec::Vec;
 use core::fmt;
 use core::iter::FusedIterator;
 use core::mem::MaybeUninit;
@@ -87,11 +93,7 @@ impl fmt::Display for LimitError {
         match self {
             LimitError::Most => f.write_str("most must be 1 or more, not 0"),
             LimitError::Least { most, least } => {
-                write!(
-                    f,
-                    "least must be from 0 to most ({}), not {}",
-                    most, least
-                )
+                write!(f, "least must be from 0 to most ({}), not {}", most, least)
             }
             LimitError::Overlap { most, overlap } => write!(
                 f,
@@ -142,8 +144,50 @@ impl ChunkText for str {}
 
 impl ChunkText for [u8] {}
 
+/// What holds a text to cut into chunks, such as a `String` or a `Vec<u8>`, or is one.
+pub trait AsChunkText {
+    /// `str`, or `[u8]`.
+    type Text: ChunkText + ?Sized;
+
+    fn as_chunk_text(&self) -> &Self::Text;
+}
+
+impl<T: ChunkText + ?Sized> AsChunkText for T {
+    type Text = T;
+
+    #[inline]
+    fn as_chunk_text(&self) -> &T {
+        self
+    }
+}
+
+impl<const SIZE: usize> AsChunkText for [u8; SIZE] {
+    type Text = [u8];
+
+    #[inline]
+    fn as_chunk_text(&self) -> &[u8] {
+        self
+    }
+}
+
+macro_rules! holders {
+    ($text:ty: $($holder:ty),*) => {
+        $(impl AsChunkText for $holder {
+            type Text = $text;
+
+            #[inline]
+            fn as_chunk_text(&self) -> &$text {
+                self
+            }
+        })*
+    };
+}
+
+holders!(str: String, &str, Box<str>, Rc<str>, Arc<str>, Cow<'_, str>);
+holders!([u8]: Vec<u8>, &[u8], Box<[u8]>, Rc<[u8]>, Arc<[u8]>, Cow<'_, [u8]>);
+
 /// A part of a text that ends at a break outside words.
-#[derive(Clone, Copy, PartialEq, Eq, Debug)]
+#[derive(Clone, Copy, PartialEq, Eq, PartialOrd, Ord, Hash, Debug)]
 pub struct Chunk<T> {
     /// Its offset in the text, in bytes.
     pub start: usize,
@@ -185,24 +229,24 @@ impl Table {
     /// # Ok(())
     /// # }
     /// ```
-    pub fn chunks<'a, T: ChunkText + ?Sized>(
+    pub fn chunks<'a, T: AsChunkText + ?Sized>(
         &'a self,
         text: &'a T,
         limits: Limits,
-    ) -> Result<Chunks<'a, T>, LimitError> {
+    ) -> Result<Chunks<'a, T::Text>, LimitError> {
         self.chunks_in(Profile::First, text, limits)
     }
 
     /// The same in any profile.
-    pub fn chunks_in<'a, T: ChunkText + ?Sized>(
+    pub fn chunks_in<'a, T: AsChunkText + ?Sized>(
         &'a self,
         profile: Profile,
         text: &'a T,
         limits: Limits,
-    ) -> Result<Chunks<'a, T>, LimitError> {
+    ) -> Result<Chunks<'a, T::Text>, LimitError> {
         Ok(Chunks {
             table: self,
-            text,
+            text: text.as_chunk_text(),
             limits: limits.checked()?,
             state: calls::ChunkState::new(profile as u8),
             next: ROOM,

@@ -7,7 +7,7 @@ use crate::fault::File;
 
 /// Describes a file that is not the one that Unicode 15.0.0 published under its name, for example "this is Unicode
 /// 14.0.0, and lbk needs 15.0.0".
-#[derive(Clone, Copy, PartialEq, Eq, Debug)]
+#[derive(Clone, Copy, PartialEq, Eq)]
 pub struct Claim {
     file: File,
     text: calls::Text,
@@ -29,5 +29,12 @@ impl Claim {
 impl fmt::Display for Claim {
     fn fmt(&self, f: &mut fmt::Formatter<'_>) -> fmt::Result {
         f.write_str(calls::shown(&self.text.text))
+    }
+}
+
+/// As it is displayed, which is what a failing `main` prints.
+impl fmt::Debug for Claim {
+    fn fmt(&self, f: &mut fmt::Formatter<'_>) -> fmt::Result {
+        fmt::Display::fmt(self, f)
     }
 }

@@ -64,7 +64,6 @@ fn first_found(folders: Vec<PathBuf>) -> Result<Box<Table>, NotFound> {
 }
 
 /// No folder has the files: says what to do, and why each folder was refused.
-#[derive(Debug)]
 pub struct NotFound {
     refusals: Vec<LoadError>,
 }
@@ -86,6 +85,13 @@ impl fmt::Display for NotFound {
         self.refusals
             .iter()
             .try_for_each(|one| write!(f, "\n  {one:#}"))
+    }
+}
+
+/// As it is displayed, which is what a failing `main` prints.
+impl fmt::Debug for NotFound {
+    fn fmt(&self, f: &mut fmt::Formatter<'_>) -> fmt::Result {
+        fmt::Display::fmt(self, f)
     }
 }
 

@@ -48,7 +48,7 @@ mod words;
 pub use breaks::{
     Break, Breaks, Class, Kind, Position, Positions, Profile, Rule, Segment, Segments,
 };
-pub use chunks::{Chunk, ChunkText, Chunks, LimitError, Limits};
+pub use chunks::{AsChunkText, Chunk, ChunkText, Chunks, LimitError, Limits};
 #[cfg(feature = "std")]
 pub use claim::Claim;
 pub use fault::{Cause, Fault, File, NotPacked};

@@ -67,7 +67,6 @@ fn read(folder: &Path, below: &str, name: &str) -> Result<(PathBuf, Vec<u8>), Lo
 }
 
 /// Why there is no table of a folder.
-#[derive(Debug)]
 pub enum LoadError {
     /// This file cannot be read.
     Unreadable(PathBuf, io::Error),
@@ -96,6 +95,13 @@ impl fmt::Display for LoadError {
             }
             LoadError::Refused(folder, fault) => write!(f, "{}: {}", folder.display(), fault),
         }
+    }
+}
+
+/// As it is displayed, which is what a failing `main` prints.
+impl fmt::Debug for LoadError {
+    fn fmt(&self, f: &mut fmt::Formatter<'_>) -> fmt::Result {
+        fmt::Display::fmt(self, f)
     }
 }
 

@@ -1,6 +1,9 @@
 //! The crate over small files of its own.
 
-use lbk::{Break, Cause, Fault, File, Files, Kind, LoadError, NotPacked, Profile, Segment, Table};
+use lbk::{
+    Break, Cause, Fault, File, Files, Kind, Limits, LoadError, NotPacked, Profile, Segment, Table,
+};
+use std::collections::{BTreeSet, HashMap, HashSet};
 use std::{env, fs, thread};
 
 const FILES: Files = Files {
@@ -35,6 +38,36 @@ fn breaks_of_a_text() {
         ["3 May 18", "6 Must 5", "9 May 31", "10 Must 3"]
     );
     assert_eq!(table().breaks("").count(), 0);
+}
+
+#[test]
+fn what_is_found_can_be_sorted_and_counted() {
+    let table = table();
+    let mut breaks: Vec<_> = table.breaks("ab cd\n一e").collect();
+    let all: HashSet<_> = breaks
+        .iter()
+        .copied()
+        .chain(table.breaks("ab cd"))
+        .collect();
+    assert_eq!(all.len(), 5);
+    breaks.reverse();
+    breaks.sort();
+    assert_eq!(shown(breaks.into_iter()), shown(table.breaks("ab cd\n一e")));
+    assert!(Kind::May < Kind::Must);
+    assert!(table.positions("ab").max() > table.positions("a").max());
+    let segments: BTreeSet<_> = table
+        .segments("a a a")
+        .chain(table.segments("a "))
+        .collect();
+    assert_eq!(segments.len(), 4);
+    let kinds: HashMap<Kind, usize> = table.breaks("a b").map(|it| (it.kind, it.at)).collect();
+    assert_eq!((kinds[&Kind::May], kinds[&Kind::Must]), (2, 3));
+    let chunks = table
+        .chunks("a b", Limits::new(2))
+        .expect("the limits are in range");
+    assert_eq!(chunks.collect::<HashSet<_>>().len(), 2);
+    let profiles = HashSet::from([Profile::default(), Profile::First]);
+    assert_eq!(profiles.len(), 1);
 }
 
 #[test]
@@ -262,6 +295,11 @@ fn a_folder_has_the_published_files() {
             .ends_with("https://www.unicode.org/Public/15.0.0/ucd/UCD.zip"));
     }
     put("LineBreak.txt", FILES.line_break);
+    assert_eq!(format!("{missing:?}"), missing.to_string());
+    assert_eq!(format!("{refused:?}"), refused.to_string());
+    if let LoadError::NotPublished(_, claim) = refused {
+        assert_eq!(format!("{claim:?}"), claim.to_string());
+    }
     fs::remove_dir_all(&folder).expect("the folder is removed");
 }
 

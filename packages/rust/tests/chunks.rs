@@ -1,6 +1,8 @@
 //! Chunks, compared with a literal form of their definition.
 
-use lbk::{Files, Kind, LimitError, Limits, Profile, Table};
+use lbk::{Chunk, ChunkText, Chunks, Files, Kind, LimitError, Limits, Profile, Table};
+use std::borrow::Cow;
+use std::sync::Arc;
 
 const FILES: Files = Files {
     line_break: b"000A;LF\n000D;CR\n0020;SP\n0061..007A;AL\n002E;IS\n00E9;AL\n30A0..30FF;ID\n4E00;ID\nFFFD;ID\n",
@@ -179,6 +181,54 @@ fn chunks_of_a_str() {
             .expect("the limits are in range")
             .count(),
         0
+    );
+}
+
+#[test]
+fn a_text_is_cut_in_what_holds_it() {
+    let table = table();
+    let limits = Limits::new(5);
+    let [string, boxed] = ["ab cd ef", "ab cd ef"].map(String::from);
+    let (shared, boxed) = (Arc::<str>::from("ab cd ef"), boxed.into_boxed_str());
+    let lent = Cow::Borrowed("ab cd ef");
+    let in_strs = |chunks: Result<Chunks<'_>, LimitError>| -> Vec<String> {
+        let chunks = chunks.expect("the limits are in range");
+        chunks.map(|it| it.text.to_string()).collect()
+    };
+    for found in [
+        table.chunks(&string, limits),
+        table.chunks(&string.as_str(), limits),
+        table.chunks(&boxed, limits),
+        table.chunks(&shared, limits),
+        table.chunks(&lent, limits),
+        table.chunks::<str>(&string, limits),
+    ] {
+        assert_eq!(in_strs(found), ["ab ", "cd ef"]);
+    }
+    let bytes = string.into_bytes();
+    for found in [
+        table.chunks(&bytes, limits),
+        table.chunks(b"ab cd ef", limits),
+        table.chunks(&bytes.as_slice(), limits),
+    ] {
+        let found = found.expect("the limits are in range");
+        assert_eq!(found.map(|it| it.start).collect::<Vec<_>>(), [0, 3]);
+    }
+}
+
+/// A function of a user over any text, as the types let one be written.
+fn first_of<'a, T: ChunkText + ?Sized>(table: &'a Table, text: &'a T) -> Option<Chunk<&'a T>> {
+    let mut chunks: Chunks<'a, T> = table.chunks(text, Limits::new(3)).ok()?;
+    chunks.next()
+}
+
+#[test]
+fn chunks_of_any_text() {
+    let table = table();
+    assert_eq!(first_of(&table, "ab c").map(|it| it.text), Some("ab "));
+    assert_eq!(
+        first_of(&table, &b"ab"[..]).map(|it| it.text.len()),
+        Some(2)
     );
 }
 

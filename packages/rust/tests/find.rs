@@ -20,7 +20,10 @@ fn finds() {
             "found {}",
             ptr::eq(table, lbk::Table::find().expect("it was found before"))
         ),
-        Err(error) => println!("refused {error}"),
+        Err(error) => {
+            assert_eq!(format!("{error:?}"), error.to_string());
+            println!("refused {error}");
+        }
     }
 }
 
