@@ -284,9 +284,18 @@ try_cpp() {
         done
     done
     for temporary in 'lbk::breaks(lbk::table::load("/"), "a b")' 'lbk::breaks(std::move(table), "a b")' \
-        'lbk::breaks(lbk_table(), "a b")' 'lbk::breaks(table, std::string("a b"))'; do
+        'lbk::breaks(lbk_table(), "a b")' 'lbk::breaks(table, std::string("a b"))' \
+        'lbk::breaks(table, static_cast<const std::string>("a b"))' \
+        'lbk::segments(table, static_cast<const std::string>("a b"))' \
+        'lbk::words(static_cast<const std::string>("a b"))' \
+        'lbk::passages(table, static_cast<const std::string>("a b"))' \
+        'lbk::chunks(table, static_cast<const std::string>("a b"))' \
+        'lbk::breaks_utf16(table, static_cast<const std::u16string>(u"a b"))'; do
         refuses "$1" "$temporary"
     done
+    "$1" -std=c++14 "${flags[@]}" -fsyntax-only "$top/examples/breaks.cpp" > "$here/log" 2>&1
+    report "$1: lbk.hpp in C++14 says what it needs" \
+        "$(grep -q 'error: .*"lbk.hpp needs C++17"' "$here/log" && echo yes || head -n 1 "$here/log")"
 }
 
 # The compilers, each once, under whatever names.
@@ -386,6 +395,16 @@ if has cmake; then
     for way in lbk static; do
         compare "CMake: breaks.c with lbk::$way" env -u LD_LIBRARY_PATH "$here/cmake/built/breaks-$way"
     done
+    if has c++; then
+        mkdir "$here/cmake-cpp"
+        printf '%s\n' 'cmake_minimum_required(VERSION 3.10)' 'project(tried C CXX)' 'set(CMAKE_CXX_STANDARD 14)' \
+            'find_package(lbk 0.1 REQUIRED)' "add_executable(breaks \"$top/examples/breaks.cpp\")" \
+            'target_link_libraries(breaks lbk::lbk)' > "$here/cmake-cpp/CMakeLists.txt"
+        tried 'CMake: find_package in C++14' env -u LD_LIBRARY_PATH cmake -S "$here/cmake-cpp" \
+            -B "$here/cmake-cpp/built" -DCMAKE_PREFIX_PATH="$prefix" \
+            && tried 'CMake: build in C++17' cmake --build "$here/cmake-cpp/built"
+        compare 'CMake: breaks.cpp with lbk::lbk' env -u LD_LIBRARY_PATH "$here/cmake-cpp/built/breaks"
+    fi
 else
     left_out 'cmake is not there'
 fi

@@ -413,6 +413,16 @@ static void try_exceptions(const lbk::table &table, const std::string &folder)
         report("no folder is thrown", thrown.error().why == lbk::error::reason::unreadable
                                         && thrown.what() == folder + "/none/" + thrown.error().message());
     }
+    for (const std::string &name : {folder + "/none", folder + "/short"}) {
+        try {
+            lbk::table::map(name);
+            report("what is no table is thrown", false);
+        } catch (const lbk::table_error &thrown) {
+            const bool is_there = thrown.error().why == lbk::error::reason::not_a_table;
+            report("what is no table is thrown with its name", thrown.what() == name
+                + (is_there ? ": not an intact table of version " LBK_VERSION : ": No such file or directory"));
+        }
+    }
 }
 #else
 static void try_exceptions(const lbk::table &, const std::string &) {}

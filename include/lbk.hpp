@@ -5,10 +5,17 @@
 //     for (lbk_break found : lbk::breaks(table, text))
 //         .. found.at, found.kind, found.rule ..
 //
+// A kind and a rule are numbers of 8 bits, which std::cout takes for characters: write +found.kind (1 may, 2 must) and
+// lbk::label(found.rule).
+//
 // A range refers to its table and its text, as a std::string_view does, and copies neither: both have to outlive it. So
 // a temporary table or std::string does not compile.
 #ifndef LBK_HPP
 #define LBK_HPP
+
+#if (defined(_MSVC_LANG) ? _MSVC_LANG : __cplusplus) < 201703L
+#error "lbk.hpp needs C++17"
+#endif
 
 #include <cerrno>
 #include <cstddef>
@@ -69,11 +76,11 @@ struct error {
 
     explicit operator bool() const noexcept { return why != reason::none; }
 
-    /// What went wrong, in English.
-    std::string message() const
+    /// What went wrong, in English. `table` is the name of the file of a saved table, if that is what was read.
+    std::string message(const std::string &table = {}) const
     {
-        std::string file = fault.file == LBK_NO_FILE && why == reason::unreadable ? "table"
-            : lbk_file_name(fault.file).text;
+        std::string file = fault.file != LBK_NO_FILE || why != reason::unreadable ? lbk_file_name(fault.file).text
+            : table.empty() ? "table" : table;
         switch (why) {
         case reason::none:
             return "no error";
@@ -86,7 +93,7 @@ struct error {
         case reason::unreadable:
             return file + ": " + std::generic_category().message(system);
         case reason::not_a_table:
-            return "not an intact table of version " LBK_VERSION;
+            return (table.empty() ? table : table + ": ") + "not an intact table of version " LBK_VERSION;
         case reason::out_of_memory:
             return "out of memory";
         }
@@ -106,7 +113,12 @@ public:
     const lbk::error &error() const noexcept { return why_; }
 
 private:
+    friend class table;
+
     lbk::error why_;
+
+    /// The text is the error's message of the table with this name.
+    table_error(const std::string &table, const lbk::error &why) : std::runtime_error(why.message(table)), why_(why) {}
 };
 
 namespace detail {
@@ -364,7 +376,7 @@ public:
     static table map(const std::string &name)
     {
         error why;
-        return or_throw(try_map(name, why), why);
+        return or_throw(try_map(name, why), why, name);
     }
 #endif
 
@@ -424,18 +436,28 @@ private:
     }
 
 #if defined(__cpp_exceptions)
-    static table or_throw(std::optional<table> made, const error &why)
+    static table or_throw(std::optional<table> made, const error &why, const std::string &name = {})
     {
         if (made)
             return std::move(*made);
         if (why.why == error::reason::out_of_memory)
             throw std::bad_alloc();
-        throw table_error(why);
+        throw table_error(name, why);
     }
 #endif
 };
 
 namespace detail {
+
+/// Whether a type is a string that owns its units.
+template <typename Text>
+struct is_string : std::false_type {};
+template <typename Unit, typename Allocator>
+struct is_string<std::basic_string<Unit, std::char_traits<Unit>, Allocator>> : std::true_type {};
+
+/// For the parameter `Text &&` of a deleted function, which refuses temporary strings.
+template <typename Text>
+using if_temporary = std::enable_if_t<is_string<std::remove_const_t<Text>>::value>;
 
 /// An iterator over the results of a library call, which it fetches a block at a time. Copies are independent. It holds
 /// a block in the packed form of `Call`, and returns results by value. If not all of a block can be packed, it holds
@@ -610,7 +632,7 @@ public:
     /// A temporary would be destroyed before the range is used.
     break_view(const lbk_table &&, std::string_view, profile = profile::first, follows = follows::nothing) = delete;
     break_view(const table &&, std::string_view, profile = profile::first, follows = follows::nothing) = delete;
-    template <typename Text, typename = std::enable_if_t<std::is_same_v<Text, std::string>>>
+    template <typename Text, typename = if_temporary<Text>>
     break_view(const lbk_table &, Text &&, profile = profile::first, follows = follows::nothing) = delete;
 
     iterator begin() const noexcept { return iterator(start_); }
@@ -693,7 +715,7 @@ public:
     /// A temporary would be destroyed before the range is used.
     segments(const lbk_table &&, std::string_view, profile = profile::first) = delete;
     segments(const table &&, std::string_view, profile = profile::first) = delete;
-    template <typename Text, typename = std::enable_if_t<std::is_same_v<Text, std::string>>>
+    template <typename Text, typename = detail::if_temporary<Text>>
     segments(const lbk_table &, Text &&, profile = profile::first) = delete;
 
     iterator begin() const noexcept { return iterator(text_, breaks_.begin()); }
@@ -773,7 +795,7 @@ public:
     explicit words(std::string_view text) noexcept : start_{text.data(), text.size(), {0}} {}
 
     /// A temporary would be destroyed before the range is used.
-    template <typename Text, typename = std::enable_if_t<std::is_same_v<Text, std::string>>>
+    template <typename Text, typename = detail::if_temporary<Text>>
     explicit words(Text &&) = delete;
 
     iterator begin() const noexcept { return iterator(start_); }
@@ -869,7 +891,7 @@ public:
     /// A temporary would be destroyed before the range is used.
     passages(const lbk_table &&, std::string_view, profile = profile::first) = delete;
     passages(const table &&, std::string_view, profile = profile::first) = delete;
-    template <typename Text, typename = std::enable_if_t<std::is_same_v<Text, std::string>>>
+    template <typename Text, typename = detail::if_temporary<Text>>
     passages(const lbk_table &, Text &&, profile = profile::first) = delete;
 
     iterator begin() const noexcept { return iterator(text_, segments_.begin()); }
@@ -959,7 +981,7 @@ public:
     /// A temporary would be destroyed before the range is used.
     chunks(const lbk_table &&, std::string_view, const limits & = {}, profile = profile::first) = delete;
     chunks(const table &&, std::string_view, const limits & = {}, profile = profile::first) = delete;
-    template <typename Text, typename = std::enable_if_t<std::is_same_v<Text, std::string>>>
+    template <typename Text, typename = detail::if_temporary<Text>>
     chunks(const lbk_table &, Text &&, const limits & = {}, profile = profile::first) = delete;
 
     iterator begin() const noexcept { return iterator(start_); }
@@ -1088,7 +1110,7 @@ public:
     /// A temporary would be destroyed before the range is used.
     unit_view(const lbk_table &&, std::basic_string_view<Unit>, profile = profile::first) = delete;
     unit_view(const table &&, std::basic_string_view<Unit>, profile = profile::first) = delete;
-    template <typename Text, typename = std::enable_if_t<std::is_same_v<Text, std::basic_string<Unit>>>>
+    template <typename Text, typename = if_temporary<Text>>
     unit_view(const lbk_table &, Text &&, profile = profile::first) = delete;
 
     iterator begin() const noexcept { return iterator(start_); }
