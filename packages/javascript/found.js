@@ -1,5 +1,6 @@
 // The property files in a local folder, in Node, and the folders that may have them.
 import { existsSync, readFileSync, statSync } from "node:fs";
+import { readFile } from "node:fs/promises";
 import { homedir } from "node:os";
 import { isAbsolute, join, resolve } from "node:path";
 import { fileURLToPath } from "node:url";
@@ -88,12 +89,28 @@ function rootOf(path) {
   return new Folder(path);
 }
 
+/** The path that a string or a URL names, if it is a local one. A string with a scheme, as "https://", is a URL. */
+function pathOf(source) {
+  if (source instanceof URL || /^[a-z][a-z\d+.-]+:\/\//i.test(source)) {
+    return new URL(source).protocol === "file:" ? fileURLToPath(source) : undefined;
+  }
+  return typeof source === "string" ? source : undefined;
+}
+
+/** The bytes of a local file. Returns nothing for another source. */
+export function bytesAt(source) {
+  const path = pathOf(source);
+  return path === undefined ? undefined : readFile(path);
+}
+
 /**
- * The contents of the four files in a folder, in its folder `ucd`, in its archive UCD.zip, or in such an archive: in
- * Unicode's layout, or side by side.
+ * The contents of the four files in a local folder, in its folder `ucd`, in its archive UCD.zip, or in such an archive:
+ * in Unicode's layout, or side by side. Returns nothing for another URL.
  */
 export function contents(folder) {
-  const root = rootOf(folder instanceof URL ? fileURLToPath(folder) : folder);
+  const path = pathOf(folder);
+  if (path === undefined) return undefined;
+  const root = rootOf(path);
   const below = root.has(FILES[0]) || !root.has(`ucd/${FILES[0]}`) ? "" : "ucd/";
   return FILES.map((name) => {
     const flat = name.replace(/.*\//, "");

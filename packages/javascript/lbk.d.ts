@@ -44,11 +44,13 @@ export interface Options {
 /** Text: a string (lone surrogates are read as U+FFFD), or UTF-8 bytes, ill-formed or not. */
 export type Text = string | Uint8Array;
 
-/** Bytes, or where to get them. A `string` is the URL or, in Node, the path of a file. */
+/** Bytes, or where to get them. A `string` is a URL; in Node one without a scheme such as `https://` is a path. */
 export type Source = ArrayBuffer | ArrayBufferView | Response | URL | string;
 
 /** A table made from the files of the Unicode Character Database, with the module that uses it. */
 export class Table {
+  private constructor();
+
   /**
    * A table that the library saved or packed in any language, compressed by gzip or not. The module checks its digest.
    * @param saved The bytes of the table, or where they are.

@@ -7,7 +7,7 @@
 // lbk.wasm does the work. It is proved, and has no imports. This file is tested, not proved: it copies text into the
 // module's memory and positions out of it, and converts the offsets of strings to UTF-16 code units.
 import { ColumnsBuilder, Machine, ROOM, goOn } from "./machine.js";
-import { UnitCounter, bytesOf, checkText, guarded, isLocal, unzipped } from "./module_memory.js";
+import { UnitCounter, bytesOf, checkText, guarded, isNode, unzipped } from "./module_memory.js";
 
 const RULE_NUMBERS = 256;
 export const KINDS = ["no", "may", "must"];
@@ -55,7 +55,7 @@ export class Table {
   }
 
   static async #firstFound() {
-    if (!isLocal("")) throw new Error("a browser has no folder of property files: use Table.fromFiles or Table.fromBytes");
+    if (!isNode) throw new Error("a browser has no folder of property files: use Table.fromFiles or Table.fromBytes");
     const { folders, notFound } = await import("./found.js");
     const refusals = [];
     for (const folder of folders()) {
@@ -73,8 +73,8 @@ export class Table {
     if (typeof files !== "string" && !(files instanceof URL)) {
       throw new TypeError("pass the path or URL of a folder, or an array of the four files");
     }
-    if (isLocal(files)) return (await import("./found.js")).contents(files);
-    return (await import("./property_files.js")).FILES.map((name) => inFolder(files, name));
+    const local = isNode && (await import("./found.js")).contents(files);
+    return local || (await import("./property_files.js")).FILES.map((name) => inFolder(files, name));
   }
 
   static async fromFiles(files, module) {

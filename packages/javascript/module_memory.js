@@ -1,11 +1,6 @@
 // What the modules share: sources of bytes, their memory, and the offsets of strings.
 
-const isNode = typeof process === "object" && process.versions?.node !== undefined;
-
-/** Whether a source, a string or a URL, is a local path, which Node reads. */
-export function isLocal(source) {
-  return isNode && (typeof source === "string" || source.protocol === "file:");
-}
+export const isNode = typeof process === "object" && process.versions?.node !== undefined;
 
 /** The bytes of a `Source` (lbk.d.ts). */
 export async function bytesOf(source) {
@@ -16,10 +11,8 @@ export async function bytesOf(source) {
   if (!(source instanceof Response || source instanceof URL || typeof source === "string")) {
     throw new TypeError("bytes are required, or a Response, a URL or a string that names them");
   }
-  if (isLocal(source)) {
-    const { readFile } = await import("node:fs/promises");
-    return readFile(source);
-  }
+  const local = isNode && (await import("./found.js")).bytesAt(source);
+  if (local) return local;
   const response = source instanceof Response ? source : await fetch(source);
   if (!response.ok) {
     throw new Error(`${response.url}: ${response.status} ${response.statusText}`);

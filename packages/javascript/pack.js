@@ -1,8 +1,8 @@
 #!/usr/bin/env node
 // Packs a table for a web page: some 2 KB instead of 1.1 MB. Table.fromBytes accepts both.
 //
-//     node pack.js TABLE PACKED
-//     node pack.js TABLE KINDS LINE_BREAK EAST_ASIAN CATEGORY EMOJI
+//     npx lbk-pack TABLE PACKED
+//     npx lbk-pack TABLE KINDS LINE_BREAK EAST_ASIAN CATEGORY EMOJI
 //
 // TABLE is the folder of the property files of Unicode 15.0, or a table that save_table of the C library or Table.save
 // of the Python package wrote, or a packed one. PACKED is compressed by gzip. With the four files of a table it writes
@@ -13,8 +13,10 @@ import { Table } from "./lbk.js";
 import { HEAD_SIZE, kindsOf } from "./packed_table.js";
 import { packedFrom, runsOfValues } from "./property_files.js";
 
+const USAGE = "usage: lbk-pack TABLE PACKED [LINE_BREAK EAST_ASIAN CATEGORY EMOJI]";
+
 function fail(fault, status = 1) {
-  console.error(`pack.js: ${fault}`);
+  console.error(fault);
   process.exit(status);
 }
 
@@ -29,13 +31,16 @@ function kindsOfValues(packed, files) {
 }
 
 const [from, to, ...names] = process.argv.slice(2);
-if (to === undefined || ![0, 4].includes(names.length)) fail("usage: node pack.js TABLE PACKED [FILE FILE FILE FILE]",
-  2);
+if (process.argv.includes("--help") || process.argv.includes("-h")) {
+  console.log(USAGE);
+  process.exit();
+}
+if (to === undefined || ![0, 4].includes(names.length)) fail(USAGE, 2);
 try {
   const table = statSync(from).isDirectory() ? await Table.fromFiles(from) : await Table.fromBytes(from);
   const packed = table.pack();
   const written = names.length === 0 ? packed : kindsOfValues(packed, names.map((name) => readFileSync(name)));
   writeFileSync(to, gzipSync(written, { level: 9 }));
 } catch (error) {
-  fail(`${from}: ${error.message}`);
+  fail(`lbk-pack: ${from}: ${error.message}`);
 }

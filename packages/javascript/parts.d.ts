@@ -3,7 +3,8 @@ import type { Break, Options, Table, Text } from "./lbk.js";
 
 /**
  * The breaks of a text that arrives in pieces, which may be cut anywhere. The call that takes the piece which settles a
- * break returns it, with its offset from the text's start. The stream holds the text since the last break.
+ * break returns it, with its offset from the text's start. The stream holds the text since the last break, and goes
+ * over it again with each piece.
  */
 export class Stream {
   constructor(table: Table, options?: Options);
@@ -11,9 +12,13 @@ export class Stream {
   /**
    * Takes the next piece, and returns the breaks that it settles.
    * @throws TypeError if some pieces are strings and others bytes.
+   * @throws Error after the end.
    */
   feed(piece: Text): Break[];
-  /** Ends the text, and returns the breaks that are left. */
+  /**
+   * Ends the text, and returns the breaks that are left.
+   * @throws Error after the end.
+   */
   finish(): Break[];
 }
 

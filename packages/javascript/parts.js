@@ -47,6 +47,7 @@ export class Stream {
   /** The text that is not settled, the state before it, and how many units or bytes came before it. */
   #rest;
   #before = 0;
+  #hasEnded = false;
 
   constructor(table, options) {
     if (typeof table?.[goOn] !== "function") throw new TypeError("a Stream needs a Table");
@@ -55,6 +56,7 @@ export class Stream {
   }
 
   feed(more) {
+    this.#checkOpen();
     checkText(more);
     if (this.#rest !== undefined && typeof more !== typeof this.#rest) {
       throw new TypeError("all pieces of a stream must be strings, or all must be Uint8Arrays");
@@ -64,7 +66,14 @@ export class Stream {
   }
 
   finish() {
-    return this.#rest === undefined ? [] : this.#take(this.#rest, this.#rest.length, false);
+    this.#checkOpen();
+    const found = this.#rest === undefined ? [] : this.#take(this.#rest, this.#rest.length, false);
+    this.#hasEnded = true;
+    return found;
+  }
+
+  #checkOpen() {
+    if (this.#hasEnded) throw new Error("the stream has ended");
   }
 
   /** The breaks that the text settles up to an offset. */

@@ -17,6 +17,8 @@ export interface WordColumns {
 
 /** The module that finds words. It needs no table. */
 export class Words {
+  private constructor();
+
   /** @param module The module `lbk_words.wasm`; the default is the one next to this file. */
   static load(module?: Source): Promise<Words>;
 

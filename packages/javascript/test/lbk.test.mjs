@@ -242,7 +242,7 @@ test("pack.js refuses what is no table", () => {
   for (const bytes of [saved.subarray(1), new Uint8Array(saved.length).fill(1), tmpdir(), "absent"]) {
     const { status, stderr } = pack(bytes);
     assert.equal(status, 1);
-    assert.match(stderr, /^pack.js: /);
+    assert.match(stderr, /^lbk-pack: /);
   }
 });
 

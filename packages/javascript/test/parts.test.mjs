@@ -43,7 +43,8 @@ test("however a text is cut into pieces, its breaks are those of the whole", () 
     }
     found.push(...stream.finish());
     assert.deepEqual(found, [...table.breaks(text, { profile })], JSON.stringify(text));
-    assert.deepEqual([...stream.feed(text.slice(0, 0)), ...stream.finish()], []);
+    assert.throws(() => stream.feed(text), /^Error: the stream has ended$/);
+    assert.throws(() => stream.finish(), /^Error: the stream has ended$/);
   }
 });
 
@@ -84,6 +85,12 @@ test("what is no piece is refused", () => {
   assert.throws(() => stream.feed(new Uint8Array(1)), TypeError);
   assert.throws(() => new Stream(table, { profile: 3 }), RangeError);
   for (const wrong of [undefined, {}, "table"]) assert.throws(() => new Stream(wrong), TypeError);
+});
+
+test("a stream without a piece has no breaks, and ends", () => {
+  const stream = new Stream(table);
+  assert.deepEqual(stream.finish(), []);
+  assert.throws(() => stream.feed("a"), /^Error: the stream has ended$/);
 });
 
 test("cuts are where a line must end", () => {
