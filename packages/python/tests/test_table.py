@@ -4,6 +4,7 @@ import copy
 import os
 import pathlib
 import pickle
+import re
 import tempfile
 import unittest
 import zipfile
@@ -109,7 +110,10 @@ class Folders(unittest.TestCase):
         with self.assertRaises(FileNotFoundError) as caught:
             Table.load(self.folder)
         self.assertEqual(caught.exception.filename, str(self.folder / "emoji/emoji-data.txt"))
-        self.assertRaises(FileNotFoundError, Table.load, self.folder / "nowhere")
+        for nowhere, named in (("nowhere", "nowhere/LineBreak.txt"), ("nowhere/UCD.zip", "nowhere/UCD.zip")):
+            with self.assertRaises(FileNotFoundError) as caught:
+                Table.load(self.folder / nowhere)
+            self.assertEqual(caught.exception.filename, str(self.folder / named))
 
     def test_files_by_name(self):
         names = [self.folder / str(number) for number in range(4)]
@@ -197,9 +201,10 @@ class Kept(unittest.TestCase):
         data = bytearray(self.table.to_bytes())
         data[1000] ^= 1
         for wrong in (data, data[:1000], b"", bytes(data) + b"x"):
-            self.assertRaisesRegex(ValueError, "not an intact table", Table.from_bytes, wrong)
+            said = r"^these bytes are not an intact table .* \(packed ones: `Table.unpack`\)$"
+            self.assertRaisesRegex(ValueError, said, Table.from_bytes, wrong)
             pathlib.Path(self.name).write_bytes(wrong)
-            self.assertRaisesRegex(ValueError, "not an? .*table", Table.open, self.name)
+            self.assertRaisesRegex(ValueError, f"^{re.escape(self.name)} is not an? .*table", Table.open, self.name)
         self.assertRaises(TypeError, Table.from_bytes, "text")
         self.assertRaises(TypeError, Table.from_bytes, 3)
         self.assertRaises(FileNotFoundError, Table.open, self.name + ".nowhere")

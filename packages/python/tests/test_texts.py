@@ -2,6 +2,7 @@
 
 import array
 import itertools
+import json
 import mmap
 import tempfile
 import unittest
@@ -165,6 +166,11 @@ class Breaks(unittest.TestCase):
         for index in (3, -4):
             self.assertRaises(IndexError, self.one.__getitem__, index)
 
+    def test_it_is_a_dict_for_who_asks(self):
+        self.assertEqual(self.one._asdict(), {"at": 3, "kind": Kind.MAY, "rule": Rule.LB18})
+        self.assertNotIsInstance(self.one, tuple)
+        self.assertEqual(json.loads(json.dumps(self.one._asdict())), {"at": 3, "kind": 1, "rule": int(Rule.LB18)})
+
     def test_what_is_no_break_is_refused(self):
         for fields in ((), (1,), (1, 2, 3, 4), ("1", 1, 1)):
             self.assertRaises(TypeError, Break, *fields)
@@ -185,6 +191,11 @@ class Rules(unittest.TestCase):
     def test_a_rule_is_written_as_its_label(self):
         self.assertEqual((str(Rule.LB18), f"{Rule.LB8a}", f"{Rule.LB8a:>4}"), ("18", "8a", "  8a"))
         self.assertEqual((Rule.LB18 + 0, repr(Rule.LB18)), (144, "<Rule.LB18: 144>"))
+
+    def test_a_format_of_numbers_writes_the_number(self):
+        for form in ("d", "03d", "x", "#b", ".1f", "%", "n"):
+            self.assertEqual(format(Rule.LB18, form), format(int(Rule.LB18), form))
+        self.assertEqual((f"{Rule.LB18:s}", f"{Rule.LB18:d>4}"), ("18", "dd18"))
 
     def test_each_rule_says_what_it_says(self):
         self.assertEqual(Rule.LB18.text, "A break is allowed after spaces.")

@@ -85,6 +85,17 @@ static PyObject *iterate(PyObject *self)
     return made;
 }
 
+/* The fields by their names. */
+static PyObject *as_dict(PyObject *self, PyObject *Py_UNUSED(none))
+{
+    PyObject *all = fields(self), *made = NULL;
+    if (all != NULL)
+        made = Py_BuildValue("{sOsOsO}", "at", PyTuple_GetItem(all, 0), "kind", PyTuple_GetItem(all, 1), "rule",
+            PyTuple_GetItem(all, 2));
+    Py_XDECREF(all);
+    return made;
+}
+
 static PyObject *reduce(PyObject *self, PyObject *Py_UNUSED(none))
 {
     return Py_BuildValue("ON", Py_TYPE(self), fields(self));
@@ -145,11 +156,12 @@ static PyGetSetDef properties[] = {
 
 static PyMethodDef methods[] = {
     {"__reduce__", reduce, METH_NOARGS, NULL},
+    {"_asdict", as_dict, METH_NOARGS, "Returns a dict of the fields, as a named tuple does."},
     {NULL, NULL, 0, NULL},
 };
 
 static const char documentation[] =
-    "Break(at, kind, rule)\n--\n\nA place of a text where a line may or must end. It can be unpacked, indexed, sorted and pickled.";
+    "Break(at, kind, rule)\n--\n\nA place of a text where a line may or must end. It can be unpacked, indexed, sorted and pickled, but is no tuple.";
 
 static PyType_Slot slots[] = {
     {Py_tp_new, create},          {Py_tp_dealloc, dealloc}, {Py_tp_repr, repr},

@@ -19,8 +19,8 @@ WORDS: int
 WORD_RANGES: int
 SHARED: str
 
-# A tuple to checkers alone, which take the types of `at, kind, rule = found` from nothing else. It has the length, the items
-# and the order of one, and equals none.
+# No tuple, but one to checkers, which take the types of `at, kind, rule = found` from nothing else. It has the length, the
+# items and the order of one, and `_asdict` of a named one; it equals none, and has no slices.
 @final
 class Break(tuple[int, Kind, Rule]):
     __match_args__ = ("at", "kind", "rule")
@@ -31,6 +31,7 @@ class Break(tuple[int, Kind, Rule]):
     def kind(self) -> Kind: ...
     @property
     def rule(self) -> Rule: ...
+    def _asdict(self) -> dict[str, Any]: ...
 
 @final
 class Found(Iterator[Any]):

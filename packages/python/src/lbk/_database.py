@@ -45,6 +45,8 @@ def _root(top: Path) -> Path | zipfile.Path:
         return archive if (archive / first).exists() or not (archive / "ucd").is_dir() else archive / "ucd"
     if top.exists() and not top.is_dir():
         raise NotADirectoryError(errno.ENOTDIR, "neither a folder nor a zip archive", str(top))
+    if top.suffix == ".zip" and not top.exists():
+        raise _absent(top)
     if not (top / first).exists():
         if (top / "ucd").is_dir():
             return top / "ucd"
@@ -58,7 +60,11 @@ def _first_of(root: Path | zipfile.Path, places: tuple[str, ...]) -> Path | zipf
         file = root / place
         if file.is_file():
             return file
-    raise FileNotFoundError(errno.ENOENT, os.strerror(errno.ENOENT), str(root / places[0]))
+    raise _absent(root / places[0])
+
+
+def _absent(path: Path | zipfile.Path) -> FileNotFoundError:
+    return FileNotFoundError(errno.ENOENT, os.strerror(errno.ENOENT), str(path))
 
 
 def folders() -> list[str]:

@@ -4,9 +4,12 @@ import enum
 
 from . import _calls
 
+# The ends of the formats of numbers, such as "03d".
+_NUMERIC = tuple("bcdoxXneEfFgG%")
+
 
 class Labelled(enum.IntEnum):
-    """Numbers that are printed as the labels of rules."""
+    """Numbers that are printed as the labels of rules, and as themselves in a format of numbers."""
 
     @property
     def label(self) -> str:
@@ -22,4 +25,4 @@ class Labelled(enum.IntEnum):
         return self.label
 
     def __format__(self, form: str) -> str:
-        return format(self.label, form)
+        return format(int(self) if form.endswith(_NUMERIC) else self.label, form)

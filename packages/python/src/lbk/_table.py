@@ -120,7 +120,7 @@ class Table:
         """Makes a table of the bytes that `to_bytes` returned. Raises ValueError if they are not an
         intact table of this version."""
         memory = bytearray(_view(data))
-        _check(memory, "the bytes")
+        _check(memory, "these bytes are", " (packed ones: `Table.unpack`)")
         return cls._of(memory)
 
     @classmethod
@@ -135,7 +135,7 @@ class Table:
             if os.fstat(file.fileno()).st_size != _calls.TABLE_SIZE:
                 raise ValueError(f"{path} is not a table of this version")
             memory = mmap.mmap(file.fileno(), 0, access=mmap.ACCESS_READ)
-        _check(memory, path)
+        _check(memory, f"{path} is")
         return cls._of(memory, Table.open, path)
 
     def to_bytes(self) -> bytes:
@@ -398,6 +398,6 @@ def _view(data: Any) -> memoryview:
     return memoryview(data)
 
 
-def _check(memory: bytearray | mmap.mmap, what: str) -> None:
+def _check(memory: bytearray | mmap.mmap, subject: str, advice: str = "") -> None:
     if len(memory) != _calls.TABLE_SIZE or not _calls.check(memory):
-        raise ValueError(f"{what} is not an intact table of this version")
+        raise ValueError(f"{subject} not an intact table of this version{advice}")
