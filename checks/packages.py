@@ -33,11 +33,24 @@ def try_forged(tally, crate, file, room):
     tally.equal(f"the proved {file.name} is taken again", (fits.returncode, fits.stdout), (0, ""))
 
 
+def try_usage(tally, room):
+    """Words that a script does not know, before it begins anything: the kit that it would call fails."""
+    path = f"{room / 'kit/bin'}:{os.environ['PATH']}"
+    how = {"env": {**os.environ, "PATH": path}, "capture_output": True, "text": True}
+    for words in (["packages", "--help"], ["module", "word"], ["measure-gate", "word"], ["measure-gate", "--table"]):
+        ran = subprocess.run([TOP / "scripts" / words[0], *words[1:]], **how, check=False)
+        said = ran.returncode, ran.stdout, ran.stderr[:6]
+        tally.equal(f"scripts/{' '.join(words)}: the usage", said, (2, "", "usage:"))
+    ran = subprocess.run([TOP / "scripts/measure-gate", "--help"], **how, check=False)
+    tally.equal("scripts/measure-gate --help", (ran.returncode, ran.stdout[:6], ran.stderr), (0, "usage:", ""))
+
+
 def run(tally, arguments):
     built_program()
     subprocess.run([TOP / "scripts/prove", "lbk_c"], stdin=subprocess.DEVNULL, check=True)
     with tempfile.TemporaryDirectory() as name:
         failing_kit(Path(name))
+        try_usage(tally, Path(name))
         for crate, file in (("lbk", "lbk"), ("lbk_c", "liblbk_c.a")):
             try_forged(tally, crate, TOP / "crates" / crate / "out" / file, Path(name))
     run_script(tally, [TOP / "scripts/packages", *arguments])

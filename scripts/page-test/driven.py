@@ -6,7 +6,6 @@ import time
 import urllib.request
 
 KEYS = {"Tab": "\ue004", "Right": "\ue014", "Enter": "\ue007", "Home": "\ue011"}
-ELEMENT = "element-6066-11e4-a52e-4f735466cecf"
 ASKS_A_NAME = {"button", "combobox", "textbox", "slider", "listbox", "option", "heading", "figure"}
 # The least contrast of text that WCAG 2.2 asks for (1.4.3).
 LEAST_CONTRAST = 4.5
