@@ -22,6 +22,16 @@ module _ {profile : Profile} {kinds : List ℕ} {pairs : Neighbours} {text : Lis
         (first.reached cell [] all flat (Reached-nothing profile cell text all start (given_in old start.count) here));
   }
 
+  -- the second goes on, and may leave some
+  pub takes-twice : {new : List RawBreak} {here : FillState} → length mid ≡ length old → FillsIn profile kinds pairs text old start mid begun
+      → FillsIn profile kinds pairs text mid begun new here → FillsIn profile kinds pairs text old start new here
+  takes-twice {new} {here} same first last = record {
+    within = (omega (arith, last.within.0, same), last.within.1, last.within.2);
+    onward = (omega (arith, first.onward.0, last.onward.0), omega (arith, first.onward.1, last.onward.1));
+    in_order = λ from order. last.in_order from (first.in_order from order);
+    reached = λ cell more all flat before. last.reached cell more all flat (first.reached cell more all flat before);
+  }
+
   -- the second goes on
   pub fills-twice : {new : List RawBreak} {here : FillState} → 0 < length old → length mid ≡ length old → FillsIn profile kinds pairs text old start mid begun
       → Fills profile kinds pairs text mid begun new here → Fills profile kinds pairs text old start new here

@@ -13,6 +13,7 @@ pub mod Reached
 pub mod Steps
 pub mod Blocks
 pub mod Widths
+pub mod Leads
 pub mod Marking
 -- Terms of other crates.
 pub mod Terms

@@ -4,6 +4,8 @@ ghost use Rattle.std.specs.Prelude.{◌≡◌, ◌+◌, ◌*◌, ◌<◌, ◌≤
 ghost use Rattle.bstr.specs.Utf8.{code_of_2, code_of_3, code_of_4, continues, decoded, good, or_replacement, second};
 ghost use Rattle.lbk_bytes.specs.Widths.{longer_by, more_of};
 
+use crate::leads::scalar_by_lead;
+
 /// A scalar value and how many bytes it takes.
 #[derive(Clone, Copy)]
 pub(crate) struct Scalar {
@@ -18,10 +20,12 @@ pub(crate) enum Width {
     Two,
     Three,
     Four,
+    /// Three or four, whichever its first byte says, with no jump on it.
+    ThreeOrFour,
 }
 
 impl Width {
-    /// How many bytes a scalar of this width has after its first.
+    /// How many bytes at most a scalar of this width has after its first.
     #[inline(always)]
     pub(crate) fn more(self) -> usize
         ensures { result ≡ more_of self }
@@ -30,7 +34,7 @@ impl Width {
             Width::One => 0,
             Width::Two => 1,
             Width::Three => 2,
-            Width::Four => 3,
+            Width::Four | Width::ThreeOrFour => 3,
         }
     }
 }
@@ -64,6 +68,7 @@ pub(crate) fn scalar_of(width: Width, bytes: &[u8]) -> Option<Scalar>
         }
         Width::Three => scalar_of_three(bytes),
         Width::Four => scalar_of_four(bytes),
+        Width::ThreeOrFour => scalar_by_lead(bytes),
     }
 }
 
@@ -194,7 +199,7 @@ fn is_second(first: u8, next: u8) -> bool
 
 /// Whether a byte may follow the first byte of a scalar.
 #[inline(always)]
-fn is_continuation(byte: u8) -> bool
+pub(crate) fn is_continuation(byte: u8) -> bool
     ensures { result ≡ continues byte }
 {
     0x7F < byte && byte < 0xC0

@@ -13,7 +13,7 @@ use crate::blocks::blocks;
 use crate::fill_state::FillState;
 use crate::held::take_ones;
 use crate::raw_break::RawBreak;
-use crate::stepping::{mixed, quick, scalars};
+use crate::stepping::{emoji, mixed, quick, scalars};
 use crate::target::{AmpleBreaks, Breaks};
 use crate::tries::{are_near, next_try};
 use lbk_rules::{FlatTable, KindSource, Profile, rows_of, shows_break};
@@ -21,9 +21,9 @@ use lbk_rules::{FlatTable, KindSource, Profile, rows_of, shows_break};
 /// Goes on until the block is full or the text ends, and writes the breaks before the scalars taken after those in
 /// the front of the block. In a text of fewer than 64 bytes the scalars that no block takes are gone over here, with
 /// no call, as long as they are common. The breaks are the same with masks, by which blocks of bytes are taken, and
-/// without: these are for targets that have no vectors.
+/// without: these are for targets that have no vectors. They are the same, too, where emoji are expected at the front.
 #[inline(always)]
-pub fn fill<const MASKS: bool, K: KindSource>(
+pub fn fill<const MASKS: bool, const EMOJI: bool, K: KindSource>(
     table: &K,
     profile: Profile,
     start: FillState,
@@ -36,7 +36,7 @@ pub fn fill<const MASKS: bool, K: KindSource>(
     if start.count == out.len() {
         return start;
     }
-    let begun = short::<MASKS, K>(table, profile, start, text, out);
+    let begun = begin::<MASKS, EMOJI, K>(table, profile, start, text, out);
     if begun.count == out.len() || begun.at == text.len() {
         return begun;
     }
@@ -71,6 +71,48 @@ pub fn fill_few<const HOLDS: bool, K: KindSource>(
         text,
         out,
     )
+}
+
+/// Takes common scalars at the front: emoji, where they are expected, and those of a text of fewer than 64 bytes.
+#[inline(always)]
+fn begin<const MASKS: bool, const EMOJI: bool, K: KindSource>(
+    table: &K,
+    profile: Profile,
+    start: FillState,
+    text: &[u8],
+    out: &mut [RawBreak],
+) -> FillState
+    requires { IsInText start (length text.now) (length out.old) }
+    ensures { FillsIn profile (K.kinds_of table.now) (K.pairs_of table.now) text.now out.old start out.new result }
+{
+    if EMOJI {
+        let here = emoji_first(table, profile, start, text, out);
+        return short::<false, K>(table, profile, here, text, out);
+    }
+    short::<MASKS, K>(table, profile, start, text, out)
+}
+
+/// Takes the emoji at the front.
+#[inline(always)]
+fn emoji_first<K: KindSource>(
+    table: &K,
+    profile: Profile,
+    start: FillState,
+    text: &[u8],
+    out: &mut [RawBreak],
+) -> FillState
+    requires { IsInText start (length text.now) (length out.old) }
+    ensures { FillsIn profile (K.kinds_of table.now) (K.pairs_of table.now) text.now out.old start out.new result }
+{
+    copied(emoji(
+        Breaks,
+        table,
+        rows_of(profile),
+        start,
+        text.len(),
+        text,
+        out,
+    ))
 }
 
 /// Takes the common scalars of a text of fewer than 64 bytes. A block comes first, unless they are very few or of

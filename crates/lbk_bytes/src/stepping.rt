@@ -67,6 +67,38 @@ pub(crate) fn scalars<T: Target, K: KindSource>(
     here
 }
 
+/// A run of scalars of four bytes, and then one of those of three and four: what joins and changes emoji has three. It
+/// stands apart, so that the loops for other scalars keep their registers.
+#[inline(never)]
+pub(crate) fn emoji<T: Target, K: KindSource>(
+    target: T,
+    kinds: &K,
+    steps: &Rows,
+    start: FillState,
+    stop: usize,
+    text: &[u8],
+    out: &mut [T::Entry],
+) -> FillState
+    requires { MayStep (T.fits target) steps.now text.now stop out.old start }
+    ensures { StepsOn (T.fits target) (T.in_order target) (T.reached target) steps.now (K.kinds_of kinds.now) text.now
+        stop out.old start out.new result }
+{
+    let behind = run::<true, T, K>(target, Width::Four, kinds, steps, start, stop, text, out);
+    if stop <= behind.at {
+        return behind;
+    }
+    run::<true, T, K>(
+        target,
+        Width::ThreeOrFour,
+        kinds,
+        steps,
+        behind,
+        stop,
+        text,
+        out,
+    )
+}
+
 /// A run of scalars of one byte, and then one of those that the next byte may begin. Each may be empty.
 #[inline(always)]
 pub(crate) fn runs<T: Target, K: KindSource>(

@@ -96,8 +96,12 @@ pub fn give_breaks<const MASKS: bool>(
             }
             return give_few::<MASKS>(table, state, text, out);
         }
+        // Most scalars of four bytes are emoji. Other emoji, and what joins and changes them, follow in runs of them.
+        if 4 < left && 0xEF < text[state.at] && 0xDF < text[state.at + 4] {
+            return give_many::<MASKS, true>(table, state, text, out);
+        }
     }
-    give_many::<MASKS>(table, state, text, out)
+    give_many::<MASKS, false>(table, state, text, out)
 }
 
 /// Does the same where fewer bytes are left than the block has room for, in the first profile, in which no position is
@@ -185,9 +189,9 @@ fn give_rest<const MASKS: bool>(
     settle::<Breaks, u8>(state, here, text, out)
 }
 
-/// Does the same of any text.
+/// Does the same of any text, in which emoji may be expected at the front (`EMOJI`).
 #[inline(never)]
-fn give_many<const MASKS: bool>(
+fn give_many<const MASKS: bool, const EMOJI: bool>(
     table: &FlatTable,
     state: &mut State,
     text: &[u8],
@@ -199,7 +203,7 @@ fn give_many<const MASKS: bool>(
         return 0;
     };
     let start = start_of(state);
-    let here = lbk_bytes::fill::<MASKS, FlatTable>(table, profile, start, text, out);
+    let here = lbk_bytes::fill::<MASKS, EMOJI, FlatTable>(table, profile, start, text, out);
     settle::<Breaks, u8>(state, here, text, out)
 }
 

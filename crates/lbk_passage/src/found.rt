@@ -117,9 +117,9 @@ fn fill_from<K: KindSource>(
     ensures { Fills profile (K.kinds_of table.now) (K.pairs_of table.now) text.now out.old start out.new result }
 {
     if start.at < text.len() && LONG <= text[start.at] {
-        return fill::<false, K>(table, profile, start, text, out);
+        return fill::<false, false, K>(table, profile, start, text, out);
     }
-    fill::<true, K>(table, profile, start, text, out)
+    fill::<true, false, K>(table, profile, start, text, out)
 }
 
 /// A break by its numbers.
