@@ -15,6 +15,9 @@ const FEW: usize = 3;
 /// The first byte value with which few letters of two bytes begin, or longer ones do.
 const LONG: u8 = 0xDC;
 
+/// The top bit of each of eight bytes.
+const TOPS: u64 = 0x8080_8080_8080_8080;
+
 /// How far the parts of a text were read.
 #[derive(Clone, Copy)]
 struct Reading {
@@ -165,11 +168,17 @@ fn may_tell(bytes: &[u8]) -> bool {
     is_usual(*first) && (0x80 <= *first || is_usual(bytes[1])) && !is_long_soon(bytes)
 }
 
-/// Whether a scalar of three bytes or more is near the front of some bytes, as far as three of them tell it, if there are
-/// so many: in a run of scalars of three bytes one of any three bytes begins one.
+/// Whether a scalar of three bytes or more begins among the first eight of some bytes, if there are so many. One that
+/// begins behind the first two holds the fifth or the eighth, so most text of one byte a scalar needs one test.
 #[inline(always)]
 fn is_long_soon(bytes: &[u8]) -> bool {
-    8 <= bytes.len() && (LONG <= bytes[5] || LONG <= bytes[6] || LONG <= bytes[7])
+    if bytes.len() < 8 || bytes[4] | bytes[7] < 0x80 {
+        return false;
+    }
+    let front = u64::from_le_bytes([
+        bytes[0], bytes[1], bytes[2], bytes[3], bytes[4], bytes[5], bytes[6], bytes[7],
+    ]);
+    front & (front << 1) & (front << 2) & TOPS != 0
 }
 
 /// Whether a byte is below 128, or one with which most letters of two bytes begin.
