@@ -61,8 +61,7 @@ pub fn fill_ends(text: &[u8], start: usize, out: &mut [usize]) -> usize
         // Written whether the part ends there or not, so that no branch depends on it.
         out[count] = at;
         count += usize::from(next.step.cuts);
-        let ends_here = may_tell(&text[at..]) & next.step.cuts;
-        if ends_here {
+        if next.step.cuts && may_tell(&text[at..]) {
             return count;
         }
         let read = Reading {

@@ -1,9 +1,6 @@
-use Rattle.std.proofs.Common.{ℕ, ◌≡◌, true, refl, ap, ◌∙◌, arith}
-use Rattle.std.specs.Int.{from_bool}
-use Rattle.std.proofs.lemmas.Bool.{and_parts}
+use Rattle.std.proofs.Common.{ℕ, refl, ◌∙◌, arith}
 use Rattle.std.proofs.Math.ListN.{length-set}
 use Rattle.lbk_words.specs.Rows.{row_word}
-use Rattle.lbk_words.proofs.FillLemmas.{from_bool-few}
 use Rattle.lbk_words.proofs.PartLemmas.{parts-written, reading-on}
 use Rattle.lbk_words.proofs.StepLemmas.{first-in_row}
 use Rattle.lbk_words.proofs.WalkLemmas.{walk-end}
@@ -24,15 +21,8 @@ scalars-init c =
       };
     }
 
-pub returns-then-ends_here-clause-some : goal.returns-then-ends_here-clause-some
-returns-then-ends_here-clause-some c =
-    let cuts : c.next_step-next.result.step.cuts ≡ true = (and_parts _ _ c.if-ends_here.true).1 in λ _ _. omega (arith, c.from-count.ensures, ap from_bool cuts)
-
-pub returns-then-ends_here-clause-within : goal.returns-then-ends_here-clause-within
-returns-then-ends_here-clause-within c = omega (arith, c.scalars.invariant.count, c.scalars.invariant.len, c.from-count.ensures, from_bool-few)
-
-pub returns-then-ends_here-clause-parts : goal.returns-then-ends_here-clause-parts
-returns-then-ends_here-clause-parts c =
+pub returns-then-may_tell-clause-parts : goal.returns-then-may_tell-clause-parts
+returns-then-may_tell-clause-parts c =
     let r = reading-on c.next_step-next.ensures c.scalars.invariant.count c.from-count.ensures c.scalars.invariant.reads in (r.begin, r.parts)
 
 pub returns-then-count-out-clause-parts : goal.returns-then-count-out-clause-parts
