@@ -5,7 +5,7 @@ pub mod Completes
 pub mod Sound
 pub mod Places
 pub mod Answered
-pub mod JudgeLemmas
+pub mod ReadingLemmas
 pub mod Tokens
 pub mod Writes
 pub mod Fronts

@@ -14,6 +14,7 @@ pub mod ReplayText
 pub mod Replay
 -- What only carries proofs.
 pub mod Run
+pub mod Content
 pub mod Put
 pub mod Met
 pub mod Counted

@@ -4,6 +4,7 @@
 //! the scalars between them in hex.
 #![tactic(auto)]
 
+mod content;
 mod faults;
 pub mod file_laws;
 mod files;
