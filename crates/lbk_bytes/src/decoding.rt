@@ -183,9 +183,9 @@ fn ill_formed(size: usize) -> Scalar
     }
 }
 
-/// Whether a byte may stand second after this first of a scalar.
+/// Whether a byte may stand second after this first of a scalar (Unicode Standard, section 3.9, table 3-7).
 #[inline(always)]
-fn is_second(first: u8, next: u8) -> bool
+pub fn is_second(first: u8, next: u8) -> bool
     ensures { result ≡ second first next }
 {
     match first {
@@ -199,7 +199,7 @@ fn is_second(first: u8, next: u8) -> bool
 
 /// Whether a byte may follow the first byte of a scalar.
 #[inline(always)]
-pub(crate) fn is_continuation(byte: u8) -> bool
+pub fn is_continuation(byte: u8) -> bool
     ensures { result ≡ continues byte }
 {
     0x7F < byte && byte < 0xC0

@@ -2,14 +2,14 @@
 
 ghost use Rattle.std.specs.Prelude.{◌≡◌, ◌<◌, ◌≤◌, take};
 ghost use Rattle.std.proofs.Common.{rules};
-ghost use Rattle.bstr.specs.Utf8.{continues, lead_len, second};
+ghost use Rattle.bstr.specs.Utf8.{lead_len};
 ghost use Rattle.lbk_bytes.specs.Open.{could_go_on};
 ghost use Rattle.lbk_streams.specs.Stands.{front_of};
 
 use crate::cutting::listed;
 use crate::stream::{Cut, Four, Stream};
 use crate::stream_unit::StreamUnit;
-use lbk_bytes::{FillState, RawBreak, fill_common};
+use lbk_bytes::{FillState, RawBreak, fill_common, is_continuation, is_second};
 use lbk_rules::{FlatTable, Profile};
 use lbk_units::{Unit, UnitScalar};
 
@@ -103,23 +103,4 @@ fn lead_len(first: u8) -> usize
         0xF0..=0xF4 => 4,
         _ => 0,
     }
-}
-
-/// Whether a byte may stand second, after this first one.
-fn is_second(first: u8, next: u8) -> bool
-    ensures { result ≡ second first next }
-{
-    match first {
-        0xE0 => 0x9F < next && next < 0xC0,
-        0xED => 0x7F < next && next < 0xA0,
-        0xF0 => 0x8F < next && next < 0xC0,
-        0xF4 => 0x7F < next && next < 0x90,
-        _ => is_continuation(next),
-    }
-}
-
-fn is_continuation(byte: u8) -> bool
-    ensures { result ≡ continues byte }
-{
-    0x7F < byte && byte < 0xC0
 }
