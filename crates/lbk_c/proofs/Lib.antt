@@ -1,5 +1,6 @@
 pub mod TableLemmas
 pub mod MarkLemmas
+pub mod RowsApart
 pub mod SafeLemmas
 pub mod SegmentLemmas
 pub mod DigestLemmas

@@ -1,38 +1,43 @@
--- What comes from a state is one list: the row of the state knows of what was taken all that the rules ask.
-use Rattle.std.proofs.Common.{◌≡◌, ℕ, zero, suc, ◌+◌, ◌<◌, ◌≤◌, false, true, List, [], ◌∷◌, ◌++◌, length, drop, min, take, map, reverse, slice_index_or, refl, sym, ap, ap₂, subst, ◌∙◌, arith}
-use Rattle.std.proofs.lemmas.List.{append_assoc}
-use Rattle.bstr.specs.Utf8.{Decoded, or_replacement, pieces}
+-- Where the breaks after a break are those of the text that begins there: a row knows of what was taken all that the rules ask.
+use Rattle.std.proofs.Common.{◌≡◌, ℕ, zero, suc, ◌+◌, ◌<◌, ◌≤◌, false, true, inl, inr, lit<, Some, List, [], ◌∷◌, ◌++◌, if◌then◌else◌, length, drop, take, map, reverse, refl, sym, ap, ap₂, subst, ◌∙◌, arith}
+use Rattle.std.proofs.lemmas.List.{append_assoc, drop_all, length-append, length-drop, length-map, length-reverse, map-append}
+use Rattle.std.proofs.Math.Logic.{⊎_elim}
+use Rattle.bstr.specs.Utf8.{Decoded, decoded, or_replacement, pieces, pieces_from}
+use Rattle.bstr.proofs.lemmas.PieceLemmas.{pieces-step}
 use Rattle.lbk_rules.specs.declared.Break.{Break}
 use Rattle.lbk_rules.specs.declared.Cell.{Cell}
-use Rattle.lbk_rules.specs.declared.flat_table.FlatTable.{FlatTable}
+use Rattle.lbk_rules.specs.declared.Left.{Left}
 use Rattle.lbk_rules.specs.declared.Verdict.{Verdict}
 use Rattle.lbk_values.specs.declared.profile.Profile.{Profile}
-use Rattle.lbk_values.specs.declared.profile.Profile.TheVariants.{First, Second}
+use Rattle.lbk_rules.specs.Breaks.{break_by, is_no}
+use Rattle.lbk_rules.specs.Ends.{end_of_text}
 use Rattle.lbk_rules.specs.Facts.{facts}
+use Rattle.lbk_rules.specs.FlatTable.{KnowsTaken}
 use Rattle.lbk_rules.specs.Joins.{moved}
 use Rattle.lbk_rules.specs.Normal.{normal, normals}
+use Rattle.lbk_rules.specs.Rows.{IsPlace, IsShown, left_at, shown_of, verdict_shown}
+use Rattle.lbk_rules.specs.Sides.{Side, is_nothing}
 use Rattle.lbk_rules.specs.Verdict.{verdict_between_in}
+use Rattle.lbk_rules.proofs.AlikeLemmas.{facts-alike, from_cells-alike}
 use Rattle.lbk_rules.proofs.ChainLemmas.{verdict_between-chain}
+use Rattle.lbk_rules.proofs.FlatLemmas.{left-start}
 use Rattle.lbk_rules.proofs.NormalLemmas.{between-normal}
 use Rattle.lbk_rules.proofs.RowMachineLemmas.{normals-back}
-use Rattle.lbk_rules.proofs.AlikeLemmas.{facts-alike, from_cells-alike}
-use Rattle.lbk_bytes.specs.declared.raw_break.RawBreak.{RawBreak}
+use Rattle.lbk_rules.proofs.ShownLemmas.{shown-verdict}
+use Rattle.lbk_bytes.specs.declared.deciding.Decided.{Decided as Position}
+use Rattle.lbk_bytes.specs.declared.ends.TheConstants.{END}
 use Rattle.lbk_bytes.specs.Bytes.{breaks_of_bytes, with_break}
-use Rattle.lbk_units.specs.Units.{breaks_of_part_of}
-use Rattle.lbk_bytes.specs.Order.{no_break}
-use Rattle.lbk_bytes.specs.Shown.{given_in, shown}
-use Rattle.lbk_bytes.proofs.BlockLemmas.{order}
-use Rattle.std.proofs.Math.Logic.{⊎_elim}
-use Rattle.lbk_rules.specs.FlatTable.{IsFlatOf}
+use Rattle.lbk_bytes.specs.Decided.{IsUnitDecided, on_from}
+use Rattle.lbk_bytes.specs.Profiles.{profile_number, profile_numbered}
 use Rattle.lbk_bytes.specs.Reached.{onward, scalars_of}
-use Rattle.lbk_units.specs.Reached.{UnitsReachedBy, on_from}
-use Rattle.lbk_calls.specs.declared.interface.State.{State}
-use Rattle.lbk_calls.specs.Coming.{Comes, UnitsComeBy, from_state, onward_in}
-use Rattle.lbk_calls.specs.State.{plain, profile_number}
-use Rattle.lbk_calls.proofs.ComingLemmas.{same-profile}
-use Rattle.lbk_calls.proofs.UnitsComingLemmas.{bytes-begin}
+use Rattle.lbk_bytes.proofs.BlockLemmas.{order}
+use Rattle.lbk_bytes.proofs.PartLemmas.{part-onward}
+use Rattle.lbk_bytes.proofs.ReachedLemmas.{profile-same}
+use Rattle.lbk_units.specs.Units.{breaks_of_part_of}
 use Rattle.lbk_streams.specs.Cuts.{IsCutBefore, IsSafeCut, JoinsAt}
-use Rattle.lbk_c.specs.SafeBreaks.{IsSafeBreak}
+use Rattle.lbk_c.specs.declared.safe_breaks.NextBreak.{NextBreak}
+use Rattle.lbk_c.specs.SafeBreaks.{BeginsAlike, FindsNext, IsLastFrom, IsSafeBreak, IsSafeFrom, Next, NoneAlike, StandsAt, StandsBefore, asked_of, next_from, verdict_at}
+use Rattle.lbk_c.proofs.RowsApart.{rows-apart}
 
 between-alike : (profile : Profile) (cell : ℕ → Cell) (a b : List ℕ) (right : List Cell) → facts (reverse (normals cell a)) ≡ facts (reverse (normals cell b))
     → verdict_between_in profile (map cell a) right ≡ verdict_between_in profile (map cell b) right
@@ -59,47 +64,11 @@ onward-alike profile cell a b at (p ∷ ps) same =
     (onward-alike profile cell (a ++ or_replacement p.char ∷ []) (b ++ or_replacement p.char ∷ []) (at + p.size) ps
     (facts-on cell a b (or_replacement p.char) same))
 
-reached-alike : (p q : Profile) (cell : ℕ → Cell) (text : List ℕ) (state : State) (a b : List Break) → p ≡ q
-    → UnitsReachedBy onward p cell (on_from pieces text) a (from_state state) [] → UnitsReachedBy onward q cell (on_from pieces text) b (from_state state) [] → a ≡ b
-reached-alike p q cell text state a b same one other =
-    let two = subst (λ r. UnitsReachedBy onward r cell (on_from pieces text) b (from_state state) []) (sym same) other in
-    one.joined
-    ∙ onward-alike p cell one.taken two.taken state.at (pieces (drop state.at text)) (sym one.knows.1 ∙ two.knows.1)
-    ∙ sym two.joined
-
-by-onward : (cell : ℕ → Cell) (table : FlatTable) (text : List ℕ) (state : State) (a b : List Break)
-    → UnitsComeBy onward pieces cell table text state a → UnitsComeBy onward pieces cell table text state b → a ≡ b
-by-onward cell table text state a b one other = split state.ended refl
-  where
-    split : (n : ℕ) → state.ended ≡ n → a ≡ b
-    split zero is =
-        reached-alike one.profile other.profile cell text state a b (same-profile one.profile other.profile state one.named other.named)
-        (one.onto.goes_on is) (other.onto.goes_on is)
-    split (suc n) is = one.onto.none_come (omega (arith, is)) ∙ sym (other.onto.none_come (omega (arith, is)))
-
-pub comes-same : (cell : ℕ → Cell) (table : FlatTable) (text : List ℕ) (state : State) (rules : Profile) (a b : List Break) → state.profile ≡ profile_number rules
-    → Comes cell table text state a → Comes cell table text state b → a ≡ b
-comes-same cell table text state First a b named one other =
-    by-onward cell table text (plain state) a b
-    (subst (λ n. UnitsComeBy (onward_in n) pieces cell table text (plain state) a) named one)
-    (subst (λ n. UnitsComeBy (onward_in n) pieces cell table text (plain state) b) named other)
-comes-same cell table text state Second a b named one other =
-    by-onward cell table text (plain state) a b
-    (subst (λ n. UnitsComeBy (onward_in n) pieces cell table text (plain state) a) named one)
-    (subst (λ n. UnitsComeBy (onward_in n) pieces cell table text (plain state) b) named other)
-
 pub moved-none : (bs : List Break) → map (moved 0) bs ≡ bs
 moved-none [] = refl
 moved-none (b ∷ bs) =
     let same : 0 + b.at ≡ b.at = omega arith in
     ap₂ (λ (n : ℕ) (l : List Break). record { at = n; kind = b.kind; rule = b.rule } ∷ l) same (moved-none bs)
-
--- of the breaks of a text some were given, and the others come from the state on
-pub record Goes (rules : Profile) (cell : ℕ → Cell) (table : FlatTable) (text : List ℕ) (state : State) : Type 0 where
-  pub front : List Break
-  pub rest : List Break
-  pub joined : breaks_of_bytes rules cell text ≡ front ++ rest
-  pub comes : Comes cell table text state rest
 
 pub safe-start : (rules : Profile) (cell : ℕ → Cell) (text : List ℕ) (cut : ℕ) → cut ≤ length text → (0 < length text → cut < length text)
     → (0 < cut → cut < length text → JoinsAt rules cell text cut) → IsSafeBreak rules cell text cut
@@ -108,52 +77,379 @@ safe-start rules cell text (suc n) within before joins =
     let joined = joins (omega arith) (before (omega (arith, within))) in
     (breaks_of_part_of true rules cell (pieces (take (suc n) text)), joined.breaks)
 
--- what comes from the start of a part that goes up to the end of the text
-pub fresh : (rules : Profile) (cell : ℕ → Cell) (table : FlatTable) (text : List ℕ) (at number : ℕ) → IsFlatOf table cell → number ≡ profile_number rules → at ≤ length text
-    → Comes cell table text (record { at = at; row = 0; profile = number; ended = 0 }) (map (moved at) (breaks_of_bytes rules cell (drop at text)))
-fresh rules cell table text at number flat named within =
-    (bytes-begin table text (record { at = at; row = 0; profile = number; ended = 0 })).part cell rules false at flat within
-    (ap (λ n. record { at = at; row = 0; profile = n; ended = 0 }) named)
+pub pieces-none : pieces [] ≡ []
+unfolding pieces_from
+pieces-none = refl
 
-pub goes-start : (rules : Profile) (cell : ℕ → Cell) (table : FlatTable) (text : List ℕ) (cut number : ℕ) → IsFlatOf table cell → number ≡ profile_number rules → cut ≤ length text
-    → IsSafeBreak rules cell text cut → Goes rules cell table text (record { at = cut; row = 0; profile = number; ended = 0 })
-goes-start rules cell table text cut number flat named within safe = record {
-  front = safe.0;
-  rest = map (moved cut) (breaks_of_bytes rules cell (drop cut text));
-  joined = safe.1;
-  comes = fresh rules cell table text cut number flat named within;
+-- One scalar more
+
+scalars-more : (before : List Decoded) (p : Decoded) → scalars_of (before ++ p ∷ []) ≡ scalars_of before ++ or_replacement p.char ∷ []
+scalars-more before p = map-append (λ (q : Decoded). or_replacement q.char) before (p ∷ [])
+
+module _ (rules : Profile) (cell : ℕ → Cell) (before : List Decoded) (at : ℕ) (p : Decoded) (ps : List Decoded) where
+  next-none : is_no (verdict_at rules cell before (p ∷ ps)).kind ≡ true → next_from rules cell before at (p ∷ ps) ≡ next_from rules cell (before ++ p ∷ []) (at + p.size) ps
+  next-none is = ap (λ b. if b then next_from rules cell (before ++ p ∷ []) (at + p.size) ps
+      else record { found = break_by at (verdict_at rules cell before (p ∷ ps)); asked = asked_of cell (before ++ p ∷ []) }) is
+
+  next-some : is_no (verdict_at rules cell before (p ∷ ps)).kind ≡ false
+      → next_from rules cell before at (p ∷ ps) ≡ record { found = break_by at (verdict_at rules cell before (p ∷ ps)); asked = asked_of cell (before ++ p ∷ []) }
+  next-some some = ap (λ b. if b then next_from rules cell (before ++ p ∷ []) (at + p.size) ps
+      else record { found = break_by at (verdict_at rules cell before (p ∷ ps)); asked = asked_of cell (before ++ p ∷ []) }) some
+
+  onward-more : onward rules cell (scalars_of before) at (p ∷ ps)
+      ≡ with_break at (verdict_at rules cell before (p ∷ ps)) (onward rules cell (scalars_of (before ++ p ∷ [])) (at + p.size) ps)
+  onward-more = ap (λ l. with_break at (verdict_at rules cell before (p ∷ ps)) (onward rules cell l (at + p.size) ps)) (sym (scalars-more before p))
+
+  onward-none : is_no (verdict_at rules cell before (p ∷ ps)).kind ≡ true
+      → onward rules cell (scalars_of before) at (p ∷ ps) ≡ onward rules cell (scalars_of (before ++ p ∷ [])) (at + p.size) ps
+  onward-none is = onward-more
+      ∙ ap (λ b. if b then onward rules cell (scalars_of (before ++ p ∷ [])) (at + p.size) ps
+      else break_by at (verdict_at rules cell before (p ∷ ps)) ∷ onward rules cell (scalars_of (before ++ p ∷ [])) (at + p.size) ps) is
+
+  onward-some : is_no (verdict_at rules cell before (p ∷ ps)).kind ≡ false
+      → onward rules cell (scalars_of before) at (p ∷ ps)
+      ≡ break_by at (verdict_at rules cell before (p ∷ ps)) ∷ onward rules cell (scalars_of (before ++ p ∷ [])) (at + p.size) ps
+  onward-some some = onward-more
+      ∙ ap (λ b. if b then onward rules cell (scalars_of (before ++ p ∷ [])) (at + p.size) ps
+      else break_by at (verdict_at rules cell before (p ∷ ps)) ∷ onward rules cell (scalars_of (before ++ p ∷ [])) (at + p.size) ps) some
+
+  none-passed : is_no (verdict_at rules cell before (p ∷ ps)).kind ≡ true → NoneAlike rules cell (before ++ p ∷ []) (at + p.size) ps → NoneAlike rules cell before at (p ∷ ps)
+  none-passed is none = (λ alike. (let nothing : ⊥ = (let some : is_no (verdict_at rules cell before (p ∷ ps)).kind ≡ false = alike.0 in cc) in nothing), none)
+
+-- No break was passed
+
+pub record Passes (rules : Profile) (cell : ℕ → Cell) (text : List ℕ) (before : List Decoded) (from row at : ℕ) : Type 0 where
+  pub passed : List Decoded
+  pub kept : length before ≤ length passed
+  pub joined : passed ++ pieces (drop at text) ≡ before ++ pieces (drop from text)
+  pub next : next_from rules cell before from (pieces (drop from text)) ≡ next_from rules cell passed at (pieces (drop at text))
+  pub breaks : onward rules cell (scalars_of before) from (pieces (drop from text)) ≡ onward rules cell (scalars_of passed) at (pieces (drop at text))
+  pub none : NoneAlike rules cell passed at (pieces (drop at text)) → NoneAlike rules cell before from (pieces (drop from text))
+  pub knows : KnowsTaken cell row (scalars_of passed)
+
+pub passes-none : (rules : Profile) (cell : ℕ → Cell) (text : List ℕ) (before : List Decoded) (from row : ℕ) → KnowsTaken cell row (scalars_of before)
+    → Passes rules cell text before from row from
+passes-none rules cell text before from row knows = record {
+  passed = before;
+  kept = omega arith;
+  joined = refl;
+  next = refl;
+  breaks = refl;
+  none = λ none. none;
+  knows = knows;
 }
 
--- a break more was given
-pub goes-on : (rules : Profile) (cell : ℕ → Cell) (table : FlatTable) (text : List ℕ) (old new : State) (next : RawBreak) (g : Goes rules cell table text old)
-    → (rest : List Break) × (g.rest ≡ shown next ∷ rest) × Comes cell table text new rest → Goes rules cell table text new
-goes-on rules cell table text old new next g more = record {
-  front = g.front ++ shown next ∷ [];
-  rest = more.0;
-  joined = g.joined ∙ ap (λ l. g.front ++ l) more.1 ∙ sym (append_assoc g.front (shown next ∷ []) more.0);
-  comes = more.2;
-}
+module _ (rules : Profile) (cell : ℕ → Cell) (text : List ℕ) (before : List Decoded) (from row at : ℕ) (p : Passes rules cell text before from row at) where
+  module _ (found : Position) (d : IsUnitDecided rules cell (on_from pieces text) at (scalars_of p.passed) found) where
+    abbrev after : List Decoded
+    after = pieces (drop found.at text)
 
-pub safe-at : (rules : Profile) (cell : ℕ → Cell) (table : FlatTable) (text : List ℕ) (old new : State) (next : RawBreak) (at : ℕ) (g : Goes rules cell table text old)
-    → (m : (rest : List Break) × (g.rest ≡ shown next ∷ rest) × Comes cell table text new rest)
-    → map (moved at) (breaks_of_bytes rules cell (drop at text)) ≡ shown next ∷ m.0 → IsSafeBreak rules cell text at
-safe-at rules cell table text old new next at g m alike = (g.front, g.joined ∙ ap (λ l. g.front ++ l) (m.1 ∙ sym alike))
+    abbrev more : List Decoded
+    more = p.passed ++ d.piece ∷ []
 
-pub none-of : (to_come : List Break) → length to_come ≡ 0 → to_come ≡ []
-none-of [] none = refl
-none-of (b ∷ bs) none = absurd (omega (arith, none))
+    joined-on : more ++ after ≡ before ++ pieces (drop from text)
+    joined-on = append_assoc p.passed (d.piece ∷ []) after ∙ ap (λ l. p.passed ++ l) (sym d.begins) ∙ p.joined
 
--- the one break that was given, and those behind it
-pub next-of : (cell : ℕ → Cell) (table : FlatTable) (text : List ℕ) (new : State) (out : List RawBreak) (count : ℕ) (to_come : List Break)
-    → length out ≡ 1 → count ≡ min 1 (length to_come) → 0 < count → given_in out count ≡ take count to_come → Comes cell table text new (drop count to_come)
-    → (rest : List Break) × (to_come ≡ shown (slice_index_or out 0 no_break) ∷ rest) × Comes cell table text new rest
-next-of cell table text new [] count to_come one counted some front comes = absurd (omega (arith, one))
-next-of cell table text new (r ∷ out) count [] one counted some front comes = absurd (omega (arith, counted, some))
-next-of cell table text new (r ∷ out) count (b ∷ bs) one counted some front comes =
-    let is_one : count ≡ 1 = omega (arith, counted, some) in
-    let same : map shown (take 1 (r ∷ out)) ≡ take 1 (b ∷ bs) = subst (λ n. given_in (r ∷ out) n ≡ take n (b ∷ bs)) is_one front in
-    let first : shown r ≡ b = (let heads : shown r ∷ [] ≡ b ∷ [] = same in cc) in
-    (bs, ap (λ x. x ∷ bs) (sym first), subst (λ n. Comes cell table text new (drop n (b ∷ bs))) is_one comes)
+    knows-on : KnowsTaken cell found.row (scalars_of more)
+    knows-on = subst (λ l. KnowsTaken cell found.row l) (sym (scalars-more p.passed d.piece)) d.knows
+
+    pub passes-on : is_no (verdict_shown found.shown).kind ≡ true → Passes rules cell text before from found.row found.at
+    passes-on is =
+        let none : is_no (verdict_at rules cell p.passed (d.piece ∷ after)).kind ≡ true = sym (ap (λ v. is_no v.kind) d.decides) ∙ is in
+        record {
+          passed = more;
+          kept = omega (arith, p.kept, length-append p.passed (d.piece ∷ []));
+          joined = joined-on;
+          next = p.next ∙ ap (λ l. next_from rules cell p.passed at l) d.begins ∙ next-none rules cell p.passed at d.piece after none
+              ∙ ap (λ n. next_from rules cell more n after) (sym d.moved);
+          breaks = p.breaks ∙ ap (λ l. onward rules cell (scalars_of p.passed) at l) d.begins ∙ onward-none rules cell p.passed at d.piece after none
+              ∙ ap (λ n. onward rules cell (scalars_of more) n after) (sym d.moved);
+          none = λ alike. p.none (subst (λ l. NoneAlike rules cell p.passed at l) (sym d.begins)
+              (none-passed rules cell p.passed at d.piece after none (subst (λ n. NoneAlike rules cell more n after) d.moved alike)));
+          knows = knows-on;
+        }
+
+    pub finds-break : is_no (verdict_shown found.shown).kind ≡ false → at < length text
+        → FindsNext rules cell text before from (record { at = at; shown = found.shown; row = found.row; behind = found.at })
+    finds-break some inside =
+        let breaks : is_no (verdict_at rules cell p.passed (d.piece ∷ after)).kind ≡ false = sym (ap (λ v. is_no v.kind) d.decides) ∙ some in
+        record {
+          passed = p.passed;
+          kept = p.kept;
+          joined = p.joined;
+          next = p.next ∙ ap (λ l. next_from rules cell p.passed at l) d.begins ∙ next-some rules cell p.passed at d.piece after breaks
+              ∙ ap₂ (λ (v : Verdict) (l : Left). (let n : Next = record { found = break_by at v; asked = l } in n)) (sym d.decides) (sym knows-on.1);
+          breaks = p.breaks;
+          none = p.none;
+          stands = record {
+            inside = λ _. record {
+              piece = d.piece;
+              begins = d.begins;
+              sized = d.moved;
+              decides = d.decides;
+              breaks = some;
+              knows = knows-on;
+            };
+            at_end = λ ends. absurd (omega arith);
+          };
+        }
+
+  pub finds-end : at ≡ length text → FindsNext rules cell text before from (record { at = at; shown = END; row = row; behind = at })
+  unfolding verdict_shown
+  finds-end ends =
+      let none_left : pieces (drop at text) ≡ [] = ap pieces (drop_all at text (omega arith)) ∙ pieces-none in
+      record {
+        passed = p.passed;
+        kept = p.kept;
+        joined = p.joined;
+        next = p.next ∙ ap (λ l. next_from rules cell p.passed at l) none_left
+            ∙ ap (λ (l : Left). (let n : Next = record { found = break_by at end_of_text; asked = l } in n)) (sym p.knows.1);
+        breaks = p.breaks;
+        none = p.none;
+        stands = record { inside = λ inside. absurd (omega arith); at_end = λ _. p.knows };
+      }
+
+-- What a call shows by its break
+
+abbrev next_shown : NextBreak → Next
+next_shown found = record { found = break_by found.at (verdict_shown found.shown); asked = left_at found.row }
+
+same-shown : (one other : ℕ) → IsShown one → IsShown other → verdict_shown one ≡ verdict_shown other → one ≡ other
+same-shown one other (v, is) (w, also) same =
+    let verdicts : v ≡ w = sym (shown-verdict one v is) ∙ same ∙ shown-verdict other w also in
+    is ∙ ap shown_of verdicts ∙ sym also
+
+some-side : (side : Side) → 0 < length side → is_nothing side ≡ false
+some-side [] some = absurd (omega arith)
+some-side (cell ∷ side) some = refl
+
+some-asked : (cell : ℕ → Cell) (taken : List ℕ) → 0 < length taken → (facts (reverse (normals cell taken))).empty ≡ false
+unfolding facts
+some-asked cell taken some =
+    let same : length (reverse (normals cell taken)) ≡ length taken =
+    length-reverse (normals cell taken) ∙ length-map (map cell taken) normal ∙ length-map taken cell in
+    some-side (reverse (normals cell taken)) (omega arith)
+
+-- a row knows of some scalar
+pub record KnowsSome (cell : ℕ → Cell) (row : ℕ) : Type 0 where
+  pub taken : List ℕ
+  pub some : 0 < length taken
+  pub knows : KnowsTaken cell row taken
+
+knows-some : (rules : Profile) (cell : ℕ → Cell) (text : List ℕ) (passed : List Decoded) (found : NextBreak) → StandsAt rules cell text passed found
+    → found.at ≤ length text → 0 < length passed → KnowsSome cell found.row
+knows-some rules cell text passed found stands within some =
+    ⊎_elim (λ (past : length text ≤ found.at). (let k : KnowsSome cell found.row = record {
+      taken = scalars_of passed;
+      some = omega (arith, some, length-map passed (λ (q : Decoded). or_replacement q.char));
+      knows = stands.at_end (omega arith);
+    } in k))
+    (λ (inside : found.at < length text).
+    let b = stands.inside inside in
+    let k : KnowsSome cell found.row = record {
+      taken = scalars_of (passed ++ b.piece ∷ []);
+      some = omega (arith, length-map (passed ++ b.piece ∷ []) (λ (q : Decoded). or_replacement q.char), length-append passed (b.piece ∷ []));
+      knows = b.knows;
+    } in k)
+    (order found.at (length text))
+
+same-next : (next first : NextBreak) → (first.at ≡ next.at) × (first.shown ≡ next.shown) × (first.row ≡ next.row) → next_shown next ≡ next_shown first
+same-next next first same =
+    ap₂ (λ (n v : ℕ). (let e : Next = record { found = break_by n (verdict_shown v); asked = left_at next.row } in e)) (sym same.0) (sym same.1)
+    ∙ ap (λ r. (let e : Next = record { found = break_by first.at (verdict_shown first.shown); asked = left_at r } in e)) (sym same.2)
+
+-- two breaks that are shown alike are the same
+module _ (rules : Profile) (cell : ℕ → Cell) (text : List ℕ) (xs ys : List Decoded) (one other : NextBreak)
+    (here : StandsAt rules cell text xs one) (there : StandsAt rules cell text ys other) where
+  pub alike-same : KnowsSome cell one.row → IsPlace one.row → IsPlace other.row → IsShown one.shown → IsShown other.shown → next_shown one ≡ next_shown other
+      → (one.at ≡ other.at) × (one.shown ≡ other.shown) × (one.row ≡ other.row)
+  alike-same known place place' shown shown' same =
+      let asked : left_at one.row ≡ left_at other.row = ap (λ (n : Next). n.asked) same in (
+        ap (λ (n : Next). n.found.at) same,
+        same-shown one.shown other.shown shown shown' (λ i. record { kind = (same i).found.kind; rule = (same i).found.rule }),
+        rows-apart one.row other.row place place' (ap (λ (l : Left). l.empty) known.knows.1 ∙ some-asked cell known.taken known.some) asked,
+      )
+
+  -- what comes from them on is the same
+  pub onward-same : one.at ≤ length text → one.at ≡ other.at → one.shown ≡ other.shown → one.row ≡ other.row
+      → onward rules cell (scalars_of xs) one.at (pieces (drop one.at text)) ≡ onward rules cell (scalars_of ys) other.at (pieces (drop other.at text))
+  onward-same within at_same shown_same row_same =
+      ⊎_elim (λ (past : length text ≤ one.at).
+      let left = here.at_end (omega arith) in
+      let right = there.at_end (omega arith) in
+      onward-alike rules cell (scalars_of xs) (scalars_of ys) one.at (pieces (drop one.at text)) (sym left.1 ∙ ap left_at row_same ∙ right.1)
+      ∙ ap (λ n. onward rules cell (scalars_of ys) n (pieces (drop n text))) at_same)
+      (λ (inside : one.at < length text).
+      let left = here.inside inside in
+      let right = there.inside (omega arith) in
+      let begins : left.piece ∷ pieces (drop one.behind text) ≡ right.piece ∷ pieces (drop other.behind text) =
+      sym left.begins ∙ ap (λ n. pieces (drop n text)) at_same ∙ right.begins in
+      let same_piece : left.piece ≡ right.piece = (let b : left.piece ∷ pieces (drop one.behind text) ≡ right.piece ∷ pieces (drop other.behind text) = begins in cc) in
+      let same_after : pieces (drop one.behind text) ≡ pieces (drop other.behind text) =
+      (let b : left.piece ∷ pieces (drop one.behind text) ≡ right.piece ∷ pieces (drop other.behind text) = begins in cc) in
+      let verdict : verdict_at rules cell xs (left.piece ∷ pieces (drop one.behind text)) ≡ verdict_at rules cell ys (right.piece ∷ pieces (drop other.behind text)) =
+      sym left.decides ∙ ap verdict_shown shown_same ∙ right.decides in
+      let known : facts (reverse (normals cell (scalars_of (xs ++ left.piece ∷ [])))) ≡ facts (reverse (normals cell (scalars_of (ys ++ right.piece ∷ [])))) =
+      sym left.knows.1 ∙ ap left_at row_same ∙ right.knows.1 in
+      let next : one.at + left.piece.size ≡ other.at + right.piece.size = ap₂ (λ (n : ℕ) (p : Decoded). n + p.size) at_same same_piece in
+      ap (λ l. onward rules cell (scalars_of xs) one.at l) left.begins
+      ∙ onward-more rules cell xs one.at left.piece (pieces (drop one.behind text))
+      ∙ ap₂ (λ (n : ℕ) (v : Verdict). with_break n v (onward rules cell (scalars_of (xs ++ left.piece ∷ [])) (one.at + left.piece.size) (pieces (drop one.behind text)))) at_same verdict
+      ∙ ap (λ l. with_break other.at (verdict_at rules cell ys (right.piece ∷ pieces (drop other.behind text))) l)
+      (onward-alike rules cell (scalars_of (xs ++ left.piece ∷ [])) (scalars_of (ys ++ right.piece ∷ [])) (one.at + left.piece.size) (pieces (drop one.behind text)) known
+      ∙ ap₂ (λ (n : ℕ) (l : List Decoded). onward rules cell (scalars_of (ys ++ right.piece ∷ [])) n l) next same_after)
+      ∙ sym (onward-more rules cell ys other.at right.piece (pieces (drop other.behind text)))
+      ∙ sym (ap (λ l. onward rules cell (scalars_of ys) other.at l) right.begins))
+      (order one.at (length text))
+
+-- From a cut on
+
+-- a call has come to a break, and this is the last before it that begins alike, if none does from the break on
+pub record Walks (rules : Profile) (cell : ℕ → Cell) (text : List ℕ) (cut safe : ℕ) (here : NextBreak) : Type 0 where
+  pub passed : List Decoded
+  pub joined : passed ++ pieces (drop here.at text) ≡ pieces (drop cut text)
+  pub front : List Break
+  pub goes : onward rules cell [] cut (pieces (drop cut text)) ≡ front ++ onward rules cell (scalars_of passed) here.at (pieces (drop here.at text))
+  pub stands : StandsAt rules cell text passed here
+  pub safe_from : IsSafeFrom rules cell text cut safe
+  pub last : NoneAlike rules cell passed here.at (pieces (drop here.at text)) → IsLastFrom rules cell text cut safe
+
+-- what begins at a byte of a text
+begins-some : (text : List ℕ) (at : ℕ) → at < length text → pieces (drop at text) ≡ decoded (drop at text) ∷ pieces (drop (decoded (drop at text)).size (drop at text))
+begins-some text at inside = pieces-step (drop at text) (omega (arith, length-drop at text))
+
+pub walks-start : (rules : Profile) (cell : ℕ → Cell) (text : List ℕ) (cut : ℕ) (here : NextBreak) → cut < length text → FindsNext rules cell text [] cut here
+    → Walks rules cell text cut cut here
+walks-start rules cell text cut here inside f =
+    let p = decoded (drop cut text) in
+    let after = pieces (drop p.size (drop cut text)) in
+    let begins = begins-some text cut inside in
+    record {
+      passed = f.passed;
+      joined = f.joined;
+      front = [];
+      goes = f.breaks;
+      stands = f.stands;
+      safe_from = ([], refl);
+      last = λ none. record {
+        before = [];
+        piece = p;
+        after = after;
+        splits = begins;
+        begins = begins;
+        alike = inl refl;
+        last = (subst (λ l. NoneAlike rules cell [] cut l) begins (f.none none)).1;
+      };
+    }
+
+module _ (rules : Profile) (cell : ℕ → Cell) (text : List ℕ) (cut safe : ℕ) (here next first : NextBreak) (w : Walks rules cell text cut safe here) (inside : here.at < length text) where
+  abbrev there : StandsBefore rules cell text w.passed here
+  there = w.stands.inside inside
+
+  abbrev with_here : List Decoded
+  with_here = w.passed ++ there.piece ∷ []
+
+  abbrev rest : List Decoded
+  rest = pieces (drop here.behind text)
+
+  module _ (n : FindsNext rules cell text with_here here.behind next) (f : FindsNext rules cell text [] here.at first) where
+    breaks-here : is_no (verdict_at rules cell w.passed (there.piece ∷ rest)).kind ≡ false
+    breaks-here = sym (ap (λ v. is_no v.kind) there.decides) ∙ there.breaks
+
+    -- the break here, and those behind it
+    onward-here : onward rules cell (scalars_of w.passed) here.at (pieces (drop here.at text))
+        ≡ break_by here.at (verdict_at rules cell w.passed (there.piece ∷ rest)) ∷ onward rules cell (scalars_of with_here) here.behind rest
+    onward-here = ap (λ l. onward rules cell (scalars_of w.passed) here.at l) there.begins
+        ∙ onward-some rules cell w.passed here.at there.piece rest breaks-here
+        ∙ ap (λ k. break_by here.at (verdict_at rules cell w.passed (there.piece ∷ rest)) ∷ onward rules cell (scalars_of with_here) k rest) (sym there.sized)
+
+    abbrev front_here : List Break
+    front_here = w.front ++ break_by here.at (verdict_at rules cell w.passed (there.piece ∷ rest)) ∷ []
+
+    goes-here : onward rules cell [] cut (pieces (drop cut text)) ≡ front_here ++ onward rules cell (scalars_of with_here) here.behind rest
+    goes-here = w.goes ∙ ap (λ l. w.front ++ l) onward-here
+        ∙ sym (append_assoc w.front (break_by here.at (verdict_at rules cell w.passed (there.piece ∷ rest)) ∷ []) (onward rules cell (scalars_of with_here) here.behind rest))
+
+    joined-next : n.passed ++ pieces (drop next.at text) ≡ pieces (drop cut text)
+    joined-next = n.joined ∙ append_assoc w.passed (there.piece ∷ []) rest ∙ ap (λ l. w.passed ++ l) (sym there.begins) ∙ w.joined
+
+    goes-next : onward rules cell [] cut (pieces (drop cut text)) ≡ front_here ++ onward rules cell (scalars_of n.passed) next.at (pieces (drop next.at text))
+    goes-next = goes-here ∙ ap (λ l. front_here ++ l) n.breaks
+
+    none-behind : NoneAlike rules cell n.passed next.at (pieces (drop next.at text)) → NoneAlike rules cell with_here (here.at + there.piece.size) rest
+    none-behind none = subst (λ k. NoneAlike rules cell with_here k rest) there.sized (n.none none)
+
+    next-here : next_from rules cell with_here (here.at + there.piece.size) rest ≡ next_shown next
+    next-here = ap (λ k. next_from rules cell with_here k rest) (sym there.sized) ∙ n.next
+
+    first-here : next_from rules cell [] here.at (there.piece ∷ rest) ≡ next_shown first
+    first-here = ap (λ l. next_from rules cell [] here.at l) (sym there.begins) ∙ f.next
+
+    module _ (within : next.at ≤ length text) where
+      pub walks-on : IsPlace next.row → IsPlace first.row → IsShown next.shown → IsShown first.shown
+          → ¬ ((first.at ≡ next.at) × (first.shown ≡ next.shown) × (first.row ≡ next.row)) → Walks rules cell text cut safe next
+      walks-on place place' shown shown' differs = record {
+        passed = n.passed;
+        joined = joined-next;
+        front = front_here;
+        goes = goes-next;
+        stands = n.stands;
+        safe_from = w.safe_from;
+        last = λ none. w.last (subst (λ l. NoneAlike rules cell w.passed here.at l) (sym there.begins) (
+          λ (alike : BeginsAlike rules cell w.passed here.at there.piece rest).
+              (let s = alike-same rules cell text n.passed f.passed next first n.stands f.stands (knows-some rules cell text n.passed next n.stands within (omega (arith, n.kept, length-append w.passed (there.piece ∷ []))))
+              place place' shown shown' (sym next-here ∙ alike.1 ∙ first-here) in
+              differs (sym s.0, sym s.1, sym s.2)),
+          none-behind none,
+        ));
+      }
+
+      pub walks-from : (first.at ≡ next.at) × (first.shown ≡ next.shown) × (first.row ≡ next.row) → Walks rules cell text cut here.at next
+      walks-from same =
+          record {
+            passed = n.passed;
+            joined = joined-next;
+            front = front_here;
+            goes = goes-next;
+            stands = n.stands;
+            safe_from = (
+              front_here,
+              goes-here ∙ ap (λ l. front_here ++ l)
+                  (n.breaks ∙ onward-same rules cell text n.passed f.passed next first n.stands f.stands within (sym same.0) (sym same.1) (sym same.2) ∙ sym f.breaks),
+            );
+            last = λ none. record {
+              before = w.passed;
+              piece = there.piece;
+              after = rest;
+              splits = sym w.joined ∙ ap (λ l. w.passed ++ l) there.begins;
+              begins = there.begins;
+              alike = inr (breaks-here, next-here ∙ same-next next first same ∙ sym first-here);
+              last = none-behind none;
+            };
+          }
+
+pub walks-end : (rules : Profile) (cell : ℕ → Cell) (text : List ℕ) (cut safe : ℕ) (here : NextBreak) → Walks rules cell text cut safe here → length text ≤ here.at → IsLastFrom rules cell text cut safe
+walks-end rules cell text cut safe here w past =
+    let none_left : pieces (drop here.at text) ≡ [] = ap pieces (drop_all here.at text past) ∙ pieces-none in
+    w.last (subst (λ l. NoneAlike rules cell w.passed here.at l) (sym none_left) tt)
+
+-- the breaks of the text end with those from a cut on, and these with those of the text that begins at a byte
+pub safe-behind : (rules : Profile) (cell : ℕ → Cell) (text : List ℕ) (cut place : ℕ) → IsSafeBreak rules cell text cut → IsSafeFrom rules cell text cut place → IsSafeBreak rules cell text place
+safe-behind rules cell text cut place begins goes = (
+  begins.0 ++ goes.0,
+  begins.1 ∙ ap (λ l. begins.0 ++ l) (part-onward false rules cell cut (drop cut text) ∙ goes.1 ∙ ap (λ l. goes.0 ++ l) (sym (part-onward false rules cell place (drop place text))))
+      ∙ sym (append_assoc begins.0 goes.0 (map (moved place) (breaks_of_bytes rules cell (drop place text)))),
+)
+
+-- a number names one profile
+pub same-rules : (one other : Profile) (number : ℕ) → profile_numbered number ≡ Some one → number ≡ profile_number other → one ≡ other
+same-rules one other number is named =
+    let both : Some one ≡ Some other = sym is ∙ ap profile_numbered named ∙ profile-same other in
+    cc
+
+-- the first row knows of nothing
+pub knows-none : (cell : ℕ → Cell) → KnowsTaken cell 0 (scalars_of [])
+knows-none cell = ((refl, lit< tt), left-start)
 
 pub behind-cut : (cell : ℕ → Cell) (text : List ℕ) (at cut place : ℕ) → IsCutBefore cell text at cut → IsSafeCut cell text place → place < length text → place ≤ at → place ≤ cut
 behind-cut cell text at cut place before safe inside low =

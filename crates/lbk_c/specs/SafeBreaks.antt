@@ -1,10 +1,23 @@
 -- Where the rest of a text may be decided by itself.
-use Rattle.std.specs.Prelude.{◌≡◌, ℕ, ◌++◌, List, drop, map}
+use Rattle.std.specs.Prelude.{◌≡◌, ℕ, ◌+◌, ◌-◌, ◌<◌, ◌≤◌, ◌⊎◌, ◌++◌, false, List, [], ◌∷◌, drop, if◌then◌else◌, length, map, reverse}
+use Rattle.bstr.specs.Utf8.{Decoded, pieces}
 use Rattle.lbk_rules.specs.declared.Break.{Break}
 use Rattle.lbk_rules.specs.declared.Cell.{Cell}
-use Rattle.lbk_rules.specs.Joins.{moved}
+use Rattle.lbk_rules.specs.declared.Left.{Left}
+use Rattle.lbk_rules.specs.declared.Verdict.{Verdict}
 use Rattle.lbk_values.specs.declared.profile.Profile.{Profile}
+use Rattle.lbk_rules.specs.Breaks.{break_by, is_no}
+use Rattle.lbk_rules.specs.Ends.{end_of_text}
+use Rattle.lbk_rules.specs.Facts.{facts}
+use Rattle.lbk_rules.specs.FlatTable.{KnowsTaken}
+use Rattle.lbk_rules.specs.Joins.{moved}
+use Rattle.lbk_rules.specs.Normal.{normals}
+use Rattle.lbk_rules.specs.Rows.{left_at, verdict_shown}
+use Rattle.lbk_rules.specs.Verdict.{verdict_between_in}
 use Rattle.lbk_bytes.specs.Bytes.{breaks_of_bytes}
+use Rattle.lbk_bytes.specs.Reached.{onward, scalars_of}
+use Rattle.lbk_streams.specs.Cuts.{IsCutBefore}
+use Rattle.lbk_c.specs.declared.safe_breaks.NextBreak.{NextBreak}
 
 -- the last breaks of a text are those of the text that begins at this byte, moved by the bytes before it
 abbrev pub IsSafeBreak : Profile → (ℕ → Cell) → List ℕ → ℕ → Type 0
@@ -12,3 +25,85 @@ IsSafeBreak profile cell text place =
     (front : List Break)
     × (breaks_of_bytes profile cell text
     ≡ front ++ map (moved place) (breaks_of_bytes profile cell (drop place text)))
+
+-- a break, and what the rules ask about the scalars up to the one behind it
+pub record Next : Type 0 where
+  pub found : Break
+  pub asked : Left
+
+-- what the rules ask about some pieces
+abbrev pub asked_of : (ℕ → Cell) → List Decoded → Left
+asked_of cell before = facts (reverse (normals cell (scalars_of before)))
+
+-- the verdict between some pieces and those after them
+abbrev pub verdict_at : Profile → (ℕ → Cell) → List Decoded → List Decoded → Verdict
+verdict_at rules cell before after = verdict_between_in rules (map cell (scalars_of before)) (map cell (scalars_of after))
+
+-- the next break from byte `at` on, which stands between the pieces before it and those after it
+abbrev pub next_from : Profile → (ℕ → Cell) → List Decoded → ℕ → List Decoded → Next
+next_from rules cell before at [] = record { found = break_by at end_of_text; asked = asked_of cell before }
+next_from rules cell before at (p ∷ ps) =
+    if is_no (verdict_at rules cell before (p ∷ ps)).kind
+    then next_from rules cell (before ++ p ∷ []) (at + p.size) ps
+    else record { found = break_by at (verdict_at rules cell before (p ∷ ps)); asked = asked_of cell (before ++ p ∷ []) }
+
+-- a break is at byte `at`, and the text that begins there has the same next break, behind which the rules ask the same
+abbrev pub BeginsAlike : Profile → (ℕ → Cell) → List Decoded → ℕ → Decoded → List Decoded → Type 0
+BeginsAlike rules cell before at p ps =
+    (is_no (verdict_at rules cell before (p ∷ ps)).kind ≡ false)
+    × (next_from rules cell (before ++ p ∷ []) (at + p.size) ps ≡ next_from rules cell [] at (p ∷ ps))
+
+-- no break from byte `at` on begins alike
+abbrev pub NoneAlike : Profile → (ℕ → Cell) → List Decoded → ℕ → List Decoded → Type 0
+NoneAlike rules cell before at [] = Unit {0}
+NoneAlike rules cell before at (p ∷ ps) =
+    ¬ (BeginsAlike rules cell before at p ps) × NoneAlike rules cell (before ++ p ∷ []) (at + p.size) ps
+
+-- in the text from a cut on, this is the last break that begins alike, or the cut if there is none
+pub record IsLastFrom (rules : Profile) (cell : ℕ → Cell) (text : List ℕ) (cut place : ℕ) : Type 0 where
+  pub before : List Decoded
+  pub piece : Decoded
+  pub after : List Decoded
+  pub splits : pieces (drop cut text) ≡ before ++ piece ∷ after
+  pub begins : pieces (drop place text) ≡ piece ∷ after
+  pub alike : (place ≡ cut) ⊎ BeginsAlike rules cell before place piece after
+  pub last : NoneAlike rules cell (before ++ piece ∷ []) (place + piece.size) after
+
+-- the same from the last cut before the end
+abbrev pub IsLastAlike : Profile → (ℕ → Cell) → List ℕ → ℕ → Type 0
+IsLastAlike rules cell text place =
+    (cut : ℕ) × IsCutBefore cell text (length text - 1) cut × IsLastFrom rules cell text cut place
+
+-- the breaks of a text from a cut on end with those of the text that begins at this byte
+abbrev pub IsSafeFrom : Profile → (ℕ → Cell) → List ℕ → ℕ → ℕ → Type 0
+IsSafeFrom rules cell text cut place =
+    (front : List Break)
+    × (onward rules cell [] cut (pieces (drop cut text)) ≡ front ++ onward rules cell [] place (pieces (drop place text)))
+
+-- before the end, a scalar is behind the break, and the row knows of it too
+pub record StandsBefore (rules : Profile) (cell : ℕ → Cell) (text : List ℕ) (before : List Decoded) (found : NextBreak) : Type 0 where
+  pub piece : Decoded
+  pub begins : pieces (drop found.at text) ≡ piece ∷ pieces (drop found.behind text)
+  pub sized : found.behind ≡ found.at + piece.size
+  pub decides : verdict_shown found.shown ≡ verdict_at rules cell before (piece ∷ pieces (drop found.behind text))
+  pub breaks : is_no (verdict_shown found.shown).kind ≡ false
+  pub knows : KnowsTaken cell found.row (scalars_of (before ++ piece ∷ []))
+
+-- what is known of a break before which these pieces are
+pub record StandsAt (rules : Profile) (cell : ℕ → Cell) (text : List ℕ) (before : List Decoded) (found : NextBreak) : Type 0 where
+  pub inside : found.at < length text → StandsBefore rules cell text before found
+  pub at_end : found.at ≡ length text → KnowsTaken cell found.row (scalars_of before)
+
+-- from byte `from` on, before which these pieces are, it is the next break, and none before it begins alike
+pub record FindsNext (rules : Profile) (cell : ℕ → Cell) (text : List ℕ) (before : List Decoded) (from : ℕ) (found : NextBreak)
+    : Type 0 where
+  pub passed : List Decoded
+  pub kept : length before ≤ length passed
+  pub joined : passed ++ pieces (drop found.at text) ≡ before ++ pieces (drop from text)
+  pub next : next_from rules cell before from (pieces (drop from text))
+      ≡ record { found = break_by found.at (verdict_shown found.shown); asked = left_at found.row }
+  pub breaks : onward rules cell (scalars_of before) from (pieces (drop from text))
+      ≡ onward rules cell (scalars_of passed) found.at (pieces (drop found.at text))
+  pub none : NoneAlike rules cell passed found.at (pieces (drop found.at text))
+      → NoneAlike rules cell before from (pieces (drop from text))
+  pub stands : StandsAt rules cell text passed found

@@ -1,111 +1,113 @@
 //! Where the rest of a text can be broken alone.
 
-ghost use Rattle.std.specs.Prelude.{◌≡◌, ◌∷◌, [], ℕ, ◌<◌, ◌≤◌, true, List, MatchOption, IfSome, drop, length, map};
-ghost use Rattle.lbk_calls.specs.Terms.{Break, Cell, IsFlatOf, Profile, breaks_of_bytes, moved, shown};
-ghost use Rattle.lbk_calls.specs.Coming.{Comes};
+ghost use Rattle.std.specs.Prelude.{◌≡◌, ℕ, ◌<◌, ◌≤◌, ◌↔◌, List, true, length};
+ghost use Rattle.lbk_calls.specs.Terms.{Cell, Decoded, IsFlatOf, IsPlace, Profile};
 ghost use Rattle.lbk_calls.specs.State.{profile_number};
+ghost use Rattle.lbk_rules.specs.Rows.{IsShown};
+ghost use Rattle.lbk_rules.specs.FlatTable.{KnowsTaken};
+ghost use Rattle.lbk_bytes.specs.Reached.{scalars_of};
 ghost use Rattle.lbk_streams.specs.Cuts.{IsSafeCut};
-ghost use Rattle.lbk_c.specs.SafeBreaks.{IsSafeBreak};
+ghost use Rattle.lbk_c.specs.SafeBreaks.{FindsNext, IsLastAlike, IsLastFrom, IsSafeBreak, IsSafeFrom};
 
-use lbk_bytes::RawBreak;
-use lbk_calls::{State, give_breaks};
-use lbk_rules::FlatTable;
+use lbk_bytes::{END, decide_one, profile_numbered};
+use lbk_rules::{FlatTable, Profile, shows_break};
 use lbk_streams::cut_before;
 
 /// An offset before the end of a text such that the breaks after it are those of the text that begins there: the last
-/// break for which the next break and the state after it show this, or else the last cut. It reads the last paragraph
-/// of the text.
+/// break after the last cut for which the next break and the state after it show this, or else that cut. It reads the
+/// last paragraph of the text. If the number names no profile, it is the cut.
 #[unsafe(no_mangle)]
 pub extern "C" fn lbk_safe_break(table: &FlatTable, profile: u8, text: &[u8]) -> usize
     ensures within { result ≤ length text.now }
     ensures before_end { 0 < length text.now → result < length text.now }
     ensures safe { (cell : ℕ → Cell) (rules : Profile) → IsFlatOf table.now cell → profile ≡ profile_number rules
         → IsSafeBreak rules cell text.now result }
+    ensures last { (cell : ℕ → Cell) (rules : Profile) → IsFlatOf table.now cell → profile ≡ profile_number rules
+        → 0 < length text.now → IsLastAlike rules cell text.now result }
     ensures behind_cuts { (cell : ℕ → Cell) (place : ℕ) → IsFlatOf table.now cell → IsSafeCut cell text.now place
         → place < length text.now
         → place ≤ result }
 {
-    let mut safe = cut_before(table, text, text.len().saturating_sub(1));
-    let mut state = State {
-        at: safe,
-        row: 0,
-        profile,
-        ended: 0,
-    };
-    let Some(first) = next_break(table, &mut state, text) else {
-        return safe;
-    };
-    let mut at = first.at;
-    while at < text.len() {
-        let Some(next) = next_break(table, &mut state, text) else {
-            return safe;
-        };
-        if begins_alike(table, profile, text, at, next, &state) {
-            safe = at;
+    let cut = cut_before(table, text, text.len().saturating_sub(1));
+    match profile_numbered(profile) {
+        Some(rules) => last_alike(table, rules, text, cut),
+        None => cut,
+    }
+}
+
+/// The last break after a cut that begins alike, or else the cut.
+fn last_alike(table: &FlatTable, rules: Profile, text: &[u8], cut: usize) -> usize
+    requires { (cut ≤ length text.now) × (0 < length text.now → cut < length text.now) }
+    ensures within { (cut ≤ result) × (result ≤ length text.now) }
+    ensures before_end { 0 < length text.now → result < length text.now }
+    ensures safe { (cell : ℕ → Cell) → IsFlatOf table.now cell → 0 < length text.now
+        → IsSafeFrom rules cell text.now cut result }
+    ensures last { (cell : ℕ → Cell) → IsFlatOf table.now cell → 0 < length text.now
+        → IsLastFrom rules cell text.now cut result }
+{
+    let mut safe = cut;
+    let mut here = next_break(table, rules, text, 0, cut);
+    while here.at < text.len() {
+        let next = next_break(table, rules, text, here.row, here.behind);
+        let first = next_break(table, rules, text, 0, here.at);
+        if are_same(first, next) {
+            safe = here.at;
         }
-        at = next.at;
+        here = next;
     }
     safe
 }
 
-/// Whether a text that begins at this byte has that break first, and reaches this state with it.
-fn begins_alike(
-    table: &FlatTable,
-    profile: u8,
-    text: &[u8],
+/// A break of a text.
+#[derive(Clone, Copy)]
+struct NextBreak {
+    /// The byte before which it is.
     at: usize,
-    next: RawBreak,
-    state: &State,
-) -> bool
-    requires { at ≤ length text.now }
-    ensures { result ≡ true → (cell : ℕ → Cell) (rules : Profile) (rest : List Break) → IsFlatOf table.now cell
-        → profile ≡ profile_number rules
-        → Comes cell table.now text.now state.now rest
-        → map (moved at) (breaks_of_bytes rules cell (drop at text.now)) ≡ shown next ∷ rest }
+    /// The number of its verdict.
+    shown: u16,
+    /// The place of the table's row that knows of the scalar behind it too.
+    row: usize,
+    /// The byte after that scalar.
+    behind: usize,
+}
+
+/// The next break from a byte on, by the row there.
+fn next_break(table: &FlatTable, rules: Profile, text: &[u8], row: usize, from: usize) -> NextBreak
+    requires { IsPlace row × (from ≤ length text.now) }
+    ensures within { (from ≤ result.at) × (result.at ≤ result.behind) × (result.behind ≤ length text.now) }
+    ensures forward { result.at < length text.now → result.at < result.behind }
+    ensures shown { IsPlace result.row × IsShown result.shown }
+    ensures finds { (cell : ℕ → Cell) (before : List Decoded) → IsFlatOf table.now cell
+        → KnowsTaken cell row (scalars_of before)
+        → FindsNext rules cell text.now before from result }
 {
-    let mut fresh = State {
+    let mut known = row;
+    let mut at = from;
+    while at < text.len() {
+        let decided = decide_one(table, rules, known, at, text);
+        if shows_break(decided.shown) {
+            return NextBreak {
+                at,
+                shown: decided.shown,
+                row: decided.row,
+                behind: decided.at,
+            };
+        }
+        known = decided.row;
+        at = decided.at;
+    }
+    NextBreak {
         at,
-        row: 0,
-        profile,
-        ended: 0,
-    };
-    match next_break(table, &mut fresh, text) {
-        Some(first) => are_same(first, next) && are_same_states(&fresh, state),
-        None => false,
+        shown: END,
+        row: known,
+        behind: at,
     }
 }
 
-/// The next break from a state on; the state advances to it.
-fn next_break(table: &FlatTable, state: &mut State, text: &[u8]) -> Option<RawBreak>
-    ensures comes { (cell : ℕ → Cell) (to_come : List Break) → Comes cell table.now text.now state.old to_come
-        → MatchOption result (to_come ≡ []) (λ next. (rest : List Break) × (to_come ≡ shown next ∷ rest)
-        × Comes cell table.now text.now state.new rest) }
-    ensures place { IfSome result (λ next. (state.old.at ≤ next.at) × (next.at ≤ length text.now)
-        × (state.old.ended ≡ 0) × (state.new.ended ≡ 0 → next.at < state.new.at)) }
-    ensures profile_same { state.new.profile ≡ state.old.profile }
+/// Whether two breaks are the same, and the same row knows of what is before and behind them.
+fn are_same(one: NextBreak, other: NextBreak) -> bool
+    ensures { result ≡ true
+        ↔ ((one.at ≡ other.at) × (one.shown ≡ other.shown) × (one.row ≡ other.row)) }
 {
-    let mut block = [RawBreak {
-        at: 0,
-        kind: 0,
-        rule: 0,
-    }];
-    if give_breaks::<true>(table, state, text, &mut block) == 0 {
-        return None;
-    }
-    Some(block[0])
-}
-
-fn are_same(one: RawBreak, other: RawBreak) -> bool
-    ensures { result ≡ true → one ≡ other }
-{
-    one.at == other.at && one.kind == other.kind && one.rule == other.rule
-}
-
-fn are_same_states(one: &State, other: &State) -> bool
-    ensures { result ≡ true → one.now ≡ other.now }
-{
-    one.at == other.at
-        && one.row == other.row
-        && one.profile == other.profile
-        && one.ended == other.ended
+    one.at == other.at && one.shown == other.shown && one.row == other.row
 }

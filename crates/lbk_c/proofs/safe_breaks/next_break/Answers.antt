@@ -1,14 +1,13 @@
-use Rattle.std.proofs.Common.{arith}
-use Rattle.lbk_c.proofs.SafeLemmas.{next-of, none-of}
+use Rattle.std.proofs.Common.{refl, arith}
+use Rattle.lbk_rules.specs.Ends.{end_of_text}
+use Rattle.lbk_c.proofs.SafeLemmas.{finds-end}
 use Rattle.lbk_c.proofs.safe_breaks.next_break.Goals as goal
 
-pub returns-then-give_breaks-eq0-clause-comes : goal.returns-then-give_breaks-eq0-clause-comes
-returns-then-give_breaks-eq0-clause-comes c = λ cell to_come comes.
-    let counted = (c.give_breaks.ensures.gives cell to_come comes).count in
-    none-of to_come (omega (arith, counted, c.if-give_breaks-eq0.true))
+pub returns-clause-shown : goal.returns-clause-shown
+returns-clause-shown c = (c.loop-at.invariant.place, (end_of_text, refl))
 
-pub returns-clause-comes : goal.returns-clause-comes
-returns-clause-comes c = λ cell to_come comes.
-    let g = c.give_breaks in
-    next-of cell c.args.table.now c.args.text.now g.new.state g.new.out g.result to_come (omega (arith, g.auto.out)) (g.ensures.gives cell to_come comes).count
-    (omega (arith, c.if-give_breaks-eq0.false)) (g.ensures.gives cell to_come comes).front (g.ensures.gives cell to_come comes).rest
+pub returns-clause-finds : goal.returns-clause-finds
+returns-clause-finds c = λ cell before flat knows.
+    let i = c.loop-at.invariant in
+    finds-end c.args.rules cell c.args.text.now before c.args.from c.loop-at.known c.loop-at.at (i.passes cell before flat knows)
+    (omega (arith, i.within, c.loop-at-test.false))
