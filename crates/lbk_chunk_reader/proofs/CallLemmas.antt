@@ -1,12 +1,14 @@
 -- A call that reads the next passage.
 use Rattle.std.proofs.Common.{◌≡◌, ℕ, ◌+◌, ◌<◌, ◌≤◌, ◌⊎◌, ◌^◌, ◌-◌, cond, inl, inr, not, Bool, true, false, List, []}
-use Rattle.std.proofs.Common.{length, map, Option, None, Some, Result, Ok, Err, IsUtf8, refl, sym, ap, subst, arith}
+use Rattle.std.proofs.Common.{is_some, length, map, ◌++◌, ◌||◌, ◌∙◌, if◌then◌else◌, Option, None, Some, Result, Ok, Err, IsUtf8, refl, sym, ap, subst, arith}
+use Rattle.std.proofs.Common.{length-append, true≢false}
+use Rattle.std.proofs.lemmas.Bool.{false≢true}
 use Rattle.lbk_feed.specs.Devices.{Reads}
 use Rattle.lbk_feed.specs.Text.{longest_text}
 use Rattle.lbk_chunks.specs.Coming.{AreBreaksPast}
 use Rattle.lbk_passage.specs.Laws.{break_at}
 use Rattle.lbk_passage.specs.Marks.{Marked, text_of}
-use Rattle.lbk_passage.specs.Next.{AfterNext, IsPassage, Lends}
+use Rattle.lbk_passage.specs.Next.{AfterNext, IsPassage, Lends, ends_run, fault_in, lent_text}
 use Rattle.lbk_passage.specs.Segments.{segments_of}
 use Rattle.lbk_passage.specs.State.{State}
 use Rattle.lbk_passage.specs.declared.faults.PassageFault.{PassageFault}
@@ -14,7 +16,7 @@ use Rattle.lbk_passage.specs.declared.passage.Passage.{Passage}
 use Rattle.lbk_chunk_reader.specs.PassageWords.{words_in_pieces}
 use Rattle.lbk_chunk_reader.specs.declared.window.Window.{Window}
 use Rattle.lbk_chunk_reader.specs.Pieces.{AreJoined, IsRegular}
-use Rattle.lbk_chunk_reader.specs.Reader.{Goes, IsStopped, Progresses}
+use Rattle.lbk_chunk_reader.specs.Reader.{Goes, IsStopped, Progresses, ReadsEach}
 use Rattle.lbk_chunk_reader.specs.Standing.{Stands, view_with}
 use Rattle.lbk_chunk_reader.specs.Taking.{Takes, TakesNext}
 use Rattle.lbk_chunk_reader.specs.Window.{IsTaken}
@@ -104,6 +106,50 @@ module _ (s t : State) (u v : Option (List ℕ)) (e1 e2 : Bool) (r1 r2 : Reads) 
           subst (λ x. IsStopped (view_with w s) (view_with x t) u v false why) (sym takes.1)
           (subst (IsStopped (view_with w s) (view_with w t) u v false) (let same : f ≡ why = cc in same)
           (goes-stopped s t u v e1 e2 r1 r2 w f a st.unspent))
+
+-- The reads of a call
+
+each-read : (stops ends was : Bool) (made made' from held to held' : ℕ)
+    → (was ≡ true → (made' ≡ made) × (from + held ≡ to + held') × (ends ≡ true))
+    → made' + (from + held) ≤ made + (to + held') + 1
+    → (stops ≡ false → ends ≡ false → made' + (from + held) ≤ made + (to + held'))
+    → made' + (from + held) + (if stops || ends then 0 else 1) ≤ made + (to + held') + (if was then 0 else 1)
+each-read true ends false made made' from held to held' quiet one each = omega (arith, one)
+each-read false true false made made' from held to held' quiet one each = omega (arith, one)
+each-read false false false made made' from held to held' quiet one each = omega (arith, each refl refl)
+each-read true ends true made made' from held to held' quiet one each = omega (arith, (quiet refl).0, (quiet refl).1)
+each-read false true true made made' from held to held' quiet one each = omega (arith, (quiet refl).0, (quiet refl).1)
+each-read false false true made made' from held to held' quiet one each = absurd (false≢true (quiet refl).2)
+
+pub reads-each : (s t : State) (u v : Option (List ℕ)) (e1 e2 : Bool) (r1 r2 : Reads) (f1 f2 : ℕ) (w w' : Window)
+    (r : Result Bool PassageFault) → TakesNext s t u v e1 e2 r1 r2 f1 f2 w w' r
+    → ReadsEach s t (is_some (fault_in r)) r1.count r2.count
+reads-each s t u v e1 e2 r1 r2 f1 f2 w w' r k =
+    each-read (is_some (fault_in r)) t.is_ended s.is_ended r1.count r2.count s.start (length s.held) t.start
+    (length t.held)
+    (λ ended. (let q = k.after.quiet ended in (
+      ap (λ (n : Reads). n.count) q.2,
+      omega (arith, start, size, ap length q.0),
+      q.1,
+    )))
+    (omega (arith, k.after.costs.but_one, start, size))
+    (λ goes unended. omega (arith, k.after.costs.each_gave (goes-on k.lent r k.takes goes unended), start, size))
+  where
+    start : t.start ≡ s.start + length (lent_text k.lent)
+    start = k.after.start
+
+    size : length (lent_text k.lent ++ t.held) ≡ length (lent_text k.lent) + length t.held
+    size = length-append (lent_text k.lent) t.held
+
+    goes-on : (lent : Result (Option Passage) PassageFault) (r : Result Bool PassageFault) → Takes lent w w' r
+        → is_some (fault_in r) ≡ false → t.is_ended ≡ false → (ends_run (fault_in lent) || t.is_ended) ≡ false
+    goes-on (Ok p) r takes goes unended = unended
+    goes-on (Err why) r takes goes unended = absurd (true≢false (sym (ap (λ x. is_some (fault_in x)) takes.0) ∙ goes))
+
+-- one call after another
+pub reads-then : (a b c : State) (stops : Bool) (m n k : ℕ) → ReadsEach a b false m n → ReadsEach b c stops n k
+    → ReadsEach a c stops m k
+reads-then a b c stops m n k first second = omega (arith, first, second)
 
 -- a call makes the measure of a run smaller
 pub progress : (old new : ℕ) (was is : Bool) → was ≡ false → ((is ≡ true) × (new ≡ old))

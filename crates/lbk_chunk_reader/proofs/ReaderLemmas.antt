@@ -418,6 +418,21 @@ pub none-come : (s : State) (w : Window) → cuts_past w.here.told (cuts_in w) �
 unfolding passages
 none-come s w none = ap (cuts_past w.here.told) (append-nil (cuts_in w)) ∙ none
 
+pub come-none : (s : State) (w : Window) → ChunksCome (view_with w s) [] [] → cuts_past w.here.told (cuts_in w) ≡ []
+unfolding passages
+come-none s w over = ap (cuts_past w.here.told) (sym (append-nil (cuts_in w))) ∙ over
+
+-- then no chunk is next
+pub none-next : (s : State) (w w' : Window) (is_whole : Bool) → Stands w s is_whole → (chunk : Chunk)
+    → ((more : List Cut) → (is_whole ≡ true → more ≡ []) → AreCutsPast w.here.start (cuts_in w ++ more)
+    → IsNextChunk w.limits w.here (cuts_in w ++ more) chunk w'.here (cuts_in w' ++ more))
+    → cuts_past w.here.told (cuts_in w) ≡ [] → ⊥
+none-next s w w' is_whole st chunk next none =
+    let n = next [] (λ _. refl) (between-past w.here.start (cuts_in w) s.start [] st.between tt) in
+    let some : [] ≡ n.first ∷ n.more = sym none ∙ ap (cuts_past w.here.told) (sym (append-nil (cuts_in w))) ∙ n.are in
+    let no : ⊥ = cc in
+    no
+
 -- so far it went to a window that is still the same
 pub goes-same : (a : View) (w w' : Window) (s : State) (u v : Option (List ℕ)) → w' ≡ w
     → Goes a (view_with w s) false u v [] → Goes a (view_with w' s) false u v []

@@ -1,6 +1,6 @@
 -- What a chunker shows, and what a call returns.
-use Rattle.std.specs.Prelude.{◌≡◌, ◌⊎◌, ℕ, ◌<◌, ◌≤◌, Bool, true, false, List, [], ◌∷◌, ◌++◌, Option, None, Some, Result}
-use Rattle.std.specs.Prelude.{Ok, Err, encode_utf8_all}
+use Rattle.std.specs.Prelude.{◌≡◌, ◌⊎◌, ℕ, ◌+◌, ◌<◌, ◌≤◌, Bool, true, false, ◌||◌, List, [], ◌∷◌, ◌++◌, Option, None, Some, Result}
+use Rattle.std.specs.Prelude.{Ok, Err, encode_utf8_all, if◌then◌else◌, length}
 use Rattle.std.specs.Str.{IsUtf8}
 use Rattle.lbk_feed.specs.Runs.{Took}
 use Rattle.lbk_feed.specs.Text.{longest_text}
@@ -77,13 +77,22 @@ IsStopped old new unread unread' was_spent Spent = was_spent ≡ true
 IsStopped old new unread unread' was_spent Read = Goes old new true unread unread' [] × Stops new.passages Read
 IsStopped old new unread unread' was_spent fault = Goes old new false unread unread' [] × Stops new.passages fault
 
+-- all chunks were returned
+abbrev pub IsOver : View → Type 0
+IsOver v = IsDone v.passages × ChunksCome v [] []
+
+-- each read gave a byte, but the one that met the end; where a call stops, one read may have failed
+abbrev pub ReadsEach : State → State → Bool → ℕ → ℕ → Type 0
+ReadsEach old new stops made made' =
+    made' + (old.start + length old.held) + (if stops || new.is_ended then 0 else 1)
+    ≤ made + (new.start + length new.held) + (if old.is_ended then 0 else 1)
+
 -- what a call returns: the next chunk; none if all were returned; or a fault
 abbrev pub Answers : View → View → Option (List ℕ) → Option (List ℕ) → Bool → Result (Option given.Chunk) PassageFault
     → Type 0
 Answers old new unread unread' was_spent (Ok (Some chunk)) =
     Goes old new false unread unread' (numbered_chunk chunk ∷ [])
-Answers old new unread unread' was_spent (Ok None) = Goes old new false unread unread' [] × IsDone new.passages
-    × ChunksCome new [] []
+Answers old new unread unread' was_spent (Ok None) = Goes old new false unread unread' [] × IsOver new
 Answers old new unread unread' was_spent (Err fault) = IsStopped old new unread unread' was_spent fault
 
 -- a passage was read, or the last one was

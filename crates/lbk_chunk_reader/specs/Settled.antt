@@ -7,6 +7,7 @@ use Rattle.lbk_chunks.specs.declared.cut.Cut.{Cut}
 use Rattle.lbk_chunks.specs.declared.chunk.Here.{Here}
 use Rattle.lbk_chunks.specs.Chunks.{AreChunks, cuts_past, end_of, fits, text_start}
 use Rattle.lbk_chunks.specs.Cuts.{AreCutsPast}
+use Rattle.lbk_chunk_reader.specs.Reader.{View}
 
 -- none of some cuts is past the end of the chunk from here on, given the cuts ahead of it
 abbrev pub EndsLast : Limits → Here → List Cut → List Cut → Type 0
@@ -17,6 +18,10 @@ EndsLast l here cuts (first ∷ more) = cuts_past (end_of l here first more).at 
 abbrev pub IsOpen : Limits → Here → List Cut → Type 0
 IsOpen l here cuts = (list_all (fits l here) (cuts_past here.told cuts) ≡ true)
     ⊎ EndsLast l here cuts (cuts_past here.told cuts)
+
+-- so do the cuts that are held
+abbrev pub IsUnsettled : View → Type 0
+IsUnsettled v = IsOpen v.limits v.here v.cuts
 
 -- with these cuts the chunks from one start on are these, and then those from another start on, with these cuts left
 pub record GoOn (l : Limits) (here : Here) (cuts : List Cut) (chunks : List Chunk) (next : Here) (left : List Cut) :

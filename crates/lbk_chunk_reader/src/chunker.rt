@@ -1,6 +1,6 @@
 //! The chunks of a text, one after another.
 
-ghost use Rattle.std.specs.Prelude.{◌≡◌, ◌≤◌, ◌↔◌, ◌⊎◌, false, true, Ok, None, Err, IfErr, IfOk, IsErrOf, OnErr, OnOk};
+ghost use Rattle.std.specs.Prelude.{◌≡◌, ◌≤◌, ◌↔◌, ◌⊎◌, false, true, Ok, None, Err, IfErr, IfOk, IsErrOf, OnErr, OnOk, is_some};
 ghost use Rattle.std.proofs.Props.{props};
 ghost use Rattle.lbk_chunks.specs.Chunks.{are_limits};
 ghost use Rattle.lbk_passage.specs.Shown.{state_of};
@@ -31,7 +31,9 @@ pub struct Chunker<'a, C: CellSource> {
 
 impl<'a, C: CellSource> Chunker<'a, C> {
     ghost use Rattle.lbk_passage.specs.State.{IsLimit};
-    ghost use Rattle.lbk_chunk_reader.specs.Reader.{Answers, ReadsOn, new_view};
+    ghost use Rattle.lbk_passage.specs.Next.{IsDone, failures_with, fault_in};
+    ghost use Rattle.lbk_chunk_reader.specs.Reader.{Answers, IsOver, ReadsEach, ReadsOn, new_view};
+    ghost use Rattle.lbk_chunk_reader.specs.Settled.{IsUnsettled};
     ghost use Rattle.lbk_chunk_reader.specs.Shown.{is_spent, view_of};
 
     /// A chunker that has read nothing, for chunks within these limits. It reserves room for the `limit` bytes of one
@@ -70,17 +72,26 @@ impl<'a, C: CellSource> Chunker<'a, C> {
         }
     }
 
-    /// The next chunk, or `None` once all were returned.
+    /// The next chunk, or `None` once all were returned and from then on.
     ///
-    /// Returns it once a cut is known that no longer fits, or the end of the text was read. Returns a fault of the
-    /// reader or of the text as `Segmenter` does, after all chunks that were settled before it. After an error each
-    /// later call returns `Spent`.
+    /// Returns it once a cut is known that no longer fits, or the end of the text was read; until then it reads. Each
+    /// read gives a byte, but the one that meets the end or fails. Returns a fault of the reader or of the text as
+    /// `Segmenter` does, after all chunks that were settled before it. After an error each later call returns `Spent`.
     pub fn next<R: Source>(&mut self, reader: &mut R) -> Result<Option<Chunk>, PassageFault>
         ensures answer { Answers (view_of C.cell_of self.old) (view_of C.cell_of self.new) (R.unread reader.old)
             (R.unread reader.new) (is_spent self.old) result }
         ensures spent { is_spent self.old ≡ true → (result ≡ Err PassageFault.Spent) × (reader.new ≡ reader.old) }
         ensures unspent { OnOk result (is_spent self.new ≡ false) }
         ensures stopped { OnErr result (is_spent self.new ≡ true) }
+        // `Read` is returned exactly where a read failed.
+        ensures failures { R.failure_count reader.new ≡ failures_with (R.failure_count reader.old) (fault_in result) }
+        // `None` stays.
+        ensures again { IsOver (view_of C.cell_of self.old) → is_spent self.old ≡ false
+            → (result ≡ Ok None) × (reader.new ≡ reader.old) }
+        // A read is made only if the cuts held settle no chunk.
+        ensures due { (reader.new ≡ reader.old) ⊎ IsUnsettled (view_of C.cell_of self.old) }
+        ensures reads { ReadsEach (view_of C.cell_of self.old).passages (view_of C.cell_of self.new).passages
+            (is_some (fault_in result)) (R.reads_made reader.old).count (R.reads_made reader.new).count }
     {
         if self.is_spent {
             return Err(PassageFault::Spent);
@@ -107,6 +118,12 @@ impl<'a, C: CellSource> Chunker<'a, C> {
         ensures stopped { OnErr result (self.new.is_spent ≡ true) }
         ensures reads { ReadsOn (view_of C.cell_of self.old) (view_of C.cell_of self.new) (R.unread reader.old)
             (R.unread reader.new) self.new.is_whole result }
+        ensures failures { R.failure_count reader.new ≡ failures_with (R.failure_count reader.old) (fault_in result) }
+        ensures again { IsDone (view_of C.cell_of self.old).passages
+            → OnErr result ⊥ × (self.new.is_whole ≡ true) × (self.new.window ≡ self.old.window)
+            × (reader.new ≡ reader.old) }
+        ensures costs { ReadsEach (view_of C.cell_of self.old).passages (view_of C.cell_of self.new).passages
+            (is_some (fault_in result)) (R.reads_made reader.old).count (R.reads_made reader.new).count }
     {
         match self.window.take_next(&mut self.segmenter, reader) {
             Ok(came) => {

@@ -41,6 +41,7 @@ impl Window {
     ghost use Rattle.lbk_chunk_reader.specs.Held.{chunk_text};
     ghost use Rattle.lbk_chunk_reader.specs.Pieces.{IsRegular};
     ghost use Rattle.lbk_chunk_reader.specs.Taking.{TakesNext};
+    ghost use Rattle.lbk_passage.specs.Next.{IsDone, failures_with, fault_in};
     ghost use Rattle.lbk_passage.specs.Shown.{state_of};
 
     /// No cuts, at the start of a text. If it keeps the text, `text_of` returns that of each chunk.
@@ -94,11 +95,17 @@ impl Window {
         segmenter: &mut Segmenter<'_, C>,
         reader: &mut R,
     ) -> Result<bool, PassageFault>
-        ensures { words_in self.old ≤ (state_of C.cell_of segmenter.old).start
+        ensures next { words_in self.old ≤ (state_of C.cell_of segmenter.old).start
             → TakesNext (state_of C.cell_of segmenter.old) (state_of C.cell_of segmenter.new) (R.unread reader.old)
             (R.unread reader.new) (R.has_ended reader.old) (R.has_ended reader.new) (R.reads_made reader.old)
             (R.reads_made reader.new) (R.failure_count reader.old) (R.failure_count reader.new) self.old self.new
             result }
+        // `Read` is returned exactly where a read failed.
+        ensures failures { R.failure_count reader.new ≡ failures_with (R.failure_count reader.old) (fault_in result) }
+        ensures again { IsDone (state_of C.cell_of segmenter.old)
+            → (state_of C.cell_of segmenter.old).is_spent ≡ false
+            → (result ≡ Ok false) × (self.new ≡ self.old) }
+        ensures ended { (state_of C.cell_of segmenter.old).is_ended ≡ true → reader.new ≡ reader.old }
     {
         let Some(passage) = segmenter.next(reader)? else {
             return Ok(false);

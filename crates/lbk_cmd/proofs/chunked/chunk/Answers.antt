@@ -43,7 +43,7 @@ Takes g c answer =
     c.loop-window.window c.take_next.new.self answer
 
 taken-in : (g : Over) (c : After-take_next g) → Takes g c c.take_next.result
-taken-in g c = c.take_next.ensures (due-in g c).cuts.chunked.stands.words
+taken-in g c = c.take_next.ensures.next (due-in g c).cuts.chunked.stands.words
 
 reads-in : (g : Over) (c : After-take_next g) → (g.R.Source.reads_made c.take_next.new.reader).count ≤ (g.R.Source.reads_made c.args.reader.now).count + (longest_text + 1)
 reads-in g c = most _ _ _ _ _ _ _ _ _ _ _ _ _ _ _ _ _ _ _ _ _ _ (due-in g c).cuts (due-in g c).wait c.take_next.result (taken-in g c)

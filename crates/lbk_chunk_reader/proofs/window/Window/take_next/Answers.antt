@@ -4,8 +4,8 @@ use Rattle.lbk_passage.specs.Shown.{state_of}
 use Rattle.lbk_chunk_reader.proofs.CallLemmas.{takes-some}
 use Rattle.lbk_chunk_reader.proofs.window.Window.take_next.Goals as goal
 
-pub returns-in-Ok : goal.returns-in-Ok
-returns-in-Ok g c = λ few.
+pub returns-in-Ok-clause-next : goal.returns-in-Ok-clause-next
+returns-in-Ok-clause-next g c = λ few.
     let was = c.in_ok-passage.was ∙ ap Ok c.in-Some.is in
     let s = state_of g.C.CellSource.cell_of c.args.segmenter.now in
     let a = subst (λ r. AfterNext s (state_of g.C.CellSource.cell_of c.next.follows.lender-at-none)
