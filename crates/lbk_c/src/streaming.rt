@@ -26,7 +26,7 @@ pub extern "C" fn lbk_feed(
 ) -> Fed
     ensures { TakesBytes table.now stream.old stream.new piece.now last (length out.old) out.new result }
 {
-    feed(table, stream, piece, last, out)
+    feed::<u8>(table, stream, piece, last, out)
 }
 
 /// Takes the next piece of a stream in UTF-16, as `lbk_feed` does for UTF-8: offsets count units of 16 bits, and a
@@ -46,5 +46,5 @@ pub extern "C" fn lbk_feed_utf16(
 ) -> Fed
     ensures { TakesUtf16 table.now stream.old stream.new piece.now last (length out.old) out.new result }
 {
-    feed(table, stream, piece, last, out)
+    feed::<u16>(table, stream, piece, last, out)
 }
