@@ -2,6 +2,7 @@ pub mod TableLemmas
 pub mod MarkLemmas
 pub mod RowsApart
 pub mod SafeLemmas
+pub mod SafeWalks
 pub mod SegmentLemmas
 pub mod DigestLemmas
 pub mod EmptyLemmas

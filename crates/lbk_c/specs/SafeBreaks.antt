@@ -1,5 +1,6 @@
 -- Where the rest of a text may be decided by itself.
-use Rattle.std.specs.Prelude.{◌≡◌, ℕ, ◌+◌, ◌-◌, ◌<◌, ◌≤◌, ◌⊎◌, ◌++◌, false, List, [], ◌∷◌, drop, if◌then◌else◌, length, map, reverse}
+use Rattle.std.specs.Prelude.{◌≡◌, ℕ, ◌+◌, ◌-◌, ◌<◌, ◌≤◌, ◌⊎◌, ◌++◌, false, List, [], ◌∷◌, drop, length, map}
+use Rattle.std.specs.Prelude.{if◌then◌else◌, reverse}
 use Rattle.bstr.specs.Utf8.{Decoded, pieces}
 use Rattle.lbk_rules.specs.declared.Break.{Break}
 use Rattle.lbk_rules.specs.declared.Cell.{Cell}
@@ -37,7 +38,8 @@ asked_of cell before = facts (reverse (normals cell (scalars_of before)))
 
 -- the verdict between some pieces and those after them
 abbrev pub verdict_at : Profile → (ℕ → Cell) → List Decoded → List Decoded → Verdict
-verdict_at rules cell before after = verdict_between_in rules (map cell (scalars_of before)) (map cell (scalars_of after))
+verdict_at rules cell before after =
+    verdict_between_in rules (map cell (scalars_of before)) (map cell (scalars_of after))
 
 -- the next break from byte `at` on, which stands between the pieces before it and those after it
 abbrev pub next_from : Profile → (ℕ → Cell) → List Decoded → ℕ → List Decoded → Next
@@ -45,7 +47,10 @@ next_from rules cell before at [] = record { found = break_by at end_of_text; as
 next_from rules cell before at (p ∷ ps) =
     if is_no (verdict_at rules cell before (p ∷ ps)).kind
     then next_from rules cell (before ++ p ∷ []) (at + p.size) ps
-    else record { found = break_by at (verdict_at rules cell before (p ∷ ps)); asked = asked_of cell (before ++ p ∷ []) }
+    else record {
+      found = break_by at (verdict_at rules cell before (p ∷ ps));
+      asked = asked_of cell (before ++ p ∷ []);
+    }
 
 -- a break is at byte `at`, and the text that begins there has the same next break, behind which the rules ask the same
 abbrev pub BeginsAlike : Profile → (ℕ → Cell) → List Decoded → ℕ → Decoded → List Decoded → Type 0
@@ -78,10 +83,12 @@ IsLastAlike rules cell text place =
 abbrev pub IsSafeFrom : Profile → (ℕ → Cell) → List ℕ → ℕ → ℕ → Type 0
 IsSafeFrom rules cell text cut place =
     (front : List Break)
-    × (onward rules cell [] cut (pieces (drop cut text)) ≡ front ++ onward rules cell [] place (pieces (drop place text)))
+    × (onward rules cell [] cut (pieces (drop cut text))
+    ≡ front ++ onward rules cell [] place (pieces (drop place text)))
 
 -- before the end, a scalar is behind the break, and the row knows of it too
-pub record StandsBefore (rules : Profile) (cell : ℕ → Cell) (text : List ℕ) (before : List Decoded) (found : NextBreak) : Type 0 where
+pub record StandsBefore (rules : Profile) (cell : ℕ → Cell) (text : List ℕ) (before : List Decoded)
+    (found : NextBreak) : Type 0 where
   pub piece : Decoded
   pub begins : pieces (drop found.at text) ≡ piece ∷ pieces (drop found.behind text)
   pub sized : found.behind ≡ found.at + piece.size
@@ -90,13 +97,14 @@ pub record StandsBefore (rules : Profile) (cell : ℕ → Cell) (text : List ℕ
   pub knows : KnowsTaken cell found.row (scalars_of (before ++ piece ∷ []))
 
 -- what is known of a break before which these pieces are
-pub record StandsAt (rules : Profile) (cell : ℕ → Cell) (text : List ℕ) (before : List Decoded) (found : NextBreak) : Type 0 where
+pub record StandsAt (rules : Profile) (cell : ℕ → Cell) (text : List ℕ) (before : List Decoded)
+    (found : NextBreak) : Type 0 where
   pub inside : found.at < length text → StandsBefore rules cell text before found
   pub at_end : found.at ≡ length text → KnowsTaken cell found.row (scalars_of before)
 
 -- from byte `from` on, before which these pieces are, it is the next break, and none before it begins alike
-pub record FindsNext (rules : Profile) (cell : ℕ → Cell) (text : List ℕ) (before : List Decoded) (from : ℕ) (found : NextBreak)
-    : Type 0 where
+pub record FindsNext (rules : Profile) (cell : ℕ → Cell) (text : List ℕ) (before : List Decoded) (from : ℕ)
+    (found : NextBreak) : Type 0 where
   pub passed : List Decoded
   pub kept : length before ≤ length passed
   pub joined : passed ++ pieces (drop found.at text) ≡ before ++ pieces (drop from text)

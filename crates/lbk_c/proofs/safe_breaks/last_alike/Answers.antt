@@ -1,5 +1,6 @@
 use Rattle.std.proofs.Common.{[], ◌∷◌, ◌++◌, true≢false, sym, ◌∙◌, arith}
-use Rattle.lbk_c.proofs.SafeLemmas.{knows-none, walks-end, walks-from, walks-on, walks-start}
+use Rattle.lbk_c.proofs.SafeLemmas.{knows-none}
+use Rattle.lbk_c.proofs.SafeWalks.{walks-end, walks-from, walks-on, walks-start}
 use Rattle.lbk_c.proofs.safe_breaks.last_alike.Goals as goal
 
 pub loop-here-init : goal.loop-here-init

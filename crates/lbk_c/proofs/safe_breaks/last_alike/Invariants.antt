@@ -2,7 +2,7 @@ use Rattle.std.proofs.Common.{◌-◌, ◌<◌, ◌≤◌, ℕ, length}
 use Rattle.lbk_rules.specs.declared.Cell.{Cell}
 use Rattle.lbk_rules.specs.FlatTable.{IsFlatOf}
 use Rattle.lbk_rules.specs.Rows.{IsPlace}
-use Rattle.lbk_c.proofs.SafeLemmas.{Walks}
+use Rattle.lbk_c.proofs.SafeWalks.{Walks}
 use Rattle.lbk_c.proofs.safe_breaks.last_alike.Given as goal
 
 abbrev pub invariant-loop-here : goal.invariant-loop-here
