@@ -35,7 +35,8 @@ use Rattle.lbk_bytes.proofs.ReachedLemmas.{profile-same}
 use Rattle.lbk_units.specs.Units.{breaks_of_part_of}
 use Rattle.lbk_streams.specs.Cuts.{IsCutBefore, IsSafeCut, JoinsAt}
 use Rattle.lbk_c.specs.declared.safe_breaks.NextBreak.{NextBreak}
-use Rattle.lbk_c.specs.SafeBreaks.{FindsNext, IsSafeBreak, IsSafeFrom, Next, NoneAlike, StandsAt, asked_of, next_from, verdict_at}
+use Rattle.lbk_c.specs.SafeBreaks.{IsSafeBreak, Next, NoneAlike, asked_of, next_from, verdict_at}
+use Rattle.lbk_c.specs.SafeSteps.{FindsNext, IsSafeFrom, StandsAt}
 use Rattle.lbk_c.proofs.RowsApart.{rows-apart}
 
 between-alike : (profile : Profile) (cell : ℕ → Cell) (a b : List ℕ) (right : List Cell) → facts (reverse (normals cell a)) ≡ facts (reverse (normals cell b))

@@ -10,8 +10,8 @@ use Rattle.lbk_rules.specs.Breaks.{break_by, is_no}
 use Rattle.lbk_rules.specs.Rows.{IsPlace, IsShown}
 use Rattle.lbk_bytes.specs.Reached.{onward, scalars_of}
 use Rattle.lbk_c.specs.declared.safe_breaks.NextBreak.{NextBreak}
-use Rattle.lbk_c.specs.SafeBreaks.{BeginsAlike, FindsNext, IsLastFrom, IsSafeFrom, NoneAlike, StandsAt, StandsBefore, next_from, verdict_at}
-
+use Rattle.lbk_c.specs.SafeBreaks.{BeginsAlike, IsLastFrom, NoneAlike, next_from, verdict_at}
+use Rattle.lbk_c.specs.SafeSteps.{FindsNext, IsSafeFrom, StandsAt, StandsBefore}
 use Rattle.lbk_c.proofs.SafeLemmas.{alike-same, knows-some, next_shown, onward-same, onward-some, pieces-none, same-next}
 
 -- From a cut on

@@ -7,3 +7,5 @@ pub mod Reads
 pub mod SafeBreaks
 pub mod Segments
 pub mod Texts
+-- What only carries proofs.
+pub mod SafeSteps

@@ -7,7 +7,8 @@ ghost use Rattle.lbk_rules.specs.Rows.{IsShown};
 ghost use Rattle.lbk_rules.specs.FlatTable.{KnowsTaken};
 ghost use Rattle.lbk_bytes.specs.Reached.{scalars_of};
 ghost use Rattle.lbk_streams.specs.Cuts.{IsSafeCut};
-ghost use Rattle.lbk_c.specs.SafeBreaks.{FindsNext, IsLastAlike, IsLastFrom, IsSafeBreak, IsSafeFrom};
+ghost use Rattle.lbk_c.specs.SafeBreaks.{IsLastAlike, IsLastFrom, IsSafeBreak};
+ghost use Rattle.lbk_c.specs.SafeSteps.{FindsNext, IsSafeFrom};
 
 use lbk_bytes::{END, decide_one, profile_numbered};
 use lbk_rules::{FlatTable, Profile, shows_break};

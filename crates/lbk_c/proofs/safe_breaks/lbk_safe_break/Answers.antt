@@ -3,7 +3,8 @@ use Rattle.std.proofs.Math.Logic.{⊎_elim}
 use Rattle.lbk_values.specs.declared.profile.Profile.{Profile}
 use Rattle.lbk_bytes.proofs.BlockLemmas.{order}
 use Rattle.lbk_streams.specs.Cuts.{IsCutBefore}
-use Rattle.lbk_c.specs.SafeBreaks.{IsLastFrom, IsSafeBreak, IsSafeFrom}
+use Rattle.lbk_c.specs.SafeBreaks.{IsLastFrom, IsSafeBreak}
+use Rattle.lbk_c.specs.SafeSteps.{IsSafeFrom}
 use Rattle.lbk_c.proofs.SafeLemmas.{behind-cut, same-rules, safe-behind, safe-start}
 use Rattle.lbk_c.proofs.safe_breaks.lbk_safe_break.Goals as goal
 
