@@ -9,14 +9,8 @@ use std::alloc::Global;
 /// Files by their names; of several with one name, the first.
 ///
 /// ```rust
-/// let files = [
-///     ("L", SAMPLE_FILES.line_break),
-///     ("E", SAMPLE_FILES.east_asian),
-///     ("C", SAMPLE_FILES.category),
-///     ("M", SAMPLE_FILES.emoji),
-///     ("B", BAD_ROW),
-/// ];
-/// let mut store = MemoryStore::new(files.as_slice());
+/// let files: &[(&str, &[u8])] = &[("name", b"bytes")];
+/// let mut store = MemoryStore::new(files);
 /// ```
 #[derive(Drop)]
 pub struct MemoryStore<'a> {
