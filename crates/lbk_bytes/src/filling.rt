@@ -15,7 +15,7 @@ use crate::held::take_ones;
 use crate::raw_break::RawBreak;
 use crate::stepping::{emoji, mixed, quick, scalars};
 use crate::target::{AmpleBreaks, Breaks};
-use crate::tries::{are_near, next_try};
+use crate::tries::{are_near, begins_emoji, next_try};
 use lbk_rules::{FlatTable, KindSource, Profile, rows_of, shows_break};
 
 /// Goes on until the block is full or the text ends, and writes the breaks before the scalars taken after those in
@@ -92,7 +92,7 @@ fn begin<const MASKS: bool, const EMOJI: bool, K: KindSource>(
     short::<MASKS, K>(table, profile, start, text, out)
 }
 
-/// Takes the emoji at the front.
+/// Takes the emoji at the front, if the text seems to begin with some.
 #[inline(always)]
 fn emoji_first<K: KindSource>(
     table: &K,
@@ -104,6 +104,9 @@ fn emoji_first<K: KindSource>(
     requires { IsInText start (length text.now) (length out.old) }
     ensures { FillsIn profile (K.kinds_of table.now) (K.pairs_of table.now) text.now out.old start out.new result }
 {
+    if !begins_emoji(&text[start.at..]) {
+        return start;
+    }
     copied(emoji(
         Breaks,
         table,
@@ -172,7 +175,7 @@ pub fn fill_on<const MASKS: bool, K: KindSource>(
     here
 }
 
-/// Takes blocks of bytes, scalars and ill-formed bytes until a held position comes, the block is full or the last
+/// Takes emoji, blocks of bytes, scalars and ill-formed bytes until a held position comes, the block is full or the last
 /// bytes of the text come, whatever may follow the text.
 #[inline(never)]
 pub fn fill_common(
@@ -188,7 +191,11 @@ pub fn fill_common(
     if start.at == text.len() {
         return start;
     }
-    let mut part = common_part::<true, FlatTable>(table, profile, start, text, out);
+    let here = emoji_first(table, profile, start, text, out);
+    if here.at == text.len() {
+        return here;
+    }
+    let mut part = common_part::<true, FlatTable>(table, profile, here, text, out);
     while part.until <= part.here.at && part.here.at < text.len() {
         part = common_part::<true, FlatTable>(table, profile, part.here, text, out);
     }

@@ -36,4 +36,5 @@ pub use marking::{fill_marks, mark_end};
 pub use marks::clear;
 pub use profiles::{goes_on, plain_number, profile_numbered};
 pub use raw_break::RawBreak;
+pub use tries::begins_emoji;
 pub use unit::{Unit, UnitScalar};

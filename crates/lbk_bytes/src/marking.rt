@@ -13,9 +13,9 @@ use crate::held::take_ones;
 use crate::mark_blocks::mark_blocks;
 use crate::marks::{BITS, clear, mark};
 use crate::one_word::one_word;
-use crate::stepping::quick;
+use crate::stepping::{emoji, quick};
 use crate::target::Bits;
-use crate::tries::next_try;
+use crate::tries::{begins_emoji, next_try};
 use lbk_rules::{FlatTable, Profile, rows_of, shows_break};
 
 /// Sets a bit for each break from the start on, the first for the byte there, and clears all other bits of the words.
@@ -65,8 +65,50 @@ fn stop_of(from: usize, text: &[u8], words: usize) -> usize
     from + BITS * words
 }
 
-/// Takes blocks of bytes and then scalars, at least one, that begin before a byte.
+/// Takes scalars, at least one, that begin before a byte: emoji, or blocks of bytes and then others.
 fn mark_further(
+    table: &FlatTable,
+    profile: Profile,
+    here: FillState,
+    from: usize,
+    stop: usize,
+    text: &[u8],
+    words: &mut [u64],
+) -> FillState
+    requires { IsPlace here.row × (from ≤ here.at) × (here.at < stop) × (stop ≤ length text.now)
+        × (stop ≤ from + 64 * length words.old) }
+    ensures { MarksFurther table.now profile text.now from stop words.old here words.new result }
+{
+    if begins_emoji(&text[here.at..]) {
+        return mark_emoji(table, profile, here, from, stop, text, words);
+    }
+    mark_usual(table, profile, here, from, stop, text, words)
+}
+
+/// Takes emoji, or one scalar whatever it is.
+fn mark_emoji(
+    table: &FlatTable,
+    profile: Profile,
+    here: FillState,
+    from: usize,
+    stop: usize,
+    text: &[u8],
+    words: &mut [u64],
+) -> FillState
+    requires { IsPlace here.row × (from ≤ here.at) × (here.at < stop) × (stop ≤ length text.now)
+        × (stop ≤ from + 64 * length words.old) }
+    ensures { MarksFurther table.now profile text.now from stop words.old here words.new result }
+{
+    let target = Bits { from };
+    let past = emoji(target, table, rows_of(profile), here, stop, text, words);
+    if here.at < past.at {
+        return past;
+    }
+    take_ones(target, table, profile, past, stop, text, words)
+}
+
+/// Takes blocks of bytes and then scalars, at least one, that begin before a byte.
+fn mark_usual(
     table: &FlatTable,
     profile: Profile,
     here: FillState,

@@ -11,7 +11,7 @@ use crate::held::take_ones;
 use crate::mark_blocks::{are_told, mark_block};
 use crate::marks::BITS;
 use crate::pieces::pieces;
-use crate::stepping::{run, scalars};
+use crate::stepping::{emoji_and_scalars, run};
 use crate::target::{Bits, BreakKinds};
 use lbk_masks::nonzero;
 use lbk_rules::{FlatTable, Profile, rows_of};
@@ -134,7 +134,7 @@ fn gather_further(
 {
     let target = BreakKinds { from };
     let steps = rows_of(profile);
-    let common = scalars(target, table, steps, here, stop, text, kinds);
+    let common = emoji_and_scalars(target, table, steps, here, stop, text, kinds);
     if stop <= common.at {
         return common;
     }

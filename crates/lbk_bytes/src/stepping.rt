@@ -9,6 +9,7 @@ use crate::decoding::{Width, scalar_of};
 use crate::fill_state::FillState;
 use crate::pieces::pieces;
 use crate::target::Target;
+use crate::tries::begins_emoji;
 use lbk_rules::{HELD, KindSource, Rows, step_at};
 
 /// Takes scalars and ill-formed bytes that begin before a byte, up to a held position or the text's last bytes,
@@ -97,6 +98,31 @@ pub(crate) fn emoji<T: Target, K: KindSource>(
         text,
         out,
     )
+}
+
+/// Takes what `emoji` takes, if the text seems to begin with emoji here, and then what `scalars` takes.
+#[inline(always)]
+pub(crate) fn emoji_and_scalars<T: Target, K: KindSource>(
+    target: T,
+    kinds: &K,
+    steps: &Rows,
+    start: FillState,
+    stop: usize,
+    text: &[u8],
+    out: &mut [T::Entry],
+) -> FillState
+    requires { MayStep (T.fits target) steps.now text.now stop out.old start }
+    ensures { StepsOn (T.fits target) (T.in_order target) (T.reached target) steps.now (K.kinds_of kinds.now) text.now
+        stop out.old start out.new result }
+{
+    let mut here = start;
+    if begins_emoji(&text[start.at..]) {
+        here = emoji(target, kinds, steps, start, stop, text, out);
+        if stop <= here.at {
+            return here;
+        }
+    }
+    scalars(target, kinds, steps, here, stop, text, out)
 }
 
 /// A run of scalars of one byte, and then one of those that the next byte may begin. Each may be empty.

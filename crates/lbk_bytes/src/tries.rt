@@ -1,6 +1,6 @@
 //! Where blocks of bytes are tried, and how many bytes are taken one by one before they are tried again.
 
-ghost use Rattle.std.specs.Prelude.{◌<◌, ◌≤◌, length};
+ghost use Rattle.std.specs.Prelude.{◌≡◌, ◌<◌, ◌≤◌, ◌&&◌, length, nat_le, slice_index_or};
 
 use crate::block_marks::BLOCK;
 use lbk_masks::{far_scalars, strays};
@@ -55,6 +55,16 @@ pub(crate) fn are_left(text: &[u8]) -> bool
 {
     let far = far_in(text);
     FEW < 2 * far || (0 < far && BLOCK <= text.len() && are_many(strays(text)))
+}
+
+/// Whether a text seems to begin with emoji: a scalar of four bytes, and behind it one of three or four. Most scalars of
+/// four bytes are emoji. Other emoji, and what joins and changes them, follow in runs of them.
+#[inline(always)]
+pub fn begins_emoji(text: &[u8]) -> bool
+    ensures { result ≡ (nat_le 5 (length text.now) && (nat_le 0xF0 (slice_index_or text.now 0 0)
+        && nat_le 0xE0 (slice_index_or text.now 4 0))) }
+{
+    4 < text.len() && 0xEF < text[0] && 0xDF < text[4]
 }
 
 /// Up to where scalars are taken one by one, before blocks are tried again; without masks that is the text's end.

@@ -11,7 +11,8 @@ ghost use Rattle.lbk_calls.specs.State.{goes_on, plain};
 use crate::breaking::{going_profile, plain};
 use crate::interface::State;
 use lbk_bytes::{
-    END, FEW, FillState, RawBreak, START, end_shown, fill_few, fill_on, goes_on, put_end,
+    END, FEW, FillState, RawBreak, START, begins_emoji, end_shown, fill_few, fill_on, goes_on,
+    put_end,
 };
 use lbk_rules::{FlatTable, Profile, number_at, place_by, shows_break};
 use lbk_units::{Breaks, Positions, Target, Unit, fill, put_position};
@@ -96,8 +97,7 @@ pub fn give_breaks<const MASKS: bool>(
             }
             return give_few::<MASKS>(table, state, text, out);
         }
-        // Most scalars of four bytes are emoji. Other emoji, and what joins and changes them, follow in runs of them.
-        if 4 < left && 0xEF < text[state.at] && 0xDF < text[state.at + 4] {
+        if begins_emoji(&text[state.at..]) {
             return give_many::<MASKS, true>(table, state, text, out);
         }
     }

@@ -5,7 +5,7 @@ use Rattle.lbk_bytes.proofs.one_word.gather_further.Goals as goal
 pub returns-then-stop-common : goal.returns-then-stop-common
 returns-then-stop-common c =
     let a = c.args in
-    let common = c.scalars-common in
+    let common = c.emoji_and_scalars-common in
     record {
       within = (common.ensures.within.1, omega arith, common.ensures.within.2, common.ensures.near (omega arith));
       none = common.ensures.in_order 0;
@@ -17,7 +17,7 @@ returns-then-stop-common c =
 pub returns-then-common-past : goal.returns-then-common-past
 returns-then-common-past c =
     let a = c.args in
-    let common = c.scalars-common in
+    let common = c.emoji_and_scalars-common in
     let past = c.pieces-past in
     record {
       within = (past.ensures.within.1, omega (arith, common.ensures.onward.0), past.ensures.within.2, past.ensures.near (omega arith));
@@ -31,7 +31,7 @@ returns-then-common-past c =
 pub returns : goal.returns
 returns c =
     let a = c.args in
-    let common = c.scalars-common in
+    let common = c.emoji_and_scalars-common in
     let past = c.pieces-past in
     let ones = c.take_ones.ensures in
     record {

@@ -1,6 +1,6 @@
 use Rattle.std.proofs.Common.{[], drop, length-take-le, arith}
 use Rattle.lbk_bytes.proofs.MarkLemmas.{Marked-by-both, Marked-by-front}
-use Rattle.lbk_bytes.proofs.marking.mark_further.Goals as goal
+use Rattle.lbk_bytes.proofs.marking.mark_usual.Goals as goal
 
 pub mark_blocks-there-requires : goal.mark_blocks-there-requires
 mark_blocks-there-requires c =
