@@ -103,6 +103,9 @@ pub record IsPut (table : FlatTable) (text : List ℕ) (old new : SegmentState) 
   pub next : new.start ≡ next_start old.start found
   pub profile_same : new.breaks.profile ≡ old.breaks.profile
   pub inside : old.breaks.at ≤ length text → new.breaks.at ≤ length text
+  pub forward : 0 < count → (old.breaks.at < new.breaks.at) ⊎ (0 < new.breaks.ended)
+  pub onward : old.breaks.at ≤ new.breaks.at
+  pub at_end : old.breaks.ended ≡ 0 → 0 < new.breaks.ended → new.breaks.at ≡ length text
   pub taken : (cell : ℕ → Cell) (to_come : List Break) → Comes cell table text old.breaks to_come → Taken cell table text new found count to_come
   pub sound : old.start ≤ old.breaks.at → old.breaks.at ≤ length text
       → AreWithin (length text) (segments_between old.start found) × (new.start ≤ new.breaks.at)
@@ -116,6 +119,9 @@ put-none table text state out = record {
   next = refl;
   profile_same = refl;
   inside = λ within. within;
+  forward = λ some. absurd (omega (arith, some));
+  onward = omega arith;
+  at_end = λ open_ ended. absurd (omega (arith, open_, ended));
   taken = λ cell to_come comes. record { few = omega arith; same = refl; comes = comes };
   sound = λ low within. (tt, low);
   still = λ stays. (refl, refl);
@@ -184,6 +190,15 @@ put-more table text old here new next before out block breaks count given room i
   next = starts ∙ ap₂ next_start i.next are ∙ sym (next-append old.start i.found (take given block));
   profile_same = g.goes_over.advances.profile_same ∙ i.profile_same;
   inside = λ within. g.goes_over.advances.inside (i.inside within);
+  forward = λ some. ⊎_elim (λ (none : given ≡ 0). forward-still (omega (arith, some, none)))
+      (λ (more : 0 < given). ⊎_elim (λ (on : here.breaks.at < new.at). inl (omega (arith, on, i.onward)))
+      (λ (ended : 0 < new.ended). inr ended)
+      (g.goes_over.advances.forward more))
+      (zero-or given);
+  onward = omega (arith, i.onward, g.goes_over.advances.onward);
+  at_end = λ open_ ended. ⊎_elim (λ (still_open : here.breaks.ended ≡ 0). g.goes_over.advances.at_end still_open ended)
+      (λ (was_ended : 0 < here.breaks.ended). subst (λ (b : State). b.at ≡ length text) (sym (g.goes_over.advances.ended was_ended).1) (i.at_end open_ was_ended))
+      (zero-or here.breaks.ended);
   taken = λ cell to_come comes. (
       let were = i.taken cell to_come comes in
       let more = drop count to_come in
@@ -208,6 +223,12 @@ put-more table text old here new next before out block breaks count given room i
   where
     many : length breaks ≡ given
     many = ap length are ∙ length-take-le given block few
+
+    forward-still : 0 < count → (old.breaks.at < new.at) ⊎ (0 < new.ended)
+    forward-still some =
+        ⊎_elim (λ (on : old.breaks.at < here.breaks.at). inl (omega (arith, on, g.goes_over.advances.onward)))
+        (λ (ended : 0 < here.breaks.ended). inr (subst (λ (b : State). 0 < b.ended) (sym (g.goes_over.advances.ended ended).1) ended))
+        (i.forward some)
 
     still-room : (state : State) (len n room : ℕ) → (n ≡ 0 → room ≡ 0) → IsStill state len n → IsStill state len room
     still-room state len n room empty (inl profile) = inl profile

@@ -19,9 +19,9 @@ const BITS: usize = 64;
 /// words cover, including the text's end: as many as they have bits, or all that are left. The state advances to the
 /// first scalar after those.
 ///
-/// Returns 0, clears all bits and leaves the state unchanged if there are no words, if the state is at or past the end
-/// of the text, or if its profile is unknown. With any table and state, no bit after the covered offsets is set, and
-/// the state advances at most three bytes past them.
+/// Returns 0, clears all bits and leaves the state unchanged if there are no words, if the end was covered, if the
+/// state is past it, or if the profile is unknown. With any table and state, no bit after the covered offsets is set,
+/// and the state advances at most three bytes past them.
 #[unsafe(no_mangle)]
 pub extern "C" fn lbk_marks(
     table: &FlatTable,

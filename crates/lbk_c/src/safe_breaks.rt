@@ -1,12 +1,13 @@
 //! Where the rest of a text can be broken alone.
 
-ghost use Rattle.std.specs.Prelude.{◌≡◌, ℕ, ◌<◌, ◌≤◌, ◌↔◌, List, true, length};
+ghost use Rattle.std.specs.Prelude.{◌≡◌, ℕ, ◌-◌, ◌<◌, ◌≤◌, ◌↔◌, List, true, length};
+ghost use Rattle.bstr.specs.Utf8.{pieces};
 ghost use Rattle.lbk_calls.specs.Terms.{Cell, Decoded, IsFlatOf, IsPlace, Profile};
 ghost use Rattle.lbk_calls.specs.State.{profile_number};
 ghost use Rattle.lbk_rules.specs.Rows.{IsShown};
 ghost use Rattle.lbk_rules.specs.FlatTable.{KnowsTaken};
 ghost use Rattle.lbk_bytes.specs.Reached.{scalars_of};
-ghost use Rattle.lbk_streams.specs.Cuts.{IsSafeCut};
+ghost use Rattle.lbk_streams.specs.Cuts.{CutsBefore, IsSafeCut};
 ghost use Rattle.lbk_c.specs.SafeBreaks.{IsLastAlike, IsLastFrom, IsSafeBreak};
 ghost use Rattle.lbk_c.specs.SafeSteps.{FindsNext, IsSafeFrom};
 
@@ -28,6 +29,7 @@ pub extern "C" fn lbk_safe_break(table: &FlatTable, profile: u8, text: &[u8]) ->
     ensures behind_cuts { (cell : ℕ → Cell) (place : ℕ) → IsFlatOf table.now cell → IsSafeCut cell text.now place
         → place < length text.now
         → place ≤ result }
+    ensures unknown { 1 < profile → CutsBefore pieces table.now text.now (length text.now - 1) result }
 {
     let cut = cut_before(table, text, text.len().saturating_sub(1));
     match profile_numbered(profile) {

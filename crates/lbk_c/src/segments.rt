@@ -3,7 +3,7 @@
 ghost use Rattle.std.specs.Prelude.{◌≡◌, ◌⊎◌, ℕ, ◌+◌, ◌<◌, ◌≤◌, ◌++◌, List, length, take};
 ghost use Rattle.lbk_rules.specs.declared.Break.{Break};
 ghost use Rattle.lbk_rules.specs.declared.Cell.{Cell};
-ghost use Rattle.lbk_calls.specs.Calls.{BreaksComeAtStart};
+ghost use Rattle.lbk_calls.specs.Calls.{Advances, BreaksComeAtStart};
 ghost use Rattle.lbk_calls.specs.Coming.{Comes};
 ghost use Rattle.lbk_c.specs.Segments.{AreWithin, SegmentsNext, next_start, segments_between};
 
@@ -42,8 +42,9 @@ pub struct SegmentState {
 /// the block holds, or all that are left. A segment ends at each break of `lbk_breaks`, and begins where the one before
 /// it ends.
 ///
-/// Returns 0 and leaves the state unchanged if the block has no room, or if there is no break from the state on. The
-/// entries of the block after the segments are unspecified.
+/// Returns 0 and leaves the state unchanged if the block has no room, if the end was returned, if the state is past it,
+/// or if the profile is unknown. The entries of the block after the segments are unspecified. With any table and state,
+/// the state advances as that of `lbk_breaks`, so a loop of calls while the block is full terminates.
 #[unsafe(no_mangle)]
 pub extern "C" fn lbk_segments(
     table: &FlatTable,
@@ -52,7 +53,7 @@ pub extern "C" fn lbk_segments(
     out: &mut [Segment],
 ) -> usize
     ensures within { result ≤ length out.old }
-    ensures profile_same { state.new.breaks.profile ≡ state.old.breaks.profile }
+    ensures advances { Advances state.old.breaks state.new.breaks (length text.now) (length out.old) result }
     ensures all { state.old.breaks.profile ≤ 3 → state.old.breaks.at ≤ length text.now → result < length out.old
         → 0 < state.new.breaks.ended }
     ensures begins { BreaksComeAtStart table.now text.now state.old.breaks }

@@ -1,8 +1,9 @@
 use Rattle.std.proofs.Common.{◌≡◌, ◌<◌, ◌≤◌, length, sym, subst, arith}
 use Rattle.std.proofs.Math.Logic.{⊎_elim}
+use Rattle.bstr.specs.Utf8.{pieces}
 use Rattle.lbk_values.specs.declared.profile.Profile.{Profile}
 use Rattle.lbk_bytes.proofs.BlockLemmas.{order}
-use Rattle.lbk_streams.specs.Cuts.{IsCutBefore}
+use Rattle.lbk_streams.specs.Cuts.{CutsBefore, IsCutBefore}
 use Rattle.lbk_c.specs.SafeBreaks.{IsLastFrom, IsSafeBreak}
 use Rattle.lbk_c.specs.SafeSteps.{IsSafeFrom}
 use Rattle.lbk_c.proofs.SafeLemmas.{behind-cut, same-rules, safe-behind, safe-start}
@@ -43,3 +44,8 @@ pub returns-in-None-clause-behind_cuts : goal.returns-in-None-clause-behind_cuts
 returns-in-None-clause-behind_cuts c = λ cell place flat safe inside.
     behind-cut cell c.args.text.now _ c.cut_before-cut.result place (c.cut_before-cut.ensures.last cell flat) safe inside
     (omega (arith, inside, c.saturating_sub.ensures))
+
+pub returns-in-None-clause-unknown : goal.returns-in-None-clause-unknown
+returns-in-None-clause-unknown c = λ other.
+    let cut = c.cut_before-cut in
+    subst (λ n. CutsBefore pieces c.args.table.now c.args.text.now n cut.result) c.saturating_sub.ensures cut.ensures

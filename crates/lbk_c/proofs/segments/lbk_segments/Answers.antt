@@ -1,8 +1,9 @@
-use Rattle.std.proofs.Common.{◌+◌, length, drop, min, ap, subst, sym, ◌∙◌, arith}
+use Rattle.std.proofs.Common.{◌≡◌, ◌+◌, inl, inr, length, drop, min, ap, subst, sym, ◌∙◌, arith}
 use Rattle.std.proofs.lemmas.List.{length-take-le}
 use Rattle.lbk_calls.proofs.UnitsComingLemmas.{bytes-begin}
+use Rattle.lbk_c.specs.declared.segments.SegmentState.{SegmentState}
 use Rattle.lbk_c.specs.Segments.{AreWithin, next_start, segments_between}
-use Rattle.lbk_c.proofs.SegmentLemmas.{IsPut, length-drop, put-given, same-length}
+use Rattle.lbk_c.proofs.SegmentLemmas.{IsPut, IsStill, length-drop, put-given, same-length}
 use Rattle.lbk_c.proofs.segments.lbk_segments.Goals as goal
 
 put-last : (c : goal.Then-given-lt-BLOCK)
@@ -56,3 +57,23 @@ returns-then-given-lt-BLOCK-clause-sound c = λ low within.
     let p = put-last c in
     let s = p.sound low within in
     (subst (AreWithin (length c.args.text.now)) (sym p.front) s.0, s.1, p.inside within)
+
+pub returns-then-given-lt-BLOCK-clause-advances : goal.returns-then-given-lt-BLOCK-clause-advances
+returns-then-given-lt-BLOCK-clause-advances c =
+    let g = c.give_breaks-given in
+    let out = c.put_segments-state.new.out in
+    let p = put-last c in
+    let still : IsStill c.args.state.now.breaks (length c.args.text.now) (length out)
+    → (c.loop-block.count + g.result ≡ 0) × (g.new.state ≡ c.args.state.now.breaks) = λ stays.
+    (let stood = p.still stays in (stood.0, ap (λ (s : SegmentState). s.breaks) stood.1)) in
+    record {
+      profile_same = p.profile_same;
+      forward = p.forward;
+      onward = p.onward;
+      inside = p.inside;
+      at_end = p.at_end;
+      ended = λ ended. still (inr (inl ended));
+      past = λ past. still (inr (inr (inl past)));
+      unknown = λ unknown. still (inl unknown);
+      no_room = λ none. still (inr (inr (inr (omega (arith, none, c.put_segments-state.auto.out, c.loop-block.auto.out)))));
+    }
