@@ -369,7 +369,7 @@ size_t lbk_breaks(const lbk_table *table, lbk_state *state, const char *text, si
  *
  *   - Ill-formed bytes, LBK_GOES_ON and the cases that return 0 are as for lbk_breaks.
  *   - With a corrupt table, `start` <= `end` <= `size` still holds. It also holds with a corrupt state, provided that
- *     its `start` <= `breaks.at` <= `size`.
+ *     its `start` <= `breaks.at` <= `size`. The loop terminates with any table and state.
  *   - Entries of the block after the returned count are unspecified. Allocates nothing. */
 size_t lbk_segments(const lbk_table *table, lbk_segment_state *state, const char *text, size_t size,
                     lbk_segment *block, size_t room);
@@ -541,8 +541,8 @@ size_t lbk_words(lbk_word_state *state, const char *text, size_t size, lbk_word 
  * each call also reads the last chunk again, what follows it up to the limits, and up to 64 words more.
  *
  *   - Ill-formed bytes are replaced as in lbk_breaks.
- *   - Returns 0 and leaves the state unchanged if `room` is 0, if no chunk is left, and for limits that lbk_limits
- *     excludes.
+ *   - Returns 0 and leaves the state unchanged if `room` is 0, if no chunk is left, if the profile is unknown, and for
+ *     limits that lbk_limits excludes.
  *   - With a corrupt table or state, each chunk still starts at or before `told`, the end of the chunk before it,
  *     and still ends after `told` and within the text.
  *   - Entries of the block after the returned count are unspecified. Allocates nothing. */

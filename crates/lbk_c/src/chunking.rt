@@ -9,9 +9,9 @@ use lbk_rules::FlatTable;
 /// Writes the next chunks of a text to the front of the block, from the state on, and returns how many: as many as the
 /// block holds, or all that are left. The text may be any bytes.
 ///
-/// Returns 0 and leaves the state unchanged if the block has no room, if no chunk is left, or if the limits are out of
-/// range. The entries of the block after the chunks are unspecified. With any table and state, each chunk starts at or
-/// before the end of the one before it, and ends after that and within the text.
+/// Returns 0 and leaves the state unchanged if the block has no room, if no chunk is left, if the limits are out of
+/// range, or if the profile is unknown. The entries of the block after the chunks are unspecified. With any table and
+/// state, each chunk starts at or before the end of the one before it, and ends after that and within the text.
 #[unsafe(no_mangle)]
 pub extern "C" fn lbk_chunks(
     table: &FlatTable,

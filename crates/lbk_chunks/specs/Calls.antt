@@ -1,5 +1,5 @@
 -- What the call promises that gives the next chunks of a text: each clause once.
-use Rattle.std.specs.Prelude.{◌≡◌, ℕ, ◌≤◌, false, true, List, drop, length, min, take}
+use Rattle.std.specs.Prelude.{◌≡◌, ℕ, ◌<◌, ◌≤◌, false, true, List, drop, length, min, take}
 use Rattle.lbk_rules.specs.declared.Cell.{Cell}
 use Rattle.lbk_rules.specs.declared.flat_table.FlatTable.{FlatTable}
 use Rattle.lbk_values.specs.declared.profile.Profile.{Profile}
@@ -33,3 +33,4 @@ pub record GivesChunks (table : FlatTable) (limits : Limits) (text : List ℕ) (
   pub told : AreTold old.told new.told (length text) (take result out)
   pub none : result ≡ 0 → new ≡ old
   pub out_of_range : are_limits limits ≡ false → result ≡ 0
+  pub unknown : 3 < old.place.breaks.profile → result ≡ 0

@@ -21,8 +21,8 @@ use lbk_rules::FlatTable;
 /// Writes the next chunks of a text to the front of the block, from the state on, and returns how many: as many as the
 /// block holds, or all that are left. The text may be any bytes.
 ///
-/// Returns 0 and leaves the state unchanged if the block has no room, if no chunk is left, or if the limits are out of
-/// range. The entries of the block after the chunks are unspecified.
+/// Returns 0 and leaves the state unchanged if the block has no room, if no chunk is left, if the limits are out of
+/// range, or if the profile is unknown. The entries of the block after the chunks are unspecified.
 pub fn chunks(
     table: &FlatTable,
     limits: &Limits,
@@ -33,6 +33,9 @@ pub fn chunks(
     ensures { GivesChunks table.now limits.now text.now state.old state.new (length out.old) out.new result }
 {
     if !are_limits(limits) {
+        return 0;
+    }
+    if GREATEST_PROFILE < state.place.breaks.profile {
         return 0;
     }
     if state.told < state.start {
@@ -334,3 +337,6 @@ fn start_at(cut: &Cut, told: usize) -> Here
 
 /// The kind of a break at which a line must end.
 const MUST: u8 = 2;
+
+/// The greatest number that names a profile.
+const GREATEST_PROFILE: u8 = 3;

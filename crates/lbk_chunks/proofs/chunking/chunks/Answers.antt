@@ -1,11 +1,17 @@
-use Rattle.std.proofs.Common.{rules, ◌≡◌, ℕ, List, arith, drop, length, min}
+use Rattle.std.proofs.Common.{rules, ◌≡◌, ℕ, ◌<◌, List, Some, arith, drop, length, min}
 use Rattle.lbk_rules.specs.declared.Cell.{Cell}
+use Rattle.lbk_values.specs.declared.profile.Profile.{Profile}
+use Rattle.lbk_bytes.specs.Profiles.{plain_number, profile_numbered}
 use Rattle.lbk_chunks.specs.declared.chunk.Chunk.{Chunk}
 use Rattle.lbk_chunks.specs.Coming.{AreGiven, ChunksCome}
 use Rattle.lbk_chunks.proofs.GivenLemmas.{come-on, knows-first}
 use Rattle.lbk_chunks.proofs.TextLemmas.{chunks-start}
 use Rattle.lbk_chunks.proofs.chunking.chunks.Goals as goal
 use Rattle.lbk_chunks.proofs.chunking.chunks.Goals.{After-give_chunks-count}
+
+-- a number above 3 names no profile
+unnamed : (number : ℕ) (profile : Profile) → 3 < number → profile_numbered (plain_number number) ≡ Some profile → ⊥
+unnamed number profile more named = search rules
 
 -- where chunks come from the state on, the call gave the first of them
 given : (c : After-give_chunks-count) → let g = c.give_chunks-count in
@@ -25,6 +31,20 @@ returns-then-not-are_limits c = record {
   told = search rules;
   none = search rules;
   out_of_range = search rules;
+  unknown = search rules;
+}
+
+pub returns-then-state-gt-GREATEST_PROFILE : goal.returns-then-state-gt-GREATEST_PROFILE
+returns-then-state-gt-GREATEST_PROFILE c = record {
+  within = search rules;
+  start = λ cell profile to_come. chunks-start cell c.args.table.now c.args.text.now c.args.limits.now profile c.args.state.now to_come;
+  gives = λ cell to_come come.
+      let comes = come.stands.ahead.comes in
+      absurd (unnamed c.args.state.now.place.breaks.profile comes.profile (omega (arith, c.if-state-gt-GREATEST_PROFILE.true)) comes.named);
+  told = search rules;
+  none = search rules;
+  out_of_range = search rules;
+  unknown = search rules;
 }
 
 pub returns-then-count-eq0 : goal.returns-then-count-eq0
@@ -37,6 +57,7 @@ returns-then-count-eq0 c = record {
   told = search rules;
   none = search rules;
   out_of_range = search rules;
+  unknown = search rules;
 }
 
 pub returns : goal.returns
@@ -59,4 +80,5 @@ returns c = record {
   told = search rules;
   none = search rules;
   out_of_range = search rules;
+  unknown = search rules;
 }
