@@ -27,7 +27,7 @@ prefix-after used bs text =
     ap (λ n. take n (used ++ bs)) (utf8_valid_len-after used bs text) ∙ take-add (length used) v (used ++ bs)
     ∙ ap (λ l. l ++ take v (drop (length used) (used ++ bs))) (take_at used bs _ refl) ∙ ap (λ l. used ++ take v l) (drop_at used bs _ refl)
 
-rest-after : (used bs : List ℕ) → IsUtf8 used → after_prefix (used ++ bs) ≡ after_prefix bs
+pub rest-after : (used bs : List ℕ) → IsUtf8 used → after_prefix (used ++ bs) ≡ after_prefix bs
 rest-after used bs text =
     let v = utf8_valid_len bs in
     ap (λ n. drop n (used ++ bs)) (utf8_valid_len-after used bs text) ∙ sym (drop-drop v (length used) (used ++ bs))
