@@ -1,5 +1,5 @@
 -- The cuts that a window holds.
-use Rattle.std.specs.Prelude.{◌≡◌, ℕ, ◌+◌, Bool, List, [], ◌++◌, Option, IfSome, drop, is_some, length, map}
+use Rattle.std.specs.Prelude.{◌≡◌, ℕ, ◌+◌, ◌*◌, ◌≤◌, Bool, List, [], ◌++◌, Option, IfSome, drop, is_some, length, map, vec_len}
 use Rattle.lbk_chunks.specs.declared.chunk.Limits.{Limits}
 use Rattle.lbk_chunks.specs.declared.cut.Cut.{Cut}
 use Rattle.lbk_passage.specs.declared.passage.Passage.{Passage}
@@ -37,6 +37,10 @@ HoldsFrom start text w = IfSome (held_in w) (IsHeld start text)
 
 abbrev pub Holds : List ℕ → Window → Type 0
 Holds text w = HoldsFrom (here_in w).start text w
+
+-- at most half of the cuts that it holds were passed
+abbrev pub HoldsFew : Window → Type 0
+HoldsFew w = 2 * w.passed ≤ vec_len w.cuts
 
 -- none, at the start of a text
 pub record IsNewWindow (l : Limits) (w : Window) : Type 0 where

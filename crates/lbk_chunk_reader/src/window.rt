@@ -27,7 +27,7 @@ pub struct Window {
 }
 
 impl Window {
-    ghost use Rattle.std.specs.Prelude.{◌≡◌, ◌≤◌, ◌<◌, ◌+◌, ◌^◌, ◌++◌, [], List, IfSome, None, OnOk, false, length};
+    ghost use Rattle.std.specs.Prelude.{◌≡◌, ◌≤◌, ◌<◌, ◌+◌, ◌^◌, ◌++◌, [], List, IfOk, IfSome, None, OnOk, false, length};
     ghost use Rattle.std.specs.Prelude.{map};
     ghost use Rattle.std.specs.Prelude.{ℕ, option_map, true, Some, if◌then◌else◌};
     ghost use Rattle.lbk_chunks.specs.declared.cut.Cut as spec;
@@ -37,7 +37,7 @@ impl Window {
     ghost use Rattle.lbk_chunk_reader.specs.Choosing.{IsNextChunk};
     ghost use Rattle.lbk_chunk_reader.specs.Settled.{IsOpen};
     ghost use Rattle.lbk_chunk_reader.specs.Window.{IsNewWindow, IsSameWindow, IsTaken, cuts_in, here_in};
-    ghost use Rattle.lbk_chunk_reader.specs.Window.{HoldsFrom, held_in, keeps_text, limits_in, words_in};
+    ghost use Rattle.lbk_chunk_reader.specs.Window.{HoldsFew, HoldsFrom, held_in, keeps_text, limits_in, words_in};
     ghost use Rattle.lbk_chunk_reader.specs.Held.{chunk_text};
     ghost use Rattle.lbk_chunk_reader.specs.Pieces.{IsRegular};
     ghost use Rattle.lbk_chunk_reader.specs.Taking.{TakesNext};
@@ -67,12 +67,14 @@ impl Window {
         }
     }
 
-    /// Takes the cuts of the next passage, and its text if that is kept. After an error some of them may be held.
+    /// Takes the cuts of the next passage, and its text if that is kept. At most half of the cuts that are held then were
+    /// passed. After an error some of the passage's may be held.
     pub fn take(&mut self, passage: &Passage<'_>) -> Result<(), AllocError>
         requires { passage.now.start ≤ 2 ^ 62 }
-        ensures { OnOk result (IsRegular passage.now.start (words_in self.old) passage.now.segments.now
+        ensures taken { OnOk result (IsRegular passage.now.start (words_in self.old) passage.now.segments.now
             passage.now.pieces.now
             → IsTaken passage.now self.old self.new) }
+        ensures few { HoldsFew self.new }
     {
         self.drop_passed();
         take_text(&mut self.held, self.here.start, passage.text)?;
@@ -106,6 +108,8 @@ impl Window {
             → (state_of C.cell_of segmenter.old).is_spent ≡ false
             → (result ≡ Ok false) × (self.new ≡ self.old) }
         ensures ended { (state_of C.cell_of segmenter.old).is_ended ≡ true → reader.new ≡ reader.old }
+        // Cuts that were passed are released.
+        ensures few { IfOk result (λ came. came ≡ true → HoldsFew self.new) }
     {
         let Some(passage) = segmenter.next(reader)? else {
             return Ok(false);
@@ -118,7 +122,8 @@ impl Window {
 
     /// Releases the cuts that were passed once they are more than half.
     fn drop_passed(&mut self)
-        ensures { IsSameWindow self.old self.new }
+        ensures same { IsSameWindow self.old self.new }
+        ensures few { HoldsFew self.new }
     {
         if self.passed > self.cuts.len() / 2 {
             drop(self.cuts.drain(..self.passed));

@@ -9,10 +9,10 @@ use Rattle.lbk_chunk_reader.specs.Window.{cuts_in}
 use Rattle.lbk_chunk_reader.proofs.WindowLemmas.{taken-cuts}
 use Rattle.lbk_chunk_reader.proofs.window.Window.take.Goals as goal
 
-pub returns : goal.returns
-returns c = λ is.
+pub returns-clause-taken : goal.returns-clause-taken
+returns-clause-taken c = λ is.
     let p = c.args.passage.now in
-    let same = c.drop_passed.ensures in
+    let same = c.drop_passed.ensures.same in
     let mid = c.drop_passed.new.self in
     let there = subst (λ n. IsRegular p.start n p.segments.now p.pieces.now) (sym same.words) is in
     record {

@@ -20,4 +20,4 @@ returns-in-Ok-clause-next g c = λ few.
     (g.R.Source.has_ended c.args.reader.now) (g.R.Source.has_ended c.next.new.reader)
     (g.R.Source.reads_made c.args.reader.now) (g.R.Source.reads_made c.next.new.reader)
     (g.R.Source.failure_count c.args.reader.now) (g.R.Source.failure_count c.next.new.reader)
-    c.args.self.now c.take.new.self c.in-Some.passage a failed few c.in-Ok.ensures
+    c.args.self.now c.take.new.self c.in-Some.passage a failed few c.in-Ok.ensures.taken
