@@ -1,7 +1,7 @@
 //! The text that a window keeps for later chunks.
 
 ghost use Rattle.std.specs.Prelude.{◌≡◌, ℕ, ◌-◌, ◌≤◌, ◌++◌, [], List, IfSome, OnOk, drop, is_some, length, take};
-ghost use Rattle.lbk_chunk_reader.specs.Held.{IsHeld};
+ghost use Rattle.lbk_chunk_reader.specs.Held.{IsHeld, KeepsFew, Reaches};
 
 use std::alloc::{AllocError, Global};
 
@@ -26,8 +26,9 @@ impl Held {
 
     /// Takes the text of the next passage. The bytes before `start` are no longer needed.
     pub fn take(&mut self, start: usize, passage: &str) -> Result<(), AllocError>
-        ensures { OnOk result ((text : List ℕ) → IsHeld start text self.old
+        ensures holds { OnOk result ((text : List ℕ) → IsHeld start text self.old
             → IsHeld start (text ++ passage.now) self.new) }
+        ensures few { OnOk result (Reaches start self.old → KeepsFew start self.new) }
     {
         self.drop_before(start);
         self.bytes.extend_from_slice(passage.as_bytes())?;
@@ -36,7 +37,8 @@ impl Held {
 
     /// Releases the bytes before `start` once they are more than half.
     fn drop_before(&mut self, start: usize)
-        ensures { (text : List ℕ) → IsHeld start text self.old → IsHeld start text self.new }
+        ensures holds { (text : List ℕ) → IsHeld start text self.old → IsHeld start text self.new }
+        ensures few { Reaches start self.old → KeepsFew start self.new }
     {
         let gone = start.saturating_sub(self.from).min(self.bytes.len());
         if gone > self.bytes.len() / 2 {
@@ -65,6 +67,7 @@ pub(crate) fn take_text(
     ensures keeps { OnOk result (is_some held.new ≡ is_some held.old) }
     ensures holds { OnOk result ((text : List ℕ) → IfSome held.old (IsHeld start text)
         → IfSome held.new (IsHeld start (text ++ passage.now))) }
+    ensures few { OnOk result (IfSome held.old (Reaches start) → IfSome held.new (KeepsFew start)) }
 {
     match held {
         Some(held) => held.take(start, passage),

@@ -38,7 +38,7 @@ impl Window {
     ghost use Rattle.lbk_chunk_reader.specs.Settled.{IsOpen};
     ghost use Rattle.lbk_chunk_reader.specs.Window.{IsNewWindow, IsSameWindow, IsTaken, cuts_in, here_in};
     ghost use Rattle.lbk_chunk_reader.specs.Window.{HoldsFew, HoldsFrom, held_in, keeps_text, limits_in, words_in};
-    ghost use Rattle.lbk_chunk_reader.specs.Held.{chunk_text};
+    ghost use Rattle.lbk_chunk_reader.specs.Held.{KeepsFew, Reaches, chunk_text};
     ghost use Rattle.lbk_chunk_reader.specs.Pieces.{IsRegular};
     ghost use Rattle.lbk_chunk_reader.specs.Taking.{TakesNext};
     ghost use Rattle.lbk_passage.specs.Next.{IsDone, failures_with, fault_in};
@@ -67,14 +67,17 @@ impl Window {
         }
     }
 
-    /// Takes the cuts of the next passage, and its text if that is kept. At most half of the cuts that are held then were
-    /// passed. After an error some of the passage's may be held.
+    /// Takes the cuts of the next passage, and its text if that is kept. Then at most half of the cuts held were passed,
+    /// and at most half of the text held is before the next start. After an error some of the passage's cuts may be
+    /// held.
     pub fn take(&mut self, passage: &Passage<'_>) -> Result<(), AllocError>
         requires { passage.now.start ≤ 2 ^ 62 }
         ensures taken { OnOk result (IsRegular passage.now.start (words_in self.old) passage.now.segments.now
             passage.now.pieces.now
             → IsTaken passage.now self.old self.new) }
         ensures few { HoldsFew self.new }
+        ensures text { OnOk result (IfSome (held_in self.old) (Reaches (here_in self.old).start)
+            → IfSome (held_in self.new) (KeepsFew (here_in self.new).start)) }
     {
         self.drop_passed();
         take_text(&mut self.held, self.here.start, passage.text)?;
@@ -108,8 +111,11 @@ impl Window {
             → (state_of C.cell_of segmenter.old).is_spent ≡ false
             → (result ≡ Ok false) × (self.new ≡ self.old) }
         ensures ended { (state_of C.cell_of segmenter.old).is_ended ≡ true → reader.new ≡ reader.old }
-        // Cuts that were passed are released.
+        // Cuts that were passed are released, and so is the text before the next start.
         ensures few { IfOk result (λ came. came ≡ true → HoldsFew self.new) }
+        ensures text { IfOk result (λ came. came ≡ true
+            → IfSome (held_in self.old) (Reaches (here_in self.old).start)
+            → IfSome (held_in self.new) (KeepsFew (here_in self.new).start)) }
     {
         let Some(passage) = segmenter.next(reader)? else {
             return Ok(false);

@@ -2,7 +2,7 @@ use Rattle.std.proofs.Common.{◌+◌, ◌++◌, ap, arith, is_some, length, sub
 use Rattle.std.specs.Prelude.{IfSome}
 use Rattle.lbk_chunk_reader.specs.PassageWords.{words_in_pieces}
 use Rattle.lbk_chunk_reader.specs.Cuts.{cuts_between}
-use Rattle.lbk_chunk_reader.specs.Held.{IsHeld}
+use Rattle.lbk_chunk_reader.specs.Held.{IsHeld, Reaches}
 use Rattle.lbk_chunk_reader.specs.Pieces.{IsRegular}
 use Rattle.lbk_chunks.specs.declared.chunk.Here.{Here}
 use Rattle.lbk_chunk_reader.specs.Window.{cuts_in}
@@ -29,3 +29,11 @@ returns-clause-taken c = λ is.
           (subst (λ h. IfSome h (IsHeld mid.here.start text)) (sym same.held)
           (subst (λ (h : Here). IfSome c.args.self.now.held (IsHeld h.start text)) (sym same.here) held));
     }
+
+pub returns-clause-text : goal.returns-clause-text
+returns-clause-text c = λ reaches.
+    let same = c.drop_passed.ensures.same in
+    let mid = c.drop_passed.new.self in
+    c.in_ok-take_text.ensures.few
+    (subst (λ h. IfSome h (Reaches mid.here.start)) (sym same.held)
+    (subst (λ (h : Here). IfSome c.args.self.now.held (Reaches h.start)) (sym same.here) reaches))
