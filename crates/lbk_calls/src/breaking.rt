@@ -19,8 +19,8 @@ use lbk_units::{Breaks, Positions};
 /// many: as many as the block holds, or all that are left. The text may be any bytes; each maximal subpart of
 /// ill-formed bytes is read as U+FFFD (Unicode Standard, section 3.9).
 ///
-/// Returns 0 and leaves the state unchanged if the block has no room, if the state is at or past the end of the text,
-/// or if its profile is unknown. The entries of the block after the breaks are unspecified. With any table and state,
+/// Returns 0 and leaves the state unchanged if the block has no room, if the end was returned, if the state is past it,
+/// or if the profile is unknown. The entries of the block after the breaks are unspecified. With any table and state,
 /// the breaks are breaks of rules, in order, from the state's offset on, and the state advances with them.
 #[unsafe(no_mangle)]
 pub extern "C" fn lbk_breaks(
@@ -63,8 +63,8 @@ pub fn going_profile(state: &State, len: usize) -> Option<Profile>
 /// how many. Offsets count units of 16 bits. The text may be any units; a lone surrogate is read as U+FFFD (Unicode
 /// Standard, section 3.9, D91).
 ///
-/// Returns 0 and leaves the state unchanged if the block has no room, if the state is at or past the end of the text,
-/// or if its profile is unknown. With any table and state, the breaks are breaks of rules, in order, from the state's
+/// Returns 0 and leaves the state unchanged if the block has no room, if the end was returned, if the state is past it,
+/// or if the profile is unknown. With any table and state, the breaks are breaks of rules, in order, from the state's
 /// offset on, and the state advances with them.
 #[unsafe(no_mangle)]
 pub extern "C" fn lbk_breaks_utf16(
@@ -86,8 +86,8 @@ pub extern "C" fn lbk_breaks_utf16(
 /// scalar, and one at the end. Each is returned once, with the verdict of the first rule that matches there, also No.
 /// The text may be any bytes, read as `lbk_breaks` reads them.
 ///
-/// Returns 0 and leaves the state unchanged if the block has no room, if the state is at or past the end of the text,
-/// or if its profile is unknown. With any table and state, the positions are by rules and in order, from the state's
+/// Returns 0 and leaves the state unchanged if the block has no room, if the end was returned, if the state is past it,
+/// or if the profile is unknown. With any table and state, the positions are by rules and in order, from the state's
 /// offset on, and the state advances with them.
 #[unsafe(no_mangle)]
 pub extern "C" fn lbk_positions(
