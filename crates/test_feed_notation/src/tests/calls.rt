@@ -8,13 +8,25 @@ use lbk_notation::{Form, ReplayFault, Report, replay};
 use lbk_passage::{PassageFault, Segmenter};
 use lbk_rules::{CellPages, CellSource};
 use std::alloc::{AllocError, Global};
-use std::test::Fail;
+use std::fmt::Debug;
+use std::process::Abort;
 use test_support::calls::next_passage;
 use test_support::engines::Setting;
 
+/// The value of a call that has to succeed. A body with `?` has a way out at each call, which releases all that the
+/// body owns; a body with this has none, and its check takes a fraction of the time.
+pub fn must<T, E: Debug + Drop>(rt: &impl Abort, answer: Result<T, E>) -> T {
+    answer.expect(rt, "a call failed")
+}
+
+/// Compares a result with the expected one.
+pub fn same<T: PartialEq + Debug, D: Debug>(rt: &impl Abort, found: &T, want: &T, of: &D) {
+    assert!(rt; found == want, "{found:?} in place of {want:?}: {of:?}");
+}
+
 /// The cells of the sample files.
-pub fn sample_cells(alloc: Global) -> Result<CellPages, Fail> {
-    Ok(read_cells(alloc, SAMPLE_FILES)?)
+pub fn sample_cells(rt: &impl Abort, alloc: Global) -> CellPages {
+    must(rt, read_cells(alloc, SAMPLE_FILES))
 }
 
 /// Returns the bytes in reads of these sizes; the last size is that of all later reads.

@@ -1,7 +1,7 @@
 //! The lines that `chunk` writes for a whole text, for a range and before a fault, for reads cut in any way, and a
 //! window alone.
 
-use crate::tests::calls::{cut_source, memory_sink, sample_cells};
+use crate::tests::calls::{cut_source, memory_sink, must, same, sample_cells};
 use crate::tests::chunk_rows::{LIMITS, ROWS};
 use crate::tests::chunks::{LIMIT, limits_of, push_told};
 use lbk_args::Part;
@@ -12,9 +12,8 @@ use lbk_feed::devices::{MemorySink, MemorySource};
 use lbk_passage::PassageFault;
 use lbk_rules::{CellPages, Profile};
 use std::alloc::Global;
-use std::test::Fail;
+use std::process::Abort;
 use test_support::calls::segmenter_of;
-use test_support::checks::same;
 use test_support::reads::cuttings;
 
 /// `chunk`, without its contract.
@@ -31,13 +30,13 @@ fn chunked(
 }
 
 /// A text, read in these sizes, has these lines, and the run ends so.
-fn check(alloc: Global, cells: &CellPages, row: &Row, sizes: &[usize]) -> Result<(), Fail> {
+fn check(rt: &impl Abort, alloc: Global, cells: &CellPages, row: &Row, sizes: &[usize]) {
     let (asked, text, lines, end) = *row;
     let mut reader = cut_source(text, sizes);
-    let mut writer = memory_sink(alloc, 1024, usize::MAX)?;
+    let mut writer = must(rt, memory_sink(alloc, 1024, usize::MAX));
     let answer = chunked(alloc, cells, asked, &mut reader, &mut writer);
-    same(&writer.bytes(), &lines.as_bytes(), &sizes)?;
-    same(&answer, &end, &sizes)
+    same(rt, &writer.bytes(), &lines.as_bytes(), &sizes);
+    same(rt, &answer, &end, &sizes);
 }
 
 /// All chunks, a line for each.
@@ -95,27 +94,25 @@ static WRITTEN: [Row; 5] = [
 ];
 
 #[test]
-fn written_in_all_reads(rt: HostRuntime) -> Result<(), Fail> {
-    let cells = sample_cells(rt.alloc())?;
+fn written_in_all_reads(rt: HostRuntime) {
+    let cells = sample_cells(&rt, rt.alloc());
     for row in &WRITTEN {
-        for sizes in &cuttings(rt.alloc(), row.1.len())? {
-            check(rt.alloc(), &cells, row, sizes)?;
+        for sizes in &must(&rt, cuttings(rt.alloc(), row.1.len())) {
+            check(&rt, rt.alloc(), &cells, row, sizes);
         }
     }
-    Ok(())
 }
 
 /// The chunks of a text, by a window.
 fn by_window(
+    rt: &impl Abort,
     alloc: Global,
     cells: &CellPages,
     limits: Limits,
     text: &[u8],
-) -> Result<String, Fail> {
+) -> String {
     let mut line = String::new(alloc);
-    let Ok(mut segmenter) = segmenter_of(alloc, cells, LIMIT, Profile::First) else {
-        return Err(Fail::new(format_args!("no segmenter")));
-    };
+    let mut segmenter = must(rt, segmenter_of(alloc, cells, LIMIT, Profile::First));
     let mut window = Window::new(alloc, limits, false);
     let mut reader = MemorySource::new(text);
     for _ in 0..u64::MAX {
@@ -124,42 +121,44 @@ fn by_window(
             let Some(chunk) = window.next(!came) else {
                 break;
             };
-            push_told(&mut line, &chunk)?;
+            must(rt, push_told(&mut line, &chunk));
         }
         if !came {
             break;
         }
     }
-    Ok(line)
+    line
 }
 
 /// The same for its first passage, with cuts passed by hand.
-fn of_one_passage(alloc: Global, cells: &CellPages, text: &[u8]) -> Result<String, Fail> {
+fn of_one_passage(rt: &impl Abort, alloc: Global, cells: &CellPages, text: &[u8]) -> String {
     let mut line = String::new(alloc);
-    let Ok(mut segmenter) = segmenter_of(alloc, cells, LIMIT, Profile::First) else {
-        return Err(Fail::new(format_args!("no segmenter")));
-    };
+    let mut segmenter = must(rt, segmenter_of(alloc, cells, LIMIT, Profile::First));
     let mut window = Window::new(alloc, limits_of(&[4, 0, 0, 0]), true);
     if let Ok(Some(passage)) = segmenter.next(&mut MemorySource::new(text)) {
-        window.take(&passage)?;
+        must(rt, window.take(&passage));
     }
     if let Some(chunk) = window.next(true) {
-        push_told(&mut line, &chunk)?;
+        must(rt, push_told(&mut line, &chunk));
         let text = window.text_of(&chunk).unwrap_or(b"");
-        line.push_str(str::from_utf8(text).unwrap_or("ill-formed"))?;
+        must(
+            rt,
+            line.push_str(str::from_utf8(text).unwrap_or("ill-formed")),
+        );
     }
-    Ok(line)
+    line
 }
 
 #[test]
-fn windows(rt: HostRuntime) -> Result<(), Fail> {
-    let cells = sample_cells(rt.alloc())?;
+fn windows(rt: HostRuntime) {
+    let cells = sample_cells(&rt, rt.alloc());
     for (text, chunks) in &ROWS {
         for (numbers, want) in LIMITS.iter().zip(chunks.iter()) {
-            let line = by_window(rt.alloc(), &cells, limits_of(numbers), text.as_bytes())?;
-            same(&line.as_str(), want, text)?;
+            let limits = limits_of(numbers);
+            let line = by_window(&rt, rt.alloc(), &cells, limits, text.as_bytes());
+            same(&rt, &line.as_str(), want, text);
         }
     }
-    let line = of_one_passage(rt.alloc(), &cells, b"aa bb\ncc")?;
-    same(&line.as_str(), &"0-3:1aa ", &line)
+    let line = of_one_passage(&rt, rt.alloc(), &cells, b"aa bb\ncc");
+    same(&rt, &line.as_str(), &"0-3:1aa ", &line);
 }

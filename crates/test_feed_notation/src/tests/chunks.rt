@@ -1,7 +1,7 @@
 //! The chunks of texts, for reads cut in any way: in two and three reads, cut at every offset, and in reads of one to
 //! seven bytes.
 
-use crate::tests::calls::sample_cells;
+use crate::tests::calls::{must, same, sample_cells};
 use crate::tests::chunk_rows::{LIMITS, Numbers, ROWS};
 use lbk_chunk_reader::{Chunk, ChunkFault, Chunker};
 use lbk_chunks::Limits;
@@ -10,8 +10,7 @@ use lbk_passage::PassageFault;
 use lbk_rules::{CellPages, Profile};
 use std::alloc::{AllocError, Global};
 use std::fmt::Write;
-use std::test::Fail;
-use test_support::checks::same;
+use std::process::Abort;
 use test_support::reads::cuttings;
 
 /// The most bytes of a paragraph.
@@ -39,53 +38,53 @@ pub fn push_told(line: &mut String, chunk: &Chunk) -> Result<(), AllocError> {
 
 /// The chunks of a text, read in these sizes, and the fault after them.
 fn told(
+    rt: &impl Abort,
     alloc: Global,
     cells: &CellPages,
     limits: Limits,
     text: &[u8],
     sizes: &[usize],
-) -> Result<(String, Option<PassageFault>), Fail> {
+) -> (String, Option<PassageFault>) {
     let mut line = String::new(alloc);
-    let Ok(mut chunker) = Chunker::new(alloc, cells, limits, LIMIT, Profile::First) else {
-        return Err(Fail::new(format_args!("no chunker")));
-    };
+    let chunker = Chunker::new(alloc, cells, limits, LIMIT, Profile::First);
+    let mut chunker = must(rt, chunker);
     let mut reader = MemorySource::cut(text, sizes);
     for _ in 0..u64::MAX {
         match chunker.next(&mut reader) {
-            Ok(Some(chunk)) => push_told(&mut line, &chunk)?,
-            Ok(None) => return Ok((line, None)),
-            Err(fault) => return Ok((line, Some(fault))),
+            Ok(Some(chunk)) => must(rt, push_told(&mut line, &chunk)),
+            Ok(None) => break,
+            Err(fault) => return (line, Some(fault)),
         }
     }
-    Ok((line, None))
+    (line, None)
 }
 
 /// A text has these chunks and then this fault, however its reads are cut.
 fn check(
+    rt: &impl Abort,
     alloc: Global,
     cells: &CellPages,
     limits: Limits,
     text: &[u8],
     (want, fault): (&str, Option<PassageFault>),
-) -> Result<(), Fail> {
-    for sizes in &cuttings(alloc, text.len())? {
-        let (line, found) = told(alloc, cells, limits, text, sizes)?;
-        same(&line.as_str(), &want, &(text, sizes))?;
-        same(&found, &fault, &(text, sizes))?;
+) {
+    for sizes in &must(rt, cuttings(alloc, text.len())) {
+        let (line, found) = told(rt, alloc, cells, limits, text, sizes);
+        same(rt, &line.as_str(), &want, &(text, sizes));
+        same(rt, &found, &fault, &(text, sizes));
     }
-    Ok(())
 }
 
 #[test]
-fn chunks_in_all_reads(rt: HostRuntime) -> Result<(), Fail> {
-    let cells = sample_cells(rt.alloc())?;
+fn chunks_in_all_reads(rt: HostRuntime) {
+    let cells = sample_cells(&rt, rt.alloc());
     for (text, chunks) in &ROWS {
         for (numbers, want) in LIMITS.iter().zip(chunks.iter()) {
             let limits = limits_of(numbers);
-            check(rt.alloc(), &cells, limits, text.as_bytes(), (want, None))?;
+            let told = (*want, None);
+            check(&rt, rt.alloc(), &cells, limits, text.as_bytes(), told);
         }
     }
-    Ok(())
 }
 
 /// Refused texts, the chunks of at most four bytes that are settled before, and the fault.
@@ -100,21 +99,21 @@ static REFUSED: [(&[u8], &str, PassageFault); 3] = [
 ];
 
 #[test]
-fn refused_texts(rt: HostRuntime) -> Result<(), Fail> {
-    let cells = sample_cells(rt.alloc())?;
+fn refused_texts(rt: HostRuntime) {
+    let cells = sample_cells(&rt, rt.alloc());
     let limits = limits_of(&[4, 0, 0, 0]);
     for (text, want, fault) in &REFUSED {
-        check(rt.alloc(), &cells, limits, text, (want, Some(*fault)))?;
+        let told = (*want, Some(*fault));
+        check(&rt, rt.alloc(), &cells, limits, text, told);
     }
-    Ok(())
 }
 
 /// Limits out of range.
 const BAD: [Numbers; 3] = [[0, 0, 0, 0], [4, 0, 5, 0], [4, 0, 0, 3]];
 
 #[test]
-fn refused_limits(rt: HostRuntime) -> Result<(), Fail> {
-    let cells = sample_cells(rt.alloc())?;
+fn refused_limits(rt: HostRuntime) {
+    let cells = sample_cells(&rt, rt.alloc());
     for numbers in &BAD {
         let made = Chunker::new(
             rt.alloc(),
@@ -123,7 +122,7 @@ fn refused_limits(rt: HostRuntime) -> Result<(), Fail> {
             LIMIT,
             Profile::First,
         );
-        same(&made.err(), &Some(ChunkFault::Limits), numbers)?;
+        same(&rt, &made.err(), &Some(ChunkFault::Limits), numbers);
     }
     let made = Chunker::new(
         rt.alloc(),
@@ -132,9 +131,6 @@ fn refused_limits(rt: HostRuntime) -> Result<(), Fail> {
         0,
         Profile::First,
     );
-    same(
-        &made.err(),
-        &Some(ChunkFault::Passage(PassageFault::Limit)),
-        &0,
-    )
+    let fault = ChunkFault::Passage(PassageFault::Limit);
+    same(&rt, &made.err(), &Some(fault), &0);
 }

@@ -1,7 +1,7 @@
 //! The output for worked texts and test files in both profiles, and how each run ends, for reads cut in any way: in two
 //! and three reads, cut at every offset, and in reads of one to seven bytes.
 
-use crate::tests::calls::sample_cells;
+use crate::tests::calls::{must, same, sample_cells};
 use crate::tests::runs::{Run, check_run, whole};
 use crate::tests::tasks::{End, MARK, REPLAY, SEGMENT, SHOW, Task};
 use crate::tests::told_rows;
@@ -9,8 +9,7 @@ use lbk_notation::Form;
 use lbk_passage::PassageFault::{self, Limit, NotUtf8, ParagraphTooLong};
 use lbk_rules::{CellPages, Profile};
 use std::alloc::Global;
-use std::test::Fail;
-use test_support::checks::same;
+use std::process::Abort;
 use test_support::engines::{LIMIT, Setting};
 use test_support::reads::cuttings;
 use test_support::{marked, replayed, segment_lines, shown, texts};
@@ -23,20 +22,20 @@ const OF_FILES: [Task; 2] = [REPLAY, KINDS];
 
 /// Compares how a run ends and what it writes, for all reads.
 fn check(
+    rt: &impl Abort,
     setting: Setting<'_>,
     task: Task,
     input: &[u8],
     end: End,
     written: &[u8],
-) -> Result<(), Fail> {
-    for sizes in &cuttings(setting.alloc, input.len())? {
+) {
+    for sizes in &must(rt, cuttings(setting.alloc, input.len())) {
         let run = Run {
             sizes,
             ..whole(task, input)
         };
-        let _ = check_run(run, setting, end, written)?;
+        let _ = check_run(rt, run, setting, end, written);
     }
-    Ok(())
 }
 
 /// The cells, for both profiles or one.
@@ -49,9 +48,9 @@ const FIRST: [Profile; 1] = [Profile::First];
 const SECOND: [Profile; 1] = [Profile::Second];
 
 /// A run accepts its input; after a test file it returns the counts that its last line has.
-fn check_accepted(alloc: Global, end: End, written: &str) -> Result<(), Fail> {
+fn check_accepted(rt: &impl Abort, alloc: Global, end: End, written: &str) {
     let End::File(Ok(report)) = end else {
-        return same(&end, &End::Text(Ok(())), &written);
+        return same(rt, &end, &End::Text(Ok(())), &written);
     };
     let [lines, agreed, differed, refused] = [
         report.lines,
@@ -59,35 +58,37 @@ fn check_accepted(alloc: Global, end: End, written: &str) -> Result<(), Fail> {
         report.differed,
         report.refused,
     ];
-    let last = format!(in alloc; "T {lines} {agreed} {differed} {refused}\n")?;
-    same(&written.ends_with(last.as_str()), &true, &written)
+    let last = must(
+        rt,
+        format!(in alloc; "T {lines} {agreed} {differed} {refused}\n"),
+    );
+    same(rt, &written.ends_with(last.as_str()), &true, &written);
 }
 
 /// Texts or test files, and the output for each.
-fn check_rows(settings: Settings<'_>, task: Task, rows: &[(&str, &str)]) -> Result<(), Fail> {
+fn check_rows(rt: &impl Abort, settings: Settings<'_>, task: Task, rows: &[(&str, &str)]) {
     let (alloc, cells, profiles) = settings;
     for (input, written) in rows {
         for profile in profiles {
             let setting = Setting::new(alloc, cells, *profile);
-            let end = whole(task, input.as_bytes()).ran(setting)?.end;
-            check_accepted(alloc, end, written)?;
-            check(setting, task, input.as_bytes(), end, written.as_bytes())?;
+            let end = must(rt, whole(task, input.as_bytes()).ran(setting)).end;
+            check_accepted(rt, alloc, end, written);
+            check(rt, setting, task, input.as_bytes(), end, written.as_bytes());
         }
     }
-    Ok(())
 }
 
-fn check_texts(settings: Settings<'_>, rows: [&[(&str, &str)]; 4]) -> Result<(), Fail> {
+fn check_texts(rt: &impl Abort, settings: Settings<'_>, rows: [&[(&str, &str)]; 4]) {
     for (task, rows) in OF_TEXTS.iter().zip(rows.iter()) {
-        check_rows(settings, *task, rows)?;
+        check_rows(rt, settings, *task, rows);
     }
-    Ok(())
 }
 
 #[test]
-fn written_of_texts(rt: HostRuntime) -> Result<(), Fail> {
-    let cells = sample_cells(rt.alloc())?;
+fn written_of_texts(rt: HostRuntime) {
+    let cells = sample_cells(&rt, rt.alloc());
     check_texts(
+        &rt,
         (rt.alloc(), &cells, &BOTH),
         [
             &told_rows::BOTH,
@@ -95,8 +96,9 @@ fn written_of_texts(rt: HostRuntime) -> Result<(), Fail> {
             &shown::BOTH,
             &segment_lines::BOTH,
         ],
-    )?;
+    );
     check_texts(
+        &rt,
         (rt.alloc(), &cells, &FIRST),
         [
             &told_rows::FIRST,
@@ -104,8 +106,9 @@ fn written_of_texts(rt: HostRuntime) -> Result<(), Fail> {
             &shown::FIRST,
             &segment_lines::FIRST,
         ],
-    )?;
+    );
     check_texts(
+        &rt,
         (rt.alloc(), &cells, &SECOND),
         [
             &told_rows::SECOND,
@@ -113,32 +116,31 @@ fn written_of_texts(rt: HostRuntime) -> Result<(), Fail> {
             &shown::SECOND,
             &segment_lines::SECOND,
         ],
-    )
+    );
 }
 
 /// Compares each run with one that reads everything at once.
-fn check_uncut(settings: Settings<'_>, tasks: &[Task], input: &[u8]) -> Result<(), Fail> {
+fn check_uncut(rt: &impl Abort, settings: Settings<'_>, tasks: &[Task], input: &[u8]) {
     let (alloc, cells, profiles) = settings;
     for task in tasks {
         for profile in profiles {
             let setting = Setting::new(alloc, cells, *profile);
-            let want = whole(*task, input).ran(setting)?;
-            check(setting, *task, input, want.end, want.sink.bytes())?;
+            let want = must(rt, whole(*task, input).ran(setting));
+            check(rt, setting, *task, input, want.end, want.sink.bytes());
         }
     }
-    Ok(())
 }
 
 /// The same of the inputs of rows, with results elsewhere.
 fn check_uncut_rows(
+    rt: &impl Abort,
     settings: Settings<'_>,
     tasks: &[Task],
     rows: &[(&str, &str)],
-) -> Result<(), Fail> {
+) {
     for (input, _) in rows {
-        check_uncut(settings, tasks, input.as_bytes())?;
+        check_uncut(rt, settings, tasks, input.as_bytes());
     }
-    Ok(())
 }
 
 /// Texts that are ill-formed at an end or inside, after passages or not; and test files: the start of a byte order
@@ -165,21 +167,20 @@ static BAD: [(&[Task], &[u8]); 11] = [
 ];
 
 #[test]
-fn reads_of_inputs(rt: HostRuntime) -> Result<(), Fail> {
-    let cells = sample_cells(rt.alloc())?;
+fn reads_of_inputs(rt: HostRuntime) {
+    let cells = sample_cells(&rt, rt.alloc());
     let settings: Settings<'_> = (rt.alloc(), &cells, &BOTH);
-    check_uncut_rows(settings, &OF_TEXTS, &texts::FIRST)?;
-    check_uncut_rows(settings, &OF_TEXTS, &texts::SECOND)?;
-    check_uncut_rows(settings, &OF_TEXTS, &shown::BOTH)?;
-    check_uncut_rows(settings, &OF_TEXTS, &shown::SECOND)?;
-    check_uncut_rows(settings, &OF_TEXTS, &told_rows::BOTH)?;
-    check_uncut_rows(settings, &OF_FILES, &replayed::PLAIN)?;
-    check_uncut_rows(settings, &OF_FILES, &replayed::KINDS)?;
-    check_uncut_rows(settings, &OF_FILES, &replayed::FIRST)?;
+    check_uncut_rows(&rt, settings, &OF_TEXTS, &texts::FIRST);
+    check_uncut_rows(&rt, settings, &OF_TEXTS, &texts::SECOND);
+    check_uncut_rows(&rt, settings, &OF_TEXTS, &shown::BOTH);
+    check_uncut_rows(&rt, settings, &OF_TEXTS, &shown::SECOND);
+    check_uncut_rows(&rt, settings, &OF_TEXTS, &told_rows::BOTH);
+    check_uncut_rows(&rt, settings, &OF_FILES, &replayed::PLAIN);
+    check_uncut_rows(&rt, settings, &OF_FILES, &replayed::KINDS);
+    check_uncut_rows(&rt, settings, &OF_FILES, &replayed::FIRST);
     for (tasks, input) in &BAD {
-        check_uncut(settings, tasks, input)?;
+        check_uncut(&rt, settings, tasks, input);
     }
-    Ok(())
 }
 
 /// A text, the limit of a paragraph, the fault, if any, and the passages that are written.
@@ -287,17 +288,17 @@ static WRITTEN: [(&str, [&str; 4]); 7] = [
 ];
 
 /// What each of `OF_TEXTS` writes for some passages.
-fn written_for(passages: &str) -> Result<&'static [&'static str; 4], Fail> {
+fn written_for(passages: &str) -> Option<&'static [&'static str; 4]> {
     for (text, written) in &WRITTEN {
         if *text == passages {
-            return Ok(written);
+            return Some(written);
         }
     }
-    Err(Fail::new("passages that are not in the table"))
+    None
 }
 
 /// Compares what each task writes for a text, and how it ends.
-fn check_tasks(setting: Setting<'_>, row: &Row) -> Result<(), Fail> {
+fn check_tasks(rt: &impl Abort, setting: Setting<'_>, row: &Row) {
     let (text, limit, fault, passages) = *row;
     let mut setting = setting;
     setting.limit = limit;
@@ -305,29 +306,30 @@ fn check_tasks(setting: Setting<'_>, row: &Row) -> Result<(), Fail> {
         Some(fault) => End::refused(fault),
         None => End::Text(Ok(())),
     };
-    for (task, written) in OF_TEXTS.iter().zip(written_for(passages)?.iter()) {
-        check(setting, *task, text, end, written.as_bytes())?;
+    let all_written = written_for(passages).expect(rt, "passages that are not in the table");
+    for (task, written) in OF_TEXTS.iter().zip(all_written.iter()) {
+        check(rt, setting, *task, text, end, written.as_bytes());
     }
-    Ok(())
 }
 
 #[test]
-fn limits_and_faults(rt: HostRuntime) -> Result<(), Fail> {
-    let cells = sample_cells(rt.alloc())?;
+fn limits_and_faults(rt: HostRuntime) {
+    let cells = sample_cells(&rt, rt.alloc());
     for row in &ROWS {
         for profile in BOTH {
-            check_tasks(Setting::new(rt.alloc(), &cells, profile), row)?;
+            check_tasks(&rt, Setting::new(rt.alloc(), &cells, profile), row);
         }
     }
-    Ok(())
 }
 
 #[test]
-fn written_of_files(rt: HostRuntime) -> Result<(), Fail> {
-    let cells = sample_cells(rt.alloc())?;
+fn written_of_files(rt: HostRuntime) {
+    let cells = sample_cells(&rt, rt.alloc());
     let settings: Settings<'_> = (rt.alloc(), &cells, &BOTH);
-    check_rows(settings, REPLAY, &replayed::PLAIN)?;
-    check_rows(settings, KINDS, &replayed::KINDS)?;
-    check_rows((rt.alloc(), &cells, &FIRST), REPLAY, &replayed::FIRST)?;
-    check_rows((rt.alloc(), &cells, &SECOND), REPLAY, &replayed::SECOND)
+    check_rows(&rt, settings, REPLAY, &replayed::PLAIN);
+    check_rows(&rt, settings, KINDS, &replayed::KINDS);
+    let first: Settings<'_> = (rt.alloc(), &cells, &FIRST);
+    check_rows(&rt, first, REPLAY, &replayed::FIRST);
+    let second: Settings<'_> = (rt.alloc(), &cells, &SECOND);
+    check_rows(&rt, second, REPLAY, &replayed::SECOND);
 }

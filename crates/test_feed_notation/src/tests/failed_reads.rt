@@ -1,11 +1,10 @@
 //! Readers that fail at each read: everything settled was written before, and no read follows.
 
-use crate::tests::calls::sample_cells;
+use crate::tests::calls::{same, sample_cells};
 use crate::tests::runs::{Run, check_run, whole};
 use crate::tests::tasks::{MARK, REPLAY, SEGMENT, SHOW, Task};
 use lbk_rules::Profile;
-use std::test::Fail;
-use test_support::checks::same;
+use std::process::Abort;
 use test_support::engines::Setting;
 use test_support::replayed::FOUR_LINES;
 
@@ -61,7 +60,7 @@ fn written_after<'a>(outputs: &[(usize, &'a str)], read: usize) -> &'a str {
 }
 
 /// Fails each read of so many bytes; the last one would return the end.
-fn check_failed_reads(setting: Setting<'_>, row: &Row, size: usize) -> Result<(), Fail> {
+fn check_failed_reads(rt: &impl Abort, setting: Setting<'_>, row: &Row, size: usize) {
     let (task, input, outputs) = *row;
     for place in 0..=input.len() {
         let read = place.saturating_mul(size);
@@ -75,27 +74,24 @@ fn check_failed_reads(setting: Setting<'_>, row: &Row, size: usize) -> Result<()
             ..whole(task, input.as_bytes())
         };
         let written = written_after(outputs, read).as_bytes();
-        let reads = check_run(run, setting, task.failed_read(), written)?;
-        same(&reads, &(place as u64).saturating_add(1), &run)?;
+        let reads = check_run(rt, run, setting, task.failed_read(), written);
+        same(rt, &reads, &(place as u64).saturating_add(1), &run);
     }
-    Ok(())
 }
 
 /// In reads of all sizes.
-fn check_row(setting: Setting<'_>, row: &Row) -> Result<(), Fail> {
+fn check_row(rt: &impl Abort, setting: Setting<'_>, row: &Row) {
     for size in 1..=row.1.len() {
-        check_failed_reads(setting, row, size)?;
+        check_failed_reads(rt, setting, row, size);
     }
-    Ok(())
 }
 
 #[test]
-fn failed_reads(rt: HostRuntime) -> Result<(), Fail> {
-    let cells = sample_cells(rt.alloc())?;
+fn failed_reads(rt: HostRuntime) {
+    let cells = sample_cells(&rt, rt.alloc());
     for row in &ROWS {
         for profile in [Profile::First, Profile::Second] {
-            check_row(Setting::new(rt.alloc(), &cells, profile), row)?;
+            check_row(&rt, Setting::new(rt.alloc(), &cells, profile), row);
         }
     }
-    Ok(())
 }

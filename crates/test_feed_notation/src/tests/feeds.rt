@@ -10,7 +10,7 @@ use std::test::Fail;
 use test_support::reads::SIZES;
 
 /// What a call of `piece` has to return.
-type Answer<'a> = Result<Option<&'a [u8]>, FeedFault>;
+type Answer<'a> = Result<Option<&'a str>, FeedFault>;
 
 /// The same, and how many reads it makes.
 #[derive(Clone, Copy)]
@@ -28,10 +28,7 @@ const SPENT: Row<'static> = Row(Err(FeedFault::Spent), 0);
 
 /// Asks for a piece, and compares it.
 fn check_piece<R: Source>(rt: &impl Abort, feed: &mut Feed, reader: &mut R, want: Answer<'_>) {
-    let found = feed
-        .piece(reader)
-        .map(|piece| piece.map(|text| text.as_bytes()));
-    same(rt, found, want, "a piece");
+    same(rt, feed.piece(reader), want, "a piece");
 }
 
 /// Consumes all that is ready, and compares the count then.
@@ -78,8 +75,8 @@ static PIECES: [Case; 10] = [
         &[2, 1, 2],
         None,
         &[
-            Row(Ok(Some(b"a")), 1),
-            Row(Ok(Some(b"\xE2\x82\xACb")), 2),
+            Row(Ok(Some("a")), 1),
+            Row(Ok(Some("€b")), 2),
             Row(Ok(None), 1),
             Row(Ok(None), 0),
         ],
@@ -88,14 +85,14 @@ static PIECES: [Case; 10] = [
         b"\xF0\x9F\x91\xA6",
         &[1],
         None,
-        &[Row(Ok(Some(b"\xF0\x9F\x91\xA6")), 4), Row(Ok(None), 1)],
+        &[Row(Ok(Some("\u{1F466}")), 4), Row(Ok(None), 1)],
     ),
     (
         EURO,
         &[2],
         Some(1),
         &[
-            Row(Ok(Some(b"a")), 1),
+            Row(Ok(Some("a")), 1),
             Row(Err(FeedFault::Read), 1),
             SPENT,
             SPENT,
@@ -106,7 +103,7 @@ static PIECES: [Case; 10] = [
         b"a\xFF",
         &[],
         None,
-        &[Row(Ok(Some(b"a")), 1), Row(ILL_SECOND, 0), SPENT],
+        &[Row(Ok(Some("a")), 1), Row(ILL_SECOND, 0), SPENT],
     ),
     (
         b"\xF0\x9F\x91",
@@ -126,8 +123,8 @@ static PIECES: [Case; 10] = [
         &[1],
         Some(3),
         &[
-            Row(Ok(Some(b"a")), 1),
-            Row(Ok(Some(b"b")), 1),
+            Row(Ok(Some("a")), 1),
+            Row(Ok(Some("b")), 1),
             Row(ILL_THIRD, 1),
             SPENT,
         ],
@@ -136,13 +133,13 @@ static PIECES: [Case; 10] = [
         b"ab\xFFc",
         &[3],
         Some(1),
-        &[Row(Ok(Some(b"ab")), 1), Row(ILL_THIRD, 0), SPENT],
+        &[Row(Ok(Some("ab")), 1), Row(ILL_THIRD, 0), SPENT],
     ),
     (
         b"a\xE2\x41c",
         &[2, 1],
         Some(2),
-        &[Row(Ok(Some(b"a")), 1), Row(ILL_SECOND, 1), SPENT],
+        &[Row(Ok(Some("a")), 1), Row(ILL_SECOND, 1), SPENT],
     ),
 ];
 
@@ -207,7 +204,7 @@ fn check_text_piece(
     want: &str,
     reads: u64,
 ) {
-    check_piece(rt, feed, reader, Ok(Some(want.as_bytes())));
+    check_piece(rt, feed, reader, Ok(Some(want)));
     same(rt, reader.reads(), reads, "reads");
 }
 
@@ -336,8 +333,8 @@ fn longest_text(rt: HostRuntime) {
 
 /// Asks for a piece, which has to have so many bytes, and consumes it.
 fn check_length(rt: &impl Abort, feed: &mut Feed, reader: &mut RepeatedSource, want: usize) {
-    let found = feed.piece(reader).map(|piece| piece.map(|text| text.len()));
-    same(rt, found, Ok(Some(want)), "a length");
+    let is_as_long = matches!(feed.piece(reader), Ok(Some(piece)) if piece.len() == want);
+    assert!(rt; is_as_long, "a piece of {want} bytes");
     use_up(feed);
 }
 

@@ -1,6 +1,6 @@
 //! The greatest sizes, and no results after them; scalars and line ends across the edges of blocks.
 
-use crate::tests::calls::{has_next, sample_cells};
+use crate::tests::calls::{has_next, must, same, sample_cells};
 use crate::tests::runs::{Run, check_run, whole};
 use crate::tests::tasks::{End, Task};
 use lbk_cmd::CmdFault;
@@ -10,9 +10,8 @@ use lbk_passage::{LIMIT_MAX, PassageFault, Segmenter};
 use lbk_rules::{CellPages, Profile};
 use std::alloc::{AllocError, Global};
 use std::io::{self, Read};
-use std::test::Fail;
+use std::process::Abort;
 use test_support::calls::next_passage;
-use test_support::checks::same;
 use test_support::engines::Setting;
 use test_support::reads::SIZES;
 
@@ -31,19 +30,20 @@ fn take_passages<R: Source>(
 
 /// Takes all passages up to the expected fault, and calls three times more.
 fn check_spent<R: Source>(
+    rt: &impl Abort,
     setting: Setting<'_>,
     reader: &mut R,
     want: PassageFault,
-) -> Result<(), Fail> {
-    let mut segmenter = setting.segmenter()?;
+) {
+    let mut segmenter = must(rt, setting.segmenter());
     let found = take_passages(&mut segmenter, reader);
-    same(&found, &Err(want), &"a segmenter")?;
+    same(rt, &found, &Err(want), &"a segmenter");
     let reads = reader.reads();
     for _ in 0..3 {
         let again = has_next(&mut segmenter, reader);
-        same(&again, &Err(PassageFault::Spent), &"a fault")?;
+        same(rt, &again, &Err(PassageFault::Spent), &"a fault");
     }
-    same(&reader.reads(), &reads, &want)
+    same(rt, &reader.reads(), &reads, &want);
 }
 
 /// An endless reader: lines of 65,535 letters.
@@ -78,28 +78,27 @@ fn next_sizes<R: Source>(
 }
 
 /// The only passage, with as many bytes as a paragraph may have: one segment and one piece.
-fn check_greatest(setting: Setting<'_>) -> Result<(), Fail> {
+fn check_greatest(rt: &impl Abort, setting: Setting<'_>) {
     let mut source = RepeatedSource::new(b'a', u64::from(setting.limit));
-    let mut segmenter = setting.segmenter()?;
+    let mut segmenter = must(rt, setting.segmenter());
     for want in [Some([setting.limit as usize, 1, 1]), None] {
-        let found = next_sizes(&mut segmenter, &mut source)?;
-        same(&found, &want, &"the greatest passage")?;
+        let found = next_sizes(&mut segmenter, &mut source);
+        same(rt, &found, &Ok(want), &"the greatest passage");
     }
-    Ok(())
 }
 
 /// At the greatest limit and one byte over it; and more than 1,000,000,000 bytes, which takes some seconds.
 #[test]
-fn greatest_sizes(rt: HostRuntime) -> Result<(), Fail> {
-    let cells = sample_cells(rt.alloc())?;
+fn greatest_sizes(rt: HostRuntime) {
+    let cells = sample_cells(&rt, rt.alloc());
     let mut setting = Setting::new(rt.alloc(), &cells, Profile::First);
     let mut lines = Device::new(Lines { column: 0 });
-    check_spent(setting, &mut lines, PassageFault::TextTooLong)?;
+    check_spent(&rt, setting, &mut lines, PassageFault::TextTooLong);
     setting.limit = LIMIT_MAX;
-    check_greatest(setting)?;
+    check_greatest(&rt, setting);
     let mut longer = RepeatedSource::new(b'a', 16_777_217);
     let fault = PassageFault::ParagraphTooLong { start: 0 };
-    check_spent(setting, &mut longer, fault)
+    check_spent(&rt, setting, &mut longer, fault);
 }
 
 /// So many letters, and these bytes after them.
@@ -111,11 +110,12 @@ fn text_behind(alloc: Global, n: usize, bytes: &[u8]) -> Result<Vec<u8>, AllocEr
 
 /// The passages of a text in reads of all sizes, or the fault instead.
 fn check_sizes(
+    rt: &impl Abort,
     setting: Setting<'_>,
     text: &[u8],
     end: Result<(), PassageFault>,
     told: &str,
-) -> Result<(), Fail> {
+) {
     let end = End::Text(end.map_err(CmdFault::Passage));
     for size in &SIZES {
         let sizes = [*size];
@@ -123,22 +123,24 @@ fn check_sizes(
             sizes: &sizes,
             ..whole(Task::Passages, text)
         };
-        let _ = check_run(run, setting, end, told.as_bytes())?;
+        let _ = check_run(rt, run, setting, end, told.as_bytes());
     }
-    Ok(())
 }
 
 /// The whole text is one passage, and it is ill-formed at `n` without its last byte or its last two.
-fn check_scalar_behind(setting: Setting<'_>, n: usize) -> Result<(), Fail> {
-    let text = text_behind(setting.alloc, n, b"\xE2\x82\xAC")?;
+fn check_scalar_behind(rt: &impl Abort, setting: Setting<'_>, n: usize) {
+    let text = must(rt, text_behind(setting.alloc, n, b"\xE2\x82\xAC"));
     let fault = PassageFault::NotUtf8 { at: n as u64 };
     for cut in [1, 2] {
         let shorter = text.get(..n.saturating_add(cut)).unwrap_or(&text);
-        check_sizes(setting, shorter, Err(fault), "")?;
+        check_sizes(rt, setting, shorter, Err(fault), "");
     }
     let m = n.saturating_add(3);
-    let told = format!(in setting.alloc; "P 0 {m} 3 S 0 {m} Must 3 W 0 {n} p {n} {m}\n")?;
-    check_sizes(setting, &text, Ok(()), told.as_str())
+    let told = must(
+        rt,
+        format!(in setting.alloc; "P 0 {m} 3 S 0 {m} Must 3 W 0 {n} p {n} {m}\n"),
+    );
+    check_sizes(rt, setting, &text, Ok(()), told.as_str());
 }
 
 /// CR ends a block and LF begins the next.
@@ -147,12 +149,12 @@ const TWO: &str =
 
 // A scalar of three bytes at each offset around the end of a block, and a line end across it.
 #[test]
-fn block_edges(rt: HostRuntime) -> Result<(), Fail> {
-    let cells = sample_cells(rt.alloc())?;
+fn block_edges(rt: HostRuntime) {
+    let cells = sample_cells(&rt, rt.alloc());
     let setting = Setting::new(rt.alloc(), &cells, Profile::First);
     for n in 4090..=4100 {
-        check_scalar_behind(setting, n)?;
+        check_scalar_behind(&rt, setting, n);
     }
-    let text = text_behind(rt.alloc(), 4095, b"\r\nb")?;
-    check_sizes(setting, &text, Ok(()), TWO)
+    let text = must(&rt, text_behind(rt.alloc(), 4095, b"\r\nb"));
+    check_sizes(&rt, setting, &text, Ok(()), TWO);
 }

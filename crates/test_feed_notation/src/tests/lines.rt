@@ -238,7 +238,7 @@ fn check_marked(
 #[test]
 fn marking(rt: HostRuntime) -> Result<(), Fail> {
     let alloc = rt.alloc();
-    let cells = sample_cells(alloc)?;
+    let cells = sample_cells(&rt, alloc);
     check_kinds()?;
     for (text, first, second) in &MARKED {
         check_marked(alloc, (&cells, Profile::First, Form::Kinds), text, first)?;
@@ -294,7 +294,7 @@ fn check_passage_line(alloc: Global, shown: &[u8]) -> Result<(), Fail> {
 #[test]
 fn lines_of_passages(rt: HostRuntime) -> Result<(), Fail> {
     let alloc = rt.alloc();
-    let source = sample_cells(alloc)?;
+    let source = sample_cells(&rt, alloc);
     let text = "a\r\n";
     let cells = cells_of(alloc, &source, text)?;
     let verdicts = verdicts_of(alloc, &cells)?;

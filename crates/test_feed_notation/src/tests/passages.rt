@@ -1,6 +1,6 @@
 //! The passages of a segmenter, with cells with and without a table of steps.
 
-use crate::tests::calls::{cut_source, sample_cells};
+use crate::tests::calls::{cut_source, must, same, sample_cells};
 use crate::tests::told::push_told;
 use lbk_cmd::{CmdFault, SAMPLE_FILES};
 use lbk_feed::devices::MemorySource;
@@ -9,9 +9,8 @@ use lbk_rules::{CellPages, CellSource, Profile};
 use lbk_ucd::Tables;
 use std::alloc::{AllocError, Global};
 use std::fmt::Write;
-use std::test::Fail;
+use std::process::Abort;
 use test_support::calls::{next_passage, segmenter_of, tables_of};
-use test_support::checks::same;
 use test_support::texts::{FIRST, SECOND};
 
 /// Writes all that is known about the next passage, or that there is none.
@@ -50,41 +49,31 @@ fn passages_of<C: CellSource>(
 }
 
 /// The passages of a text by two sources of the same cells.
-fn check_same(alloc: Global, tables: &Tables, pages: &CellPages, text: &str) -> Result<(), Fail> {
+fn check_same(rt: &impl Abort, alloc: Global, tables: &Tables, pages: &CellPages, text: &str) {
     for profile in [Profile::First, Profile::Second] {
-        let want = passages_of(alloc, tables, profile, text)?;
-        let found = passages_of(alloc, pages, profile, text)?;
-        same(&found.as_str(), &want.as_str(), &text)?;
+        let want = must(rt, passages_of(alloc, tables, profile, text));
+        let found = must(rt, passages_of(alloc, pages, profile, text));
+        same(rt, &found.as_str(), &want.as_str(), &text);
     }
-    Ok(())
 }
 
 fn check_rows(
+    rt: &impl Abort,
     alloc: Global,
     tables: &Tables,
     pages: &CellPages,
     rows: &[(&str, &str)],
-) -> Result<(), Fail> {
+) {
     for (text, _) in rows {
-        check_same(alloc, tables, pages, text)?;
+        check_same(rt, alloc, tables, pages, text);
     }
-    Ok(())
-}
-
-fn check_all_rows(alloc: Global, tables: &Tables, pages: &CellPages) -> Result<(), Fail> {
-    check_rows(alloc, tables, pages, &FIRST)?;
-    check_rows(alloc, tables, pages, &SECOND)
-}
-
-fn check_tables(alloc: Global, tables: &Tables) -> Result<(), Fail> {
-    let pages = sample_cells(alloc)?;
-    check_all_rows(alloc, tables, &pages)
 }
 
 /// Tables look up each property of a scalar, and pages keep kinds: both give the same passages.
 #[test]
-fn passages_by_tables_and_by_pages(rt: HostRuntime) -> Result<(), Fail> {
-    let alloc = rt.alloc();
-    let tables = tables_of(alloc, SAMPLE_FILES)?;
-    check_tables(alloc, &tables)
+fn passages_by_tables_and_by_pages(rt: HostRuntime) {
+    let tables = must(&rt, tables_of(rt.alloc(), SAMPLE_FILES));
+    let pages = sample_cells(&rt, rt.alloc());
+    check_rows(&rt, rt.alloc(), &tables, &pages, &FIRST);
+    check_rows(&rt, rt.alloc(), &tables, &pages, &SECOND);
 }

@@ -1,15 +1,14 @@
 //! The greatest test files that a replay accepts, and a line that differs.
 
-use crate::tests::calls::sample_cells;
+use crate::tests::calls::{must, same, sample_cells};
 use crate::tests::tasks::ROOM;
 use lbk_feed::Source;
 use lbk_feed::devices::{MemorySink, RepeatedSource};
 use lbk_notation::{Form, Mark, Outcome, ReplayFault, Report, replay};
 use lbk_rules::{CellPages, Kind, Profile, Rule, Verdict};
 use std::alloc::{AllocError, Global};
-use std::test::Fail;
+use std::process::Abort;
 use test_support::calls::{read_line, replay_line};
-use test_support::checks::same;
 
 const DIFFER: Outcome = Outcome::Differ {
     position: 1,
@@ -22,15 +21,14 @@ const DIFFER: Outcome = Outcome::Differ {
 
 // The line differs in both profiles.
 #[test]
-fn line_that_differs(rt: HostRuntime) -> Result<(), Fail> {
-    let cells = sample_cells(rt.alloc())?;
+fn line_that_differs(rt: HostRuntime) {
+    let cells = sample_cells(&rt, rt.alloc());
     let bytes = "× 0061 ÷ 0062 ÷".as_bytes();
-    let line = read_line(rt.alloc(), bytes, Form::Plain)?.ok_or("no line")?;
+    let line = must(&rt, read_line(rt.alloc(), bytes, Form::Plain)).expect(&rt, "no line");
     for profile in [Profile::First, Profile::Second] {
         let found = replay_line(&cells, &line, Form::Plain, profile);
-        same(&found, &DIFFER, &profile)?;
+        same(&rt, &found, &DIFFER, &profile);
     }
-    Ok(())
 }
 
 /// What `replay` returns for a source, and the sink that it wrote to.
@@ -48,15 +46,17 @@ fn replayed<R: Source>(
 
 /// Replays one repeated byte, and compares whether it is refused, and the output.
 fn check_repeated(
+    rt: &impl Abort,
     alloc: Global,
     cells: &CellPages,
     (byte, count): (u8, u64),
     (refused, written): (Option<ReplayFault>, &str),
-) -> Result<(), Fail> {
+) {
     let mut source = RepeatedSource::new(byte, count);
-    let (answer, sink) = replayed(alloc, cells, &mut source, Form::Plain, Profile::First)?;
-    same(&answer.err(), &refused, &count)?;
-    same(&sink.bytes(), &written.as_bytes(), &count)
+    let replayed = replayed(alloc, cells, &mut source, Form::Plain, Profile::First);
+    let (answer, sink) = must(rt, replayed);
+    same(rt, &answer.err(), &refused, &count);
+    same(rt, &sink.bytes(), &written.as_bytes(), &count);
 }
 
 /// A byte, how often it is repeated, why the file is refused, if it is, and the output.
@@ -71,10 +71,9 @@ static REPEATED: [((u8, u64), (Option<ReplayFault>, &str)); 3] = [
 
 // The longest line and stream, and one byte more.
 #[test]
-fn longest_files(rt: HostRuntime) -> Result<(), Fail> {
-    let cells = sample_cells(rt.alloc())?;
+fn longest_files(rt: HostRuntime) {
+    let cells = sample_cells(&rt, rt.alloc());
     for (repeated, want) in &REPEATED {
-        check_repeated(rt.alloc(), &cells, *repeated, *want)?;
+        check_repeated(&rt, rt.alloc(), &cells, *repeated, *want);
     }
-    Ok(())
 }

@@ -1,12 +1,11 @@
 //! Runs of a task over bytes in memory, and their expected results.
 
-use crate::tests::calls::{memory_sink, source_of};
+use crate::tests::calls::{memory_sink, must, same, source_of};
 use crate::tests::tasks::{End, ROOM, Task};
 use lbk_feed::devices::MemorySink;
 use lbk_feed::{Sink, Source};
 use std::alloc::AllocError;
-use std::test::Fail;
-use test_support::checks::same;
+use std::process::Abort;
 use test_support::engines::Setting;
 
 /// A task, the bytes that it reads, the sizes of the reads (the last one for all later reads), and the read that fails.
@@ -54,15 +53,16 @@ impl Run<'_> {
 
 /// Runs, and compares how it ended and what it wrote; a run that is not refused reads to the end. The number of reads.
 pub fn check_run(
+    rt: &impl Abort,
     run: Run<'_>,
     setting: Setting<'_>,
     end: End,
     written: &[u8],
-) -> Result<u64, Fail> {
-    let ran = run.ran(setting)?;
-    same(&ran.end, &end, &run)?;
-    same(&ran.sink.bytes(), &written, &run)?;
-    same(&ran.sink.failures(), &0, &run)?;
-    same(&(ran.ended || end.is_refused()), &true, &run)?;
-    Ok(ran.reads)
+) -> u64 {
+    let ran = must(rt, run.ran(setting));
+    same(rt, &ran.end, &end, &run);
+    same(rt, &ran.sink.bytes(), &written, &run);
+    same(rt, &ran.sink.failures(), &0, &run);
+    same(rt, &(ran.ended || end.is_refused()), &true, &run);
+    ran.reads
 }

@@ -1,12 +1,11 @@
 //! Texts of many sizes, with ample memory: each gives its result, and none runs out of memory.
 
-use crate::tests::calls::{cut_source, sample_cells};
+use crate::tests::calls::{cut_source, must, sample_cells};
 use lbk_notation::{Form, LineFault, TestLine, read_back};
 use lbk_passage::{LIMIT_MAX, PassageFault, Segment};
 use lbk_rules::{CellPages, Kind, Profile, Rule};
 use std::alloc::{AllocError, Global};
 use std::process::Abort;
-use std::test::Fail;
 use test_support::calls::{mark_text, next_passage, segmenter_of};
 
 /// A size, and two pseudorandom ones between each power of two up to the 16th and the next.
@@ -27,7 +26,11 @@ fn read_again(alloc: Global, line: &TestLine) -> Result<Option<TestLine>, LineFa
 }
 
 /// How many scalars and marks a text's line has, and whether it is read back unchanged.
-fn line_counts(alloc: Global, cells: &CellPages, text: &str) -> Result<(usize, usize, bool), Fail> {
+fn line_counts(
+    alloc: Global,
+    cells: &CellPages,
+    text: &str,
+) -> Result<(usize, usize, bool), LineFault> {
     let line = mark_text(alloc, cells, text, Profile::Second)?;
     let again = read_again(alloc, &line)?;
     let is_same = match &again {
@@ -66,14 +69,14 @@ fn last_segment(length: u32) -> Segment {
     }
 }
 
-fn check(rt: &impl Abort, alloc: Global, cells: &CellPages, size: u32) -> Result<(), Fail> {
+fn check(rt: &impl Abort, alloc: Global, cells: &CellPages, size: u32) {
     // This many letters with a space after each.
-    let text = "a ".repeat(alloc, size as usize)?;
-    let counts = line_counts(alloc, cells, &text)?;
+    let text = must(rt, "a ".repeat(alloc, size as usize));
+    let counts = must(rt, line_counts(alloc, cells, &text));
     let (pairs, scalars) = (text.len() / 2, text.len());
     let last = Some(last_segment(size.saturating_mul(2)));
     for profile in [Profile::First, Profile::Second] {
-        let passage = passage_counts(alloc, cells, &text, profile)?;
+        let passage = must(rt, passage_counts(alloc, cells, &text, profile));
         assert!(rt;
             passage == Some((pairs, scalars, last)),
             "the passage of {size} letters"
@@ -83,14 +86,12 @@ fn check(rt: &impl Abort, alloc: Global, cells: &CellPages, size: u32) -> Result
         counts == (scalars, scalars + 1, true),
         "the line of {size} letters"
     );
-    Ok(())
 }
 
 #[test]
-fn lines_and_passages_of_drawn_sizes(rt: HostRuntime) -> Result<(), Fail> {
-    let cells = sample_cells(rt.alloc())?;
-    for size in &sizes(rt.alloc())? {
-        check(&rt, rt.alloc(), &cells, *size)?;
+fn lines_and_passages_of_drawn_sizes(rt: HostRuntime) {
+    let cells = sample_cells(&rt, rt.alloc());
+    for size in &must(&rt, sizes(rt.alloc())) {
+        check(&rt, rt.alloc(), &cells, *size);
     }
-    Ok(())
 }

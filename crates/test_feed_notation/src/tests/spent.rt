@@ -1,10 +1,9 @@
 //! Faults of a feed, and no results after them.
 
-use crate::tests::calls::{cut_source, source_of, take_piece};
+use crate::tests::calls::{cut_source, same, source_of, take_piece};
 use lbk_feed::devices::RepeatedSource;
 use lbk_feed::{Feed, FeedFault, Source};
-use std::test::Fail;
-use test_support::checks::same;
+use std::process::Abort;
 
 /// Takes all pieces up to a fault.
 fn take_pieces<R: Source>(feed: &mut Feed, reader: &mut R) -> Result<bool, FeedFault> {
@@ -16,29 +15,26 @@ fn take_pieces<R: Source>(feed: &mut Feed, reader: &mut R) -> Result<bool, FeedF
     Ok(true)
 }
 
-fn check_spent_piece<R: Source>(feed: &mut Feed, reader: &mut R) -> Result<(), Fail> {
-    let again = take_piece(feed, reader);
-    same(&again, &Err(FeedFault::Spent), &"a fault")
-}
-
 /// Takes all pieces up to the expected fault, and calls three times more.
-fn check_spent_feed<R: Source>(reader: &mut R, want: FeedFault) -> Result<(), Fail> {
+fn check_spent_feed<R: Source>(rt: &impl Abort, reader: &mut R, want: FeedFault) {
     let mut feed = Feed::new();
-    same(&take_pieces(&mut feed, reader), &Err(want), &"a feed")?;
+    let found = take_pieces(&mut feed, reader);
+    same(rt, &found, &Err(want), &"a feed");
     let reads = reader.reads();
     for _ in 0..3 {
-        check_spent_piece(&mut feed, reader)?;
+        let again = take_piece(&mut feed, reader);
+        same(rt, &again, &Err(FeedFault::Spent), &"a fault");
     }
-    same(&reader.reads(), &reads, &want)
+    same(rt, &reader.reads(), &reads, &want);
 }
 
 // Each reader could continue.
 #[test]
-fn spent_feeds(_rt: HostRuntime) -> Result<(), Fail> {
+fn spent_feeds(rt: HostRuntime) {
     let mut failing = source_of(b"abcdef", &[1], Some(2));
-    check_spent_feed(&mut failing, FeedFault::Read)?;
+    check_spent_feed(&rt, &mut failing, FeedFault::Read);
     let mut ill_formed = cut_source(b"ab\xFFcdef", &[1]);
-    check_spent_feed(&mut ill_formed, FeedFault::NotUtf8 { at: 2 })?;
+    check_spent_feed(&rt, &mut ill_formed, FeedFault::NotUtf8 { at: 2 });
     let mut too_long = RepeatedSource::new(b'a', 1_073_741_830);
-    check_spent_feed(&mut too_long, FeedFault::TextTooLong)
+    check_spent_feed(&rt, &mut too_long, FeedFault::TextTooLong);
 }
