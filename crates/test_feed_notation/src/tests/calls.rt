@@ -14,7 +14,8 @@ use test_support::calls::next_passage;
 use test_support::engines::Setting;
 
 /// The value of a call that has to succeed. A body with `?` has a way out at each call, which releases all that the
-/// body owns; a body with this has none, and its check takes a fraction of the time.
+/// body owns; a body with this has none, and its check takes a fraction of the time. `test_rules_commands` has the same,
+/// since no library may end a process.
 pub fn must<T, E: Debug + Drop>(rt: &impl Abort, answer: Result<T, E>) -> T {
     answer.expect(rt, "a call failed")
 }
