@@ -1,6 +1,7 @@
 -- What bytes tell of scalars: that no line must end behind them, and that they are letters.
 use Rattle.std.specs.Prelude.{◌≡◌, ℕ, ◌<◌, ◌≤◌, Bool, true, false, List, ◌++◌, Option, Some, None, length}
 use Rattle.std.specs.Prelude.{slice_index_or, encode_utf8_all, drop}
+use Rattle.std.specs.Char.{IsScalar}
 use Rattle.std.specs.Str.{chars, IsCharBoundary}
 use Rattle.lbk_rules.specs.declared.Class.{Class}
 use Rattle.lbk_rules.specs.declared.Cell.{Cell}
@@ -19,19 +20,17 @@ abbrev pub ArePassed : List Bool → List ℕ → ℕ → ℕ → Type 0
 ArePassed is_quiet bytes start end = (k : ℕ) → start ≤ k → k < end
     → slice_index_or is_quiet (slice_index_or bytes k 0) false ≡ true
 
--- up to which length the first byte tells of a piece whether it is a word: any where the byte is a letter or a number
+-- up to which length the first byte tells of a piece whether it is a word: any where it begins letters and numbers alone
 abbrev pub length_told : Bool → ℕ
 length_told true = 4294967295
 length_told false = 1
 
--- each byte below `count` has in the list the length that it tells of as a scalar, and each other has 1
-pub record AreLettersTo (count : ℕ) (cell : ℕ → Cell) (lengths : List ℕ) : Type 0 where
-  pub told : (byte : ℕ) → byte < count → slice_index_or lengths byte 0 ≡ length_told (cell byte).letter
-  pub others : (byte : ℕ) → count ≤ byte → byte < 256 → slice_index_or lengths byte 0 ≡ 1
-
--- so it is for the bytes that are scalars by themselves
-abbrev pub AreLetters : (ℕ → Cell) → List ℕ → Type 0
-AreLetters cell lengths = AreLettersTo 128 cell lengths
+-- each byte that is a scalar by itself has in the list the length that it tells of, and each byte with more than 1
+-- begins letters and numbers alone
+pub record AreLetters (cell : ℕ → Cell) (lengths : List ℕ) : Type 0 where
+  pub told : (byte : ℕ) → byte < 128 → slice_index_or lengths byte 0 ≡ length_told (cell byte).letter
+  pub longer : (code : ℕ) → IsScalar code → 128 ≤ code → 1 < slice_index_or lengths (FirstBytes.first_byte code) 0
+      → (cell code).letter ≡ true
 
 -- a line must end behind a scalar of this class, whatever comes, but for a line feed
 abbrev pub is_end : Option Class → Bool

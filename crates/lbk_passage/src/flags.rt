@@ -23,8 +23,9 @@ pub struct ByteFlags {
     /// Whether it continues a scalar, or a line must end after no scalar that begins with it. False is right of each of
     /// the latter, too, and only slower: no contract says how many there are.
     is_quiet: [bool; 256],
-    /// Up to which length a piece that begins with it is a word exactly if the byte is a letter or a number: one byte,
-    /// or any length where it is. So one comparison tells both, and what the piece is.
+    /// Up to which length a piece that begins with it is told by it: any length where all scalars that begin with it
+    /// are letters or numbers, so that the piece is a word, else one byte. So one comparison tells both, and what the
+    /// piece is.
     lengths_told: [u32; 256],
 }
 
@@ -34,22 +35,9 @@ impl ByteFlags {
         ensures quiet { AreQuiet (C.cell_of cells.now) result.is_quiet }
         ensures letters { AreLetters (C.cell_of cells.now) result.lengths_told }
     {
-        let mut is_quiet = cells.quiet_first_bytes();
-        let mut lengths_told = [1; 256];
-        let mut byte = 0u8;
-        while byte < ASCII {
-            let cell = cells.cell(char::from(byte));
-            is_quiet[usize::from(byte)] = !cell.class.ends_line();
-            lengths_told[usize::from(byte)] = length_told(cell.letter);
-            byte += 1;
-        }
-        while byte < FIRST {
-            is_quiet[usize::from(byte)] = true;
-            byte += 1;
-        }
         ByteFlags {
-            is_quiet,
-            lengths_told,
+            is_quiet: quiet_bytes(cells),
+            lengths_told: lengths_told(cells),
         }
     }
 
@@ -103,9 +91,44 @@ impl ByteFlags {
     }
 }
 
-/// Up to which length a scalar of one byte tells of a piece that begins with it whether it is a word.
-fn length_told(is_letter: bool) -> u32
-    ensures { result ≡ length_told is_letter }
+/// For each byte whether it continues a scalar, or a line must end after no scalar that begins with it.
+fn quiet_bytes<C: CellSource>(cells: &C) -> [bool; 256]
+    ensures { AreQuiet (C.cell_of cells.now) result }
 {
-    if is_letter { ANY_LENGTH } else { 1 }
+    let mut is_quiet = cells.quiet_first_bytes();
+    let mut byte = 0u8;
+    while byte < ASCII {
+        let class = cells.cell(char::from(byte)).class;
+        is_quiet[usize::from(byte)] = !class.ends_line();
+        byte += 1;
+    }
+    while byte < FIRST {
+        is_quiet[usize::from(byte)] = true;
+        byte += 1;
+    }
+    is_quiet
+}
+
+/// For each byte up to which length it tells of a piece that begins with it whether it is a word.
+fn lengths_told<C: CellSource>(cells: &C) -> [u32; 256]
+    ensures { AreLetters (C.cell_of cells.now) result }
+{
+    let are_letters = cells.letter_first_bytes();
+    let mut lengths = [1; 256];
+    for byte in 0..256 {
+        lengths[byte] = length_told(are_letters[byte]);
+    }
+    for byte in 0..ASCII {
+        let is_letter = cells.cell(char::from(byte)).letter;
+        lengths[usize::from(byte)] = length_told(is_letter);
+    }
+    lengths
+}
+
+/// Up to which length a byte tells of a piece that begins with it whether it is a word, where each scalar that begins
+/// with it is a letter or a number, or where that is not known. A scalar of one byte is told either way.
+fn length_told(are_letters: bool) -> u32
+    ensures { result ≡ length_told are_letters }
+{
+    if are_letters { ANY_LENGTH } else { 1 }
 }

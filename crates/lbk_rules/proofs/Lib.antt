@@ -25,6 +25,7 @@ pub mod RowMachineLemmas
 pub mod HoldsLemmas
 pub mod NeighboursLemmas
 pub mod ShownLemmas
+pub mod FirstByteLemmas
 pub mod FlatLemmas
 pub mod AlikeLemmas
 pub mod RowChecks

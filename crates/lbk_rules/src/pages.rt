@@ -3,7 +3,7 @@
 ghost use Rattle.std.specs.Prelude.{◌≡◌, ℕ, ◌<◌, length, IfOk, Some};
 ghost use Rattle.std.specs.Char.{IsScalar};
 ghost use Rattle.lbk_uax14.specs.PageCells.{cell_of_pages};
-ghost use Rattle.lbk_rules.specs.FirstBytes.{AreQuiet};
+ghost use Rattle.lbk_rules.specs.FirstBytes.{AreLetters, AreQuiet};
 ghost use Rattle.lbk_rules.specs.KindTable.{kind_at};
 ghost use Rattle.lbk_rules.specs.Kinds.{AreKindsOf, kind_of, kinds_of_cells};
 ghost use Rattle.lbk_rules.specs.Neighbours.{AreNeighboursOf};
@@ -11,6 +11,7 @@ ghost use Rattle.lbk_rules.specs.declared.neighbours.Neighbours.{Neighbours};
 ghost use Rattle.lbk_rules.specs.declared.source.TheConstants.{FOUR_PLANES};
 
 use crate::cell_table::CellTable;
+use crate::first_bytes::FirstBytes;
 use crate::kind_table::KindTable;
 use crate::kinds::kind_of;
 use crate::neighbours::{NO_NEIGHBOURS, Neighbours};
@@ -28,14 +29,15 @@ use std::alloc::{AllocError, Global};
 pub struct CellPages {
     pages: Pages,
     kinds: KindTable,
-    /// For each byte whether a line must end after no scalar that begins with it.
-    quiet_first_bytes: [bool; 256],
+    /// What the first bytes of scalars tell.
+    first_bytes: FirstBytes,
     /// What the steps tell of bytes side by side, once it was found.
     neighbours: Option<Neighbours>,
     ghost near: { length kinds.kinds.items ≡ FOUR_PLANES },
     ghost same: { (code : ℕ) → IsScalar code → code < length kinds.kinds.items
         → kind_at kinds code ≡ kind_of (cell_of_pages pages code) },
-    ghost quiet: { AreQuiet (cell_of_pages pages) quiet_first_bytes },
+    ghost quiet: { AreQuiet (cell_of_pages pages) first_bytes.are_quiet },
+    ghost letters: { AreLetters (cell_of_pages pages) first_bytes.are_letters },
     ghost told: { (found : Neighbours) → neighbours ≡ Some found
         → AreNeighboursOf (kinds_of_cells (cell_of_pages pages)) found },
 }
@@ -73,7 +75,7 @@ impl CellPages {
         Ok(CellPages {
             pages,
             kinds: walk.kinds,
-            quiet_first_bytes: walk.quiet_first_bytes,
+            first_bytes: walk.first_bytes,
             neighbours: None,
         })
     }
@@ -117,6 +119,11 @@ impl CellSource for CellPages {
 
     #[tactic(auto, unfolding(crate::specs::CellPages::page_cell))]
     fn quiet_first_bytes(&self) -> [bool; 256] {
-        self.quiet_first_bytes
+        self.first_bytes.are_quiet
+    }
+
+    #[tactic(auto, unfolding(crate::specs::CellPages::page_cell))]
+    fn letter_first_bytes(&self) -> [bool; 256] {
+        self.first_bytes.are_letters
     }
 }

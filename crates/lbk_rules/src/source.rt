@@ -10,9 +10,12 @@ use lbk_ucd::Tables;
 /// How many codes the planes 0 to 3 have, in which nearly all text lies.
 pub const FOUR_PLANES: usize = 0x4_0000;
 
+/// Of no first byte anything is known.
+const NONE_KNOWN: [bool; 256] = [false; 256];
+
 /// Something that knows the cell of each scalar value.
 pub trait CellSource {
-    ghost use Rattle.lbk_rules.specs.FirstBytes.{AreQuiet};
+    ghost use Rattle.lbk_rules.specs.FirstBytes.{AreLetters, AreQuiet};
     ghost use Rattle.lbk_rules.specs.Kinds.{kinds_of_cells};
     ghost use Rattle.lbk_rules.specs.Kinds.{AreKindsOf, kind_of};
     ghost use Rattle.lbk_rules.specs.Neighbours.{AreTold};
@@ -56,7 +59,15 @@ pub trait CellSource {
     fn quiet_first_bytes(&self) -> [bool; 256]
         ensures { AreQuiet (cell_of self.now) result }
     {
-        [false; 256]
+        NONE_KNOWN
+    }
+
+    /// For each byte whether it is known that each scalar that begins with it is a letter or a number. A text is cut
+    /// into words without it too, only slower.
+    fn letter_first_bytes(&self) -> [bool; 256]
+        ensures { AreLetters (cell_of self.now) result }
+    {
+        NONE_KNOWN
     }
 }
 

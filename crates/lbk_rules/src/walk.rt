@@ -1,13 +1,12 @@
 //! A walk over the cells of all codes, range by range.
 
 ghost use Rattle.std.specs.Prelude.{◌≡◌, ℕ, ◌+◌, ◌<◌, ◌≤◌, length, IfOk};
-ghost use Rattle.lbk_rules.specs.FirstBytes.{AreQuietTo};
+ghost use Rattle.lbk_rules.specs.FirstBytes.{AreTold};
 ghost use Rattle.lbk_rules.specs.KindTable.{kind_at};
 ghost use Rattle.lbk_rules.specs.Kinds.{kind_of};
 ghost use Rattle.lbk_uax14.specs.Pages.{AreSame};
-ghost use Rattle.lbk_uax14.specs.declared.cells.Cell.{Cell};
 
-use crate::first_bytes::leave_out;
+use crate::first_bytes::FirstBytes;
 use crate::kind_table::KindTable;
 use crate::runs::{CellRun, CellRuns};
 use lbk_uax14::{CellRange, CellWalk};
@@ -23,15 +22,15 @@ pub(crate) struct Walk<'a, C: CellRuns, const MOST: usize> {
     pub(crate) first: u32,
     pub(crate) run: CellRun,
     pub(crate) kinds: KindTable,
-    /// For each byte whether a line must end after no scalar that begins with it (UAX #14, rules LB4 and LB5).
-    pub(crate) quiet_first_bytes: [bool; 256],
+    /// What the first bytes of scalars tell of those up to the end of the range.
+    pub(crate) first_bytes: FirstBytes,
     ghost rises: { (first ≤ run.last) × (run.last ≤ 0x10FFFF) },
     ghost same: { AreSame (C.cell_at source.now) first run.last run.cell },
     ghost counted: { (length kinds.kinds.items ≤ run.last + 1) × (length kinds.kinds.items ≤ MOST) },
     ghost complete: { length kinds.kinds.items < MOST → length kinds.kinds.items ≡ run.last + 1 },
     ghost of_cells: { (code : ℕ) → code < length kinds.kinds.items
         → kind_at kinds code ≡ kind_of (C.cell_at source.now code) },
-    ghost quiet: { AreQuietTo (C.cell_at source.now) quiet_first_bytes (run.last + 1) },
+    ghost told: { AreTold (C.cell_at source.now) first_bytes (run.last + 1) },
 }
 
 impl<'a, C: CellRuns, const MOST: usize> Walk<'a, C, MOST> {
@@ -43,14 +42,14 @@ impl<'a, C: CellRuns, const MOST: usize> Walk<'a, C, MOST> {
         let mut kinds = KindTable::with_room(alloc, MOST)?;
         let run = source.cell_run(0, Places::START);
         kinds.fill_to(MOST.min(run.last as usize + 1), run.cell)?;
-        let mut quiet_first_bytes = [true; 256];
-        leave_out_ends(&mut quiet_first_bytes, 0, &run);
+        let mut first_bytes = FirstBytes::of_none();
+        first_bytes.add(0, &run);
         Ok(Walk {
             source,
             first: 0,
             run,
             kinds,
-            quiet_first_bytes,
+            first_bytes,
         })
     }
 }
@@ -81,20 +80,9 @@ impl<'a, C: CellRuns, const MOST: usize> CellWalk for Walk<'a, C, MOST> {
         let run = self.source.cell_run(first, self.run.places);
         let end = MOST.min(run.last as usize + 1);
         self.kinds.fill_to(end, run.cell)?;
-        leave_out_ends(&mut self.quiet_first_bytes, first, &run);
+        self.first_bytes.add(first, &run);
         self.first = first;
         self.run = run;
         Ok(())
-    }
-}
-
-/// Leaves out the first bytes of the scalars of the range from `first` on, where lines must end after them.
-fn leave_out_ends(quiet: &mut [bool; 256], first: u32, run: &CellRun)
-    requires { run.now.last ≤ 0x10FFFF }
-    ensures { (cell : ℕ → Cell) → AreSame cell first run.now.last run.now.cell
-        → AreQuietTo cell quiet.old first → AreQuietTo cell quiet.new (run.now.last + 1) }
-{
-    if run.cell.class.ends_line() {
-        leave_out(quiet, first, run.last);
     }
 }

@@ -1,14 +1,11 @@
 use Rattle.std.proofs.Common.{◌≡◌, ℕ, ◌-◌, ◌<◌, ◌≤◌, true, false, length, slice_index_or}
 use Rattle.lbk_rules.specs.FirstBytes.{AreQuiet}
-use Rattle.lbk_passage.specs.Flags.{AreLettersTo}
-use Rattle.lbk_passage.proofs.flags.ByteFlags.of.Given as goal
+use Rattle.lbk_passage.proofs.flags.quiet_bytes.Given as goal
 
 abbrev pub invariant-loop-byte : goal.invariant-loop-byte
 invariant-loop-byte g l = record {
   quiet : AreQuiet (g.C.CellSource.cell_of l.cells) l.is_quiet;
-  letters : AreLettersTo l.byte (g.C.CellSource.cell_of l.cells) l.lengths_told;
   quiet_len : length l.is_quiet ≡ 256;
-  lengths_len : length l.lengths_told ≡ 256;
   within : l.byte ≤ 128;
 }
 
