@@ -4,7 +4,8 @@ ghost use Rattle.std.specs.Prelude.{◌≡◌, ℕ, ◌+◌, ◌<◌, ◌≤◌,
 ghost use Rattle.lbk_masks.specs.Sets.{HasLanes, is_in, is_set, meets, sets_in};
 
 use crate::found::joined;
-use crate::{block_of, both, high_halves, least, meeting, picked};
+use crate::questions::{IsEqual, IsIn, IsNoLess, answers};
+use crate::{block_of, both, high_halves, meeting, picked};
 use std::simd::prelude::*;
 
 /// Eight sets of bytes, a bit each. A byte is in those that its two halves have in common.
@@ -23,10 +24,7 @@ impl HalfSets {
         requires { 64 ≤ length text.now }
         ensures { (i : ℕ) → i < 64 → is_set result i ≡ is_in self.now sets (get_or text.now i 0) }
     {
-        let one = joined(0, 0, self.members_of(sets, block_of(text)));
-        let two = joined(one, 16, self.members_of(sets, block_of(&text[16..])));
-        let three = joined(two, 32, self.members_of(sets, block_of(&text[32..])));
-        joined(three, 48, self.members_of(sets, block_of(&text[48..])))
+        answers(IsIn { all: self, sets }, text)
     }
 
     /// Which of the first 63 bytes of a text have a set in common with the byte after them, whose sets are others.
@@ -58,14 +56,6 @@ impl HalfSets {
         )
     }
 
-    /// Which of 16 bytes are in one of these sets.
-    #[inline(always)]
-    fn members_of(&self, sets: u8, block: u8x16) -> u64
-        ensures { (i : ℕ) → is_set result i ≡ (nat_lt i 16 && is_in self.now sets (get_or block i 0)) }
-    {
-        meeting(self.sets_of(block), u8x16::splat(sets))
-    }
-
     /// Which of 16 bytes have a set in common with another byte, whose sets are others.
     #[inline(always)]
     fn pairs_of(&self, after: &HalfSets, block: u8x16, behind: u8x16) -> u64
@@ -77,7 +67,7 @@ impl HalfSets {
 
     /// The sets that each byte is in.
     #[inline(always)]
-    fn sets_of(&self, block: u8x16) -> u8x16
+    pub(crate) fn sets_of(&self, block: u8x16) -> u8x16
         ensures { HasLanes result (λ i. sets_in self.now (get_or block i 0)) }
     {
         both(
@@ -93,7 +83,7 @@ pub fn wide(text: &[u8]) -> u64
     requires { 64 ≤ length text.now }
     ensures { (i : ℕ) → i < 64 → is_set result i ≡ nat_le 128 (get_or text.now i 0) }
 {
-    no_less(128, text)
+    answers(IsNoLess { byte: 128 }, text)
 }
 
 /// Which of the first 64 bytes of a text are not 0, a bit each.
@@ -102,17 +92,14 @@ pub fn nonzero(text: &[u8]) -> u64
     requires { 64 ≤ length text.now }
     ensures { (i : ℕ) → i < 64 → is_set result i ≡ not (get_or text.now i 0 == 0) }
 {
-    no_less(1, text)
+    answers(IsNoLess { byte: 1 }, text)
 }
 
-/// Which of the first 64 bytes of a text are no less than this one, a bit each.
+/// Which of the first 64 bytes of a text are this one, a bit each.
 #[inline(always)]
-fn no_less(byte: u8, text: &[u8]) -> u64
+pub fn equal(byte: u8, text: &[u8]) -> u64
     requires { 64 ≤ length text.now }
-    ensures { (i : ℕ) → i < 64 → is_set result i ≡ nat_le byte (get_or text.now i 0) }
+    ensures { (i : ℕ) → i < 64 → is_set result i ≡ (get_or text.now i 0 == byte) }
 {
-    let one = joined(0, 0, least(byte, block_of(text)));
-    let two = joined(one, 16, least(byte, block_of(&text[16..])));
-    let three = joined(two, 32, least(byte, block_of(&text[32..])));
-    joined(three, 48, least(byte, block_of(&text[48..])))
+    answers(IsEqual { byte }, text)
 }

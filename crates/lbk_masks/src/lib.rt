@@ -6,7 +6,7 @@
 //! Bytes are examined 16 at a time. Of a text of fewer than 64 the last 16 are examined whatever was looked at before.
 #![tactic(auto)]
 
-ghost use Rattle.std.specs.Prelude.{◌≡◌, ◌/◌, ◌%◌, ℕ, ◌+◌, ◌<◌, ◌≤◌, ◌∷◌, ◌&&◌, List, length, get_or, bit_and, min};
+ghost use Rattle.std.specs.Prelude.{◌≡◌, ◌/◌, ◌%◌, ℕ, ◌+◌, ◌<◌, ◌≤◌, ◌∷◌, ◌==◌, ◌&&◌, List, length, get_or, bit_and, min};
 ghost use Rattle.std.specs.Prelude.{nat_le, nat_lt};
 ghost use Rattle.lbk_masks.specs.Found.{AreEdges, AreFound};
 ghost use Rattle.lbk_masks.specs.Sets.{HasLanes, chosen, class_in, is_set, left_before, left_in, meets, picked};
@@ -16,10 +16,11 @@ ghost use Rattle.lbk_masks.specs.Strays.{is_stray};
 mod bits;
 mod found;
 mod halves;
+mod questions;
 
 pub use bits::{first_set, join, kept_below, kept_from, without_first};
 use found::{Edges, Found, joined};
-pub use halves::{HalfSets, nonzero, wide};
+pub use halves::{HalfSets, equal, nonzero, wide};
 use std::simd::prelude::*;
 
 /// How many bytes at most have a bit.
@@ -286,6 +287,14 @@ fn least(byte: u8, block: u8x16) -> u64
     ensures { (i : ℕ) → is_set result i ≡ (nat_lt i 16 && nat_le byte (get_or block i 0)) }
 {
     block.simd_ge(u8x16::splat(byte)).to_bitmask()
+}
+
+/// Which bytes are this one.
+#[inline(always)]
+fn equal_to(byte: u8, block: u8x16) -> u64
+    ensures { (i : ℕ) → is_set result i ≡ (nat_lt i 16 && get_or block i 0 == byte) }
+{
+    block.simd_eq(u8x16::splat(byte)).to_bitmask()
 }
 
 /// Where the sets of two vectors meet.

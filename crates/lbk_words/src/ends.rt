@@ -7,7 +7,7 @@ ghost use Rattle.lbk_words.specs.Ends.{AreEnds, AreParts, AreTold, IsReading, is
 use crate::blocks::{BLOCK, marks_of, wides_of};
 use crate::scalars::{WIDE, scalar_at};
 use crate::steps::{first_row, next_step, step_of_three};
-use lbk_masks::{HalfSets, first_set, kept_below, kept_from};
+use lbk_masks::{equal, first_set, kept_below, kept_from};
 
 /// Fewer bytes than this are left to steps.
 const FEW: usize = 3;
@@ -28,18 +28,6 @@ struct Reading {
     /// The row of the part so far.
     row: usize,
 }
-
-/// The sets of the bytes of which two are one part.
-const PAIRS: HalfSets = HalfSets {
-    low: [4, 0, 0, 0, 0, 0, 0, 0, 0, 0, 2, 0, 0, 1, 0, 0],
-    high: [3, 0, 4, 0, 0, 0, 0, 0, 0, 0, 0, 0, 0, 0, 0, 0],
-};
-
-const RETURNS: u8 = 1;
-
-const FEEDS: u8 = 2;
-
-const SPACES: u8 = 4;
 
 /// Puts where the next parts of a text end, from a boundary on, into the front of a block, scalar by scalar: until the
 /// block is full, the text ends, or bits are likely to tell the next end. Returns how many.
@@ -207,8 +195,12 @@ fn pairs_in(bytes: &[u8]) -> u64
     requires { 64 ≤ length bytes.now }
     ensures { (i : ℕ) → 0 < i → i < 64 → is_set result i ≡ is_pair (get_or bytes.now (i - 1) 0) (get_or bytes.now i 0) }
 {
-    let returns = PAIRS.members(RETURNS, bytes);
-    let feeds = PAIRS.members(FEEDS, bytes);
-    let spaces = PAIRS.members(SPACES, bytes);
-    ((returns << 1) & feeds) | ((spaces << 1) & spaces)
+    let spaces = equal(b' ', bytes);
+    let returns = equal(b'\r', bytes);
+    let pairs = (spaces << 1) & spaces;
+    // Few blocks have a carriage return.
+    if returns == 0 {
+        return pairs;
+    }
+    ((returns << 1) & equal(b'\n', bytes)) | pairs
 }

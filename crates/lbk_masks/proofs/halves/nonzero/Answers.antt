@@ -11,4 +11,4 @@ no-less-one n =
     (cases_eq n 0)
 
 pub returns : goal.returns
-returns c i few = c.no_less.ensures i few ∙ no-less-one (get_or c.args.text.now i 0)
+returns c i few = c.answers.ensures i few ∙ no-less-one (get_or c.args.text.now i 0)
