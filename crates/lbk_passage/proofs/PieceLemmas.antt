@@ -1,5 +1,5 @@
 -- The pieces from a byte on.
-use Rattle.std.proofs.Common.{◌≡◌, ℕ, zero, suc, ◌+◌, ◌*◌, ◌-◌, ◌^◌, Result, Ok, Err, max, vec_capacity, ◌<◌, ◌≤◌, ⊎_elim, bit_and, count_ones, w64, Bool, List, [], ◌∷◌, ◌++◌, Vec, append_assoc, drop, length, map, slice_index_or, take, vec_len, refl, sym, ap, subst, ◌∙◌, arith}
+use Rattle.std.proofs.Common.{◌≡◌, ℕ, zero, suc, ◌+◌, ◌*◌, ◌-◌, ◌^◌, Result, Ok, Err, max, vec_capacity, ◌<◌, ◌≤◌, ⊎_elim, bit_and, count_ones, w64, Bool, List, [], ◌∷◌, ◌++◌, append_assoc, drop, length, map, slice_index_or, take, refl, sym, ap, subst, ◌∙◌, arith}
 use Rattle.std.specs.Str.{IsCharBoundary, IsUtf8, encode_utf8_all}
 use Rattle.std.specs.Int.{trailing_zeros}
 use Rattle.std.proofs.lemmas.Bool.{cases_lt}
@@ -18,8 +18,10 @@ use Rattle.lbk_passage.proofs.CountLemmas.{one-fewer}
 use Rattle.lbk_passage.proofs.RoomLemmas.{Grows-made, Grows-none}
 use Rattle.lbk_words.specs.Ends.{AreEnds, AreParts, AreTold}
 use Rattle.lbk_words.proofs.EndLemmas.{IsEnd, next-end}
+use Rattle.lbk_passage.specs.declared.front.Front.{Front}
 use Rattle.lbk_passage.specs.declared.passage.Piece.{Piece}
 use Rattle.lbk_passage.specs.Pieces.{CutsOn, IsCutOn, is_word, pieces_from, pieces_on}
+use Rattle.lbk_passage.specs.Front.{items_of}
 
 -- the first of them, and those behind it
 pub pieces-step : (cell : ℕ → Cell) (text : List ℕ) (start end : ℕ) (word : Bool) → IsUtf8 (drop start text) → IsFirstPiece text start end word
@@ -52,43 +54,27 @@ pub part-at : (text : List ℕ) (from to i : ℕ) (ends : List ℕ) → i < leng
     → ((is_word : Bool) × IsFirstPiece text from (slice_index_or ends i 0) is_word) × AreParts text (slice_index_or ends i 0) to (drop (i + 1) ends)
 part-at text from to i ends inside parts = subst (AreParts text from to) (drop_more ends i 0 inside) parts
 
-module _ {Z : Type 0} (cell : ℕ → Cell) (text : List ℕ) where
+module _ (cell : ℕ → Cell) (text : List ℕ) where
   -- the next piece is put behind those of a list
-  pub cut-one : (start end : ℕ) (word known : Bool) (old new : Vec Piece Z) → IsUtf8 (drop start text) → IsFirstPiece text start end word
+  pub cut-one : (start end : ℕ) (word known : Bool) (old new : List Piece) → IsUtf8 (drop start text) → IsFirstPiece text start end word
       → known ≡ is_word cell (take (end - start) (drop start text))
-      → new.items ≡ old.items ++ record { start = start; end = end; word = known } ∷ [] → vec_len new ≡ vec_len old + 1
+      → new ≡ old ++ record { start = start; end = end; word = known } ∷ []
       → IsCutOn cell text start old new end
-  cut-one start end word known old new utf8 first told items len =
+  cut-one start end word known old new utf8 first told items =
       let others = pieces_on cell text end in
       let step = pieces-step cell text start end word utf8 first in
       let piece : Piece = record { start = start; end = end; word = known } in
       let ahead : piece ∷ others ≡ pieces_on cell text start = ap (λ w. record { start = start; end = end; word = w } ∷ others) told ∙ sym step in
       record {
-        cut = ap (λ all. all ++ others) items ∙ append_assoc old.items (piece ∷ []) others ∙ ap (λ rest. old.items ++ rest) ahead;
-        count = omega (arith, len, ap length step);
+        cut = ap (λ all. all ++ others) items ∙ append_assoc old (piece ∷ []) others ∙ ap (λ rest. old ++ rest) ahead;
         utf8 = (first-bound text start end word utf8 first).utf8;
         within = first.within;
       }
 
   -- more of them are put behind some
-  pub cut-on : (from mid to : ℕ) (old some new : Vec Piece Z) → IsCutOn cell text from old some mid → IsCutOn cell text mid some new to
+  pub cut-on : (from mid to : ℕ) (old some new : List Piece) → IsCutOn cell text from old some mid → IsCutOn cell text mid some new to
       → IsCutOn cell text from old new to
-  cut-on from mid to old some new before after = record {
-    cut = after.cut ∙ before.cut;
-    count = after.count ∙ before.count;
-    utf8 = after.utf8;
-    within = after.within;
-  }
-
-  -- behind those of a list with the same items as another they are put behind those of that one, too
-  pub cut-from : (start : ℕ) (old made : Vec Piece Z) (next : ℕ) (new : Vec Piece Z) → made.items ≡ old.items → vec_len made ≡ vec_len old
-      → IsCutOn cell text start made new next → IsCutOn cell text start old new next
-  cut-from start old made next new items len is = record {
-    cut = is.cut ∙ ap (λ all. all ++ pieces_on cell text start) items;
-    count = omega (arith, len, is.count);
-    utf8 = is.utf8;
-    within = is.within;
-  }
+  cut-on from mid to old some new before after = record { cut = after.cut ∙ before.cut; utf8 = after.utf8; within = after.within }
 
 -- where a piece of well-formed text ends, a scalar begins
 pub piece-ends : (text : List ℕ) (start end : ℕ) (word : Bool) → IsUtf8 (drop start text) → IsFirstPiece text start end word → IsCharBoundary text end
@@ -140,16 +126,17 @@ told-few (suc k) cell text base start left fits most utf8 are = ⊎_elim
     (λ (none : left ≤ 0). omega (arith, none, ones_le_self left))
     (cases_lt 0 left)
 
-module _ {Z E : Type 0} (cell : ℕ → Cell) (text : List ℕ) (start : ℕ) (old made : Vec Piece Z) where
+module _ {E : Type 0} (cell : ℕ → Cell) (text : List ℕ) (start : ℕ) (old made : Front Piece) where
   -- they were put into room that was made for them
-  pub cuts-made : (next count : ℕ) (new : Vec Piece Z) (r : Result ℕ E) → r ≡ Ok next → IsCutOn cell text start old new next → vec_capacity old ≤ vec_capacity made
-      → vec_capacity made ≤ max (vec_capacity old) (2 * (vec_len old + count)) → vec_capacity new ≡ vec_capacity made → vec_len new ≡ vec_len old + count
+  pub cuts-made : (next more : ℕ) (new : Front Piece) (r : Result ℕ E) → r ≡ Ok next → IsCutOn cell text start (items_of old) (items_of new) next
+      → vec_capacity old.items ≤ vec_capacity made.items → vec_capacity made.items ≤ max (vec_capacity old.items) (2 * (old.count + more))
+      → vec_capacity new.items ≡ vec_capacity made.items → new.count ≡ old.count + more
       → CutsOn cell text start old new r
-  cuts-made next count new r is cut kept most room len =
-      subst (CutsOn cell text start old new) (sym is) (record { cut = cut; grows = Grows-made old made new count kept most room len; full = tt })
+  cuts-made next more new r is cut kept most room count =
+      subst (CutsOn cell text start old new) (sym is) (record { cut = cut; grows = Grows-made old made new more kept most room count; full = tt })
 
   -- there was no room for as many as there are, or fewer
-  pub cuts-refused : (count : ℕ) (e : E) (r : Result ℕ E) → r ≡ Err e → vec_capacity made ≡ vec_capacity old → vec_len made ≡ vec_len old
-      → vec_capacity old < vec_len old + count → count ≤ length (pieces_on cell text start) → CutsOn cell text start old made r
-  cuts-refused count e r is room len short few =
-      subst (CutsOn cell text start old made) (sym is) (record { cut = tt; grows = Grows-none old made room len; full = omega (arith, short, few) })
+  pub cuts-refused : (more : ℕ) (e : E) (r : Result ℕ E) → r ≡ Err e → vec_capacity made.items ≡ vec_capacity old.items → made.count ≡ old.count
+      → vec_capacity old.items < old.count + more → more ≤ length (pieces_on cell text start) → CutsOn cell text start old made r
+  cuts-refused more e r is room count short few =
+      subst (CutsOn cell text start old made) (sym is) (record { cut = tt; grows = Grows-none old made room count; full = omega (arith, short, few) })

@@ -1,7 +1,13 @@
--- Room that grows in steps.
-use Rattle.std.proofs.Common.{◌≡◌, ℕ, ◌+◌, ◌*◌, ◌≤◌, max, Vec, vec_capacity, vec_len, subst, sym, arith}
+-- Lists that are written over, and room that grows in steps.
+use Rattle.std.proofs.Common.{◌≡◌, ℕ, ◌+◌, ◌*◌, ◌≤◌, length, max, vec_capacity, subst, sym, arith}
+use Rattle.std.proofs.lemmas.List.{length-take-le}
 use Rattle.std.proofs.Math.Nat.{le-max_left, le-max_right, max-le}
+use Rattle.lbk_passage.specs.declared.front.Front.{Front}
+use Rattle.lbk_passage.specs.Front.{items_of}
 use Rattle.lbk_passage.specs.Room.{Grows}
+
+pub items-many : {X : Type 0} (f : Front X) → length (items_of f) ≡ f.count
+items-many f = length-take-le f.count f.items.items (let within = f.within in let same = f.items.ok.0 in omega arith)
 
 -- room that is at most doubled at each step is at most doubled
 pub room-on : (first mid last some more : ℕ) → mid ≤ max first (2 * some) → last ≤ max mid (2 * more) → some ≤ more → last ≤ max first (2 * more)
@@ -13,27 +19,27 @@ room-on first mid last some more before after grows =
     let two : max mid (2 * more) ≤ k = max-le (omega arith) right in
     omega arith
 
-pub Grows-on : {X Z : Type 0} (first mid last : Vec X Z) → Grows first mid → Grows mid last → Grows first last
+pub Grows-on : {X : Type 0} (first mid last : Front X) → Grows first mid → Grows mid last → Grows first last
 Grows-on first mid last before after = record {
   room = omega (arith, before.room, after.room);
-  most = room-on (vec_capacity first) (vec_capacity mid) (vec_capacity last) (vec_len mid) (vec_len last) before.most after.most after.onward;
+  most = room-on (vec_capacity first.items) (vec_capacity mid.items) (vec_capacity last.items) mid.count last.count before.most after.most after.onward;
   onward = omega (arith, before.onward, after.onward);
 }
 
 -- nothing was put behind those that a list has
-pub Grows-none : {X Z : Type 0} (old new : Vec X Z) → vec_capacity new ≡ vec_capacity old → vec_len new ≡ vec_len old → Grows old new
-Grows-none old new room len = record {
+pub Grows-none : {X : Type 0} (old new : Front X) → vec_capacity new.items ≡ vec_capacity old.items → new.count ≡ old.count → Grows old new
+Grows-none old new room count = record {
   room = omega (arith, room);
-  most = omega (arith, room, le-max_left (vec_capacity old) (2 * vec_len new));
-  onward = omega (arith, len);
+  most = omega (arith, room, le-max_left (vec_capacity old.items) (2 * new.count));
+  onward = omega (arith, count);
 }
 
 -- items were put into room that was made for them
-pub Grows-made : {X Z : Type 0} (old made new : Vec X Z) (count : ℕ) → vec_capacity old ≤ vec_capacity made
-    → vec_capacity made ≤ max (vec_capacity old) (2 * (vec_len old + count)) → vec_capacity new ≡ vec_capacity made → vec_len new ≡ vec_len old + count
+pub Grows-made : {X : Type 0} (old made new : Front X) (more : ℕ) → vec_capacity old.items ≤ vec_capacity made.items
+    → vec_capacity made.items ≤ max (vec_capacity old.items) (2 * (old.count + more)) → vec_capacity new.items ≡ vec_capacity made.items → new.count ≡ old.count + more
     → Grows old new
-Grows-made old made new count kept most room len = record {
+Grows-made old made new more kept most room count = record {
   room = omega (arith, kept, room);
-  most = subst (λ n. vec_capacity new ≤ max (vec_capacity old) (2 * n)) (sym len) (subst (λ n. n ≤ max (vec_capacity old) (2 * (vec_len old + count))) (sym room) most);
-  onward = omega (arith, len);
+  most = subst (λ n. vec_capacity new.items ≤ max (vec_capacity old.items) (2 * n)) (sym count) (subst (λ n. n ≤ max (vec_capacity old.items) (2 * (old.count + more))) (sym room) most);
+  onward = omega (arith, count);
 }

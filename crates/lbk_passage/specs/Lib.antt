@@ -5,6 +5,7 @@ pub use Rattle.lbk_rules.specs.Breaks
 pub mod Segments
 pub mod Pieces
 pub mod State
+pub mod Front
 pub mod Shown
 pub mod Next
 pub mod Passing

@@ -1,11 +1,13 @@
 -- The pieces of a text at its word boundaries (UAX #29, section 4), and which of them are words.
-use Rattle.std.specs.Prelude.{◌≡◌, ℕ, ◌+◌, ◌<◌, ◌≤◌, Bool, List, [], ◌∷◌, ◌++◌, drop, length, IsUtf8, Vec, vec_capacity, vec_len}
+use Rattle.std.specs.Prelude.{◌≡◌, ℕ, ◌+◌, ◌<◌, ◌≤◌, Bool, List, [], ◌∷◌, ◌++◌, drop, length, IsUtf8, vec_capacity}
 use Rattle.std.specs.Prelude.{IfOk, OnErr, Result}
 use Rattle.std.specs.List.{list_any}
 use Rattle.std.specs.Str.{chars}
 use Rattle.unicode_segmentation.specs.Word.{word_bounds}
 use Rattle.lbk_rules.specs.declared.Cell.{Cell}
 use Rattle.lbk_passage.specs.declared.passage.Piece.{Piece}
+use Rattle.lbk_passage.specs.declared.front.Front.{Front}
+use Rattle.lbk_passage.specs.Front.{items_of}
 use Rattle.lbk_passage.specs.Room.{Grows}
 
 -- some scalar of the piece is a letter or a number
@@ -28,14 +30,13 @@ abbrev pub pieces_on : (ℕ → Cell) → List ℕ → ℕ → List Piece
 pieces_on cell text at = pieces_from cell at (word_bounds (drop at text))
 
 -- the pieces of a text from the boundary `start` up to the boundary `next` were put behind those of a list
-pub record IsCutOn {Z : Type 0} (cell : ℕ → Cell) (text : List ℕ) (start : ℕ) (old new : Vec Piece Z) (next : ℕ) : Type 0 where
-  pub cut : new.items ++ pieces_on cell text next ≡ old.items ++ pieces_on cell text start
-  pub count : vec_len new + length (pieces_on cell text next) ≡ vec_len old + length (pieces_on cell text start)
+pub record IsCutOn (cell : ℕ → Cell) (text : List ℕ) (start : ℕ) (old new : List Piece) (next : ℕ) : Type 0 where
+  pub cut : new ++ pieces_on cell text next ≡ old ++ pieces_on cell text start
   pub utf8 : IsUtf8 (drop next text)
   pub within : next ≤ length text
 
 -- so they were, up to a boundary that is returned, or there was no room for all that are left
-pub record CutsOn {Z E : Type 0} (cell : ℕ → Cell) (text : List ℕ) (start : ℕ) (old new : Vec Piece Z) (r : Result ℕ E) : Type 0 where
-  pub cut : IfOk r (IsCutOn cell text start old new)
+pub record CutsOn {E : Type 0} (cell : ℕ → Cell) (text : List ℕ) (start : ℕ) (old new : Front Piece) (r : Result ℕ E) : Type 0 where
+  pub cut : IfOk r (IsCutOn cell text start (items_of old) (items_of new))
   pub grows : Grows old new
-  pub full : OnErr r (vec_capacity old < vec_len old + length (pieces_on cell text start))
+  pub full : OnErr r (vec_capacity old.items < old.count + length (pieces_on cell text start))

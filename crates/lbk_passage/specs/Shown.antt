@@ -5,6 +5,7 @@ use Rattle.lbk_rules.specs.declared.Cell.{Cell}
 use Rattle.lbk_rules.specs.Marks.{Marked, text_of}
 use Rattle.lbk_passage.specs.Next.{ComesFirst}
 use Rattle.lbk_passage.specs.Pieces.{pieces_of}
+use Rattle.lbk_passage.specs.Front.{items_of}
 use Rattle.lbk_passage.specs.Segments.{segments_of}
 use Rattle.lbk_passage.specs.declared.faults.PassageFault.{PassageFault}
 use Rattle.lbk_passage.specs.declared.faults.PassageFault.TheVariants.{Memory}
@@ -20,8 +21,8 @@ state_of cell s = state_with (cell s.known.cells.now) s.profile s.paragraph
 -- room is reserved for so many bytes of text, and for nothing else
 pub record HasRoom {C : Type 0} {bound : _} (s : Segmenter C bound) (limit : ℕ) : Type 0 where
   pub text : string_capacity s.paragraph.text ≡ limit
-  pub segments : vec_capacity s.segments ≡ 0
-  pub pieces : vec_capacity s.pieces ≡ 0
+  pub segments : vec_capacity s.segments.items ≡ 0
+  pub pieces : vec_capacity s.pieces.items ≡ 0
 
 -- the segments and the pieces that were found last, and for how many there is room
 pub record Found : Type 0 where
@@ -33,10 +34,10 @@ pub record Found : Type 0 where
 -- what a segmenter has found
 abbrev pub found_by : {C : Type 0} {bound : _} → Segmenter C bound → Found
 found_by s = record {
-  segments = s.segments.items;
-  room_for_segments = vec_capacity s.segments;
-  pieces = s.pieces.items;
-  room_for_pieces = vec_capacity s.pieces;
+  segments = items_of s.segments;
+  room_for_segments = vec_capacity s.segments.items;
+  pieces = items_of s.pieces;
+  room_for_pieces = vec_capacity s.pieces.items;
 }
 
 -- the passage that is held has more segments, or more pieces, than there was room for

@@ -13,6 +13,7 @@ mod ends;
 mod faults;
 mod flags;
 mod found;
+mod front;
 mod kept;
 mod known;
 pub mod laws;
@@ -22,7 +23,6 @@ mod paragraph;
 mod passage;
 mod pieces;
 mod reach;
-mod room;
 mod segmenter;
 mod segments;
 

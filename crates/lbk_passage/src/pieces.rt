@@ -1,15 +1,16 @@
 //! The pieces of a passage.
 
-ghost use Rattle.std.specs.Prelude.{◌≡◌, ℕ, ◌+◌, ◌*◌, ◌<◌, ◌≤◌, ◌^◌, Bool, drop, length, max, vec_capacity, vec_len};
+ghost use Rattle.std.specs.Prelude.{◌≡◌, ℕ, ◌+◌, ◌*◌, ◌<◌, ◌≤◌, ◌^◌, Bool, drop, length, max, take, vec_capacity};
 ghost use Rattle.std.specs.Prelude.{[], ◌∷◌, IfOk, IsUtf8, OnErr, OnOk};
 ghost use Rattle.std.specs.Str.{chars};
 ghost use Rattle.lbk_passage.specs.Pieces.{CutsOn, IsCutOn, is_word, pieces_of};
+ghost use Rattle.lbk_passage.specs.Front.{items_of};
 ghost use Rattle.lbk_words.specs.Ends.{AreParts, AreTold};
 ghost use Rattle.lbk_words.specs.Places.{IsFirstPiece};
 
+use crate::front::Front;
 use crate::known::KnownCells;
 use crate::passage::Piece;
-use crate::room::make_room;
 use lbk_masks::{first_set, without_first};
 use lbk_rules::CellSource;
 use lbk_words::{ends_from, fill_ends};
@@ -17,6 +18,13 @@ use std::alloc::AllocError;
 
 /// How many ends of pieces are found at a time.
 pub(crate) const ENDS: usize = 64;
+
+/// A piece that stands where none was put yet.
+const NO_PIECE: Piece = Piece {
+    start: 0,
+    end: 0,
+    word: false,
+};
 
 /// The first byte value with which scalars of three bytes begin.
 const THREES: u8 = 0xE0;
@@ -30,13 +38,13 @@ pub fn cut_words<C: CellSource>(
     known: &KnownCells<'_, C>,
     text: &str,
     block: &mut [usize; ENDS],
-    pieces: &mut Vec<Piece>,
+    pieces: &mut Front<Piece>,
 ) -> Result<(), AllocError>
     requires few { length text.now < 2 ^ 32 }
-    ensures cut { OnOk result (pieces.new.items ≡ pieces_of (C.cell_of known.now.cells.now) text.now) }
-    ensures room { vec_capacity pieces.old ≤ vec_capacity pieces.new }
-    ensures most { vec_capacity pieces.new ≤ max (vec_capacity pieces.old) (2 * vec_len pieces.new) }
-    ensures full { OnErr result (vec_capacity pieces.old
+    ensures cut { OnOk result (items_of pieces.new ≡ pieces_of (C.cell_of known.now.cells.now) text.now) }
+    ensures room { vec_capacity pieces.old.items ≤ vec_capacity pieces.new.items }
+    ensures most { vec_capacity pieces.new.items ≤ max (vec_capacity pieces.old.items) (2 * pieces.new.count) }
+    ensures full { OnErr result (vec_capacity pieces.old.items
         < length (pieces_of (C.cell_of known.now.cells.now) text.now)) }
 {
     pieces.clear();
@@ -55,7 +63,7 @@ fn cut_next<C: CellSource>(
     text: &str,
     start: usize,
     block: &mut [usize; ENDS],
-    pieces: &mut Vec<Piece>,
+    pieces: &mut Front<Piece>,
 ) -> Result<usize, AllocError>
     requires few { length text.now < 2 ^ 32 }
     requires within { start < length text.now }
@@ -66,8 +74,17 @@ fn cut_next<C: CellSource>(
     let bytes = text.as_bytes();
     // Most lines end with a piece of one byte.
     if bytes.len() - start == 1 && bytes[start] < 0x80 {
-        make_room(pieces, 1)?;
-        put_piece(known, text, start, start + 1, pieces);
+        pieces.make_room(1, NO_PIECE)?;
+        let count = pieces.count;
+        put_piece(
+            known,
+            text,
+            start,
+            start + 1,
+            pieces.items.as_mut_slice(),
+            count,
+        );
+        pieces.count = count + 1;
         return Ok(start + 1);
     }
     let ends = ends_from(bytes, start);
@@ -86,7 +103,7 @@ fn cut_told<C: CellSource>(
     text: &str,
     base: usize,
     ends: u64,
-    pieces: &mut Vec<Piece>,
+    pieces: &mut Front<Piece>,
 ) -> Result<usize, AllocError>
     requires few { length text.now < 2 ^ 32 }
     requires within { base ≤ length text.now }
@@ -96,15 +113,19 @@ fn cut_told<C: CellSource>(
     ensures cuts { CutsOn (C.cell_of known.now.cells.now) text.now base pieces.old pieces.new result }
     ensures onward { IfOk result (λ next. base < next) }
 {
-    make_room(pieces, ends.count_ones() as usize)?;
+    pieces.make_room(ends.count_ones() as usize, NO_PIECE)?;
+    let mut count = pieces.count;
+    let slots = pieces.items.as_mut_slice();
     let mut left = ends;
     let mut start = base;
     while 0 < left {
         let end = base + first_set(left);
         left = without_first(left);
-        put_piece(known, text, start, end, pieces);
+        put_piece(known, text, start, end, slots, count);
         start = end;
+        count += 1;
     }
+    pieces.count = count;
     Ok(start)
 }
 
@@ -116,7 +137,7 @@ fn cut_block<C: CellSource>(
     text: &str,
     start: usize,
     ends: &[usize],
-    pieces: &mut Vec<Piece>,
+    pieces: &mut Front<Piece>,
 ) -> Result<usize, AllocError>
     requires few { length text.now < 2 ^ 32 }
     requires within { start ≤ length text.now }
@@ -125,38 +146,41 @@ fn cut_block<C: CellSource>(
     ensures cuts { CutsOn (C.cell_of known.now.cells.now) text.now start pieces.old pieces.new result }
     ensures onward { IfOk result (λ next. start + length ends.now ≤ next) }
 {
-    make_room(pieces, ends.len())?;
+    pieces.make_room(ends.len(), NO_PIECE)?;
+    let mut count = pieces.count;
+    let slots = pieces.items.as_mut_slice();
     let mut start = start;
     for end in ends {
-        put_piece(known, text, start, *end, pieces);
+        put_piece(known, text, start, *end, slots, count);
         start = *end;
+        count += 1;
     }
+    pieces.count = count;
     Ok(start)
 }
 
-/// Puts the piece between two bytes after those in the list.
+/// Writes the piece between two bytes over the item at this place. Its fields are written one by one: a whole piece
+/// would be made elsewhere, and then be copied with the bytes between its fields.
 #[inline(always)]
 fn put_piece<C: CellSource>(
     known: &KnownCells<'_, C>,
     text: &str,
     start: usize,
     end: usize,
-    pieces: &mut Vec<Piece>,
+    pieces: &mut [Piece],
+    at: usize,
 )
     requires few { length text.now < 2 ^ 32 }
     requires utf8 { IsUtf8 (drop start text.now) }
     requires within { (start < end) × (end ≤ length text.now) }
     requires piece { (is_word : Bool) × IsFirstPiece text.now start end is_word }
-    requires room { vec_len pieces.old < vec_capacity pieces.old }
-    ensures cut { IsCutOn (C.cell_of known.now.cells.now) text.now start pieces.old pieces.new end }
-    ensures room { vec_capacity pieces.new ≡ vec_capacity pieces.old }
-    ensures len { vec_len pieces.new ≡ vec_len pieces.old + 1 }
+    requires room { at < length pieces.old }
+    ensures { IsCutOn (C.cell_of known.now.cells.now) text.now start (take at pieces.old) (take (at + 1) pieces.new) end }
 {
-    pieces.push_reserved(Piece {
-        start: start as u32,
-        end: end as u32,
-        word: is_word(known, &text[start..end]),
-    });
+    let piece = &mut pieces[at];
+    piece.start = start as u32;
+    piece.end = end as u32;
+    piece.word = is_word(known, &text[start..end]);
 }
 
 /// Whether a piece holds a letter or a number. Its first byte tells where it is one, or is all of the piece. One

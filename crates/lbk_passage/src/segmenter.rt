@@ -10,6 +10,7 @@ ghost use Rattle.lbk_passage.specs.Stays.{IsWhole};
 
 use crate::ahead::{Ahead, NOTHING};
 use crate::faults::PassageFault;
+use crate::front::Front;
 use crate::known::KnownCells;
 use crate::paragraph::Paragraph;
 use crate::passage::{Passage, PassageText, Piece, Segment};
@@ -45,8 +46,8 @@ pub struct Segmenter<'a, C: CellSource> {
     block: [RawBreak; BLOCK],
     /// Where the ends of pieces are found into.
     ends: [usize; ENDS],
-    segments: Vec<Segment>,
-    pieces: Vec<Piece>,
+    segments: Front<Segment>,
+    pieces: Front<Piece>,
     ghost told: { KeepsTold profile (C.cell_of known.cells.now) paragraph ahead },
     ghost found: { IsAhead profile (C.cell_of known.cells.now) paragraph.feed.ready ahead },
     ghost whole: { paragraph.is_held ≡ true → IsWhole (C.cell_of known.cells.now) paragraph },
@@ -57,6 +58,7 @@ impl<'a, C: CellSource> Segmenter<'a, C> {
     ghost use Rattle.lbk_passage.specs.Shown.{HasRoom, KeepsRoom, found_by, state_of};
     ghost use Rattle.lbk_passage.specs.Next.{AfterNext, GoesOnce, IsOpen, IsPlaced, fault_in, failures_with};
     ghost use Rattle.lbk_passage.specs.Passing.{LendsText, PassesOver};
+    ghost use Rattle.lbk_passage.specs.Front.{items_of};
     ghost use Rattle.lbk_passage.specs.contracts.segmenter.Segmenter.{the_row};
     ghost use mir.Syntax.{named};
 
@@ -88,8 +90,8 @@ impl<'a, C: CellSource> Segmenter<'a, C> {
             gave_segments: false,
             block: NO_BREAKS,
             ends: [0; ENDS],
-            segments: Vec::new(alloc),
-            pieces: Vec::new(alloc),
+            segments: Front::new(alloc),
+            pieces: Front::new(alloc),
         })
     }
 
@@ -114,7 +116,7 @@ impl<'a, C: CellSource> Segmenter<'a, C> {
         ensures failures { R.failure_count reader.new ≡ failures_with (R.failure_count reader.old) (fault_in result) }
     {
         self.gave_segments = true;
-        let count = self.segments.len();
+        let count = self.segments.count;
         let told = (self.ahead).tell(&self.known, self.profile, &self.paragraph, count);
         let Some(end) = self.paragraph.fill(reader, &self.known, told)? else {
             return Ok(None);
@@ -199,7 +201,7 @@ impl<'a, C: CellSource> Segmenter<'a, C> {
             self.ahead.forget();
             return self.paragraph.look_ahead(&self.known, None);
         }
-        let count = self.segments.len();
+        let count = self.segments.count;
         let told = (self.ahead).tell(&self.known, self.profile, &self.paragraph, count);
         self.paragraph.look_ahead(&self.known, told)
     }
@@ -208,15 +210,15 @@ impl<'a, C: CellSource> Segmenter<'a, C> {
     fn lend(&self, end: Verdict) -> Passage<'_>
         ensures start { result.start ≡ self.now.paragraph.feed.given - string_len self.now.paragraph.text }
         ensures text { result.text.now ≡ string_bytes self.now.paragraph.text }
-        ensures segments { result.segments.now ≡ self.now.segments.items }
-        ensures pieces { result.pieces.now ≡ self.now.pieces.items }
+        ensures segments { result.segments.now ≡ items_of self.now.segments }
+        ensures pieces { result.pieces.now ≡ items_of self.now.pieces }
         ensures end { result.end ≡ end }
     {
         Passage {
             start: self.paragraph.start(),
             text: self.paragraph.text(),
-            segments: &self.segments,
-            pieces: &self.pieces,
+            segments: self.segments.as_slice(),
+            pieces: self.pieces.as_slice(),
             end,
         }
     }

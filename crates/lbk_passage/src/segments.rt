@@ -1,6 +1,6 @@
 //! The segments of a passage.
 
-ghost use Rattle.std.specs.Prelude.{◌≡◌, ◌+◌, ◌*◌, ◌<◌, ◌≤◌, ◌^◌, ◌++◌, List, false, length, map, max, vec_len};
+ghost use Rattle.std.specs.Prelude.{◌≡◌, ◌+◌, ◌*◌, ◌<◌, ◌≤◌, ◌^◌, ◌++◌, ◌∷◌, [], List, false, length, map, max};
 ghost use Rattle.std.specs.Prelude.{All, IfOk, OnOk, OnErr, vec_capacity};
 ghost use Rattle.std.specs.Str.{chars};
 ghost use Rattle.lbk_rules.specs.declared.Break.{Break};
@@ -11,15 +11,17 @@ ghost use Rattle.lbk_rules.specs.Joins.{moved};
 ghost use Rattle.lbk_passage.specs.Breaks.{breaks, is_no};
 ghost use Rattle.lbk_passage.specs.Cuts.{cut_at, ending_by};
 ghost use Rattle.lbk_passage.specs.Marks.{marks, ended};
+ghost use Rattle.lbk_passage.specs.Front.{items_of};
 ghost use Rattle.lbk_passage.specs.Room.{Grows};
 ghost use Rattle.lbk_passage.specs.Segments.{segments_of};
+ghost use Rattle.lbk_passage.specs.declared.passage.Segment.{Segment};
 
 use crate::ahead::Ahead;
 use crate::found::{NO_BREAK, START, break_of, find};
+use crate::front::Front;
 use crate::passage::Segment;
-use crate::room::make_room;
 use lbk_bytes::RawBreak;
-use lbk_rules::{CellSource, Kind, Profile, Verdict};
+use lbk_rules::{CellSource, Kind, Profile, Rule, Verdict};
 use std::alloc::AllocError;
 
 /// How many breaks are found at a time.
@@ -28,6 +30,14 @@ pub(crate) const BLOCK: usize = 64;
 /// A block that nothing was found into. It is filled again and again, since to make one costs as much as some breaks
 /// do.
 pub(crate) const NO_BREAKS: [RawBreak; BLOCK] = [NO_BREAK; BLOCK];
+
+/// A segment that stands where none was put yet.
+const NO_SEGMENT: Segment = Segment {
+    start: 0,
+    end: 0,
+    kind: Kind::No,
+    rule: Rule::Lb31,
+};
 
 /// Writes the segments of a passage in place of what the list held: those of its text by itself, the last with the
 /// verdict `end` (UAX #14, section 6). Their breaks are those that were found ahead, if any were; else they are found
@@ -40,17 +50,17 @@ pub fn cut_lines<C: CellSource>(
     end: Verdict,
     ahead: &Ahead,
     block: &mut [RawBreak; BLOCK],
-    segments: &mut Vec<Segment>,
+    segments: &mut Front<Segment>,
 ) -> Result<(), AllocError>
     requires few { length text.now < 2 ^ 32 }
     requires sizes { HasSizes ahead.now }
     requires told { 0 < ahead.now.told → HasTold profile (C.cell_of cells.now) text.now end ahead.now }
-    ensures cut { OnOk result (segments.new.items
+    ensures cut { OnOk result (items_of segments.new
         ≡ segments_of (ended end (marks profile (C.cell_of cells.now) (chars text.now)))) }
-    ensures room { vec_capacity segments.old ≤ vec_capacity segments.new }
+    ensures room { vec_capacity segments.old.items ≤ vec_capacity segments.new.items }
     ensures most { is_no end.kind ≡ false
-        → vec_capacity segments.new ≤ max (vec_capacity segments.old) (2 * vec_len segments.new) }
-    ensures full { is_no end.kind ≡ false → OnErr result (vec_capacity segments.old
+        → vec_capacity segments.new.items ≤ max (vec_capacity segments.old.items) (2 * segments.new.count) }
+    ensures full { is_no end.kind ≡ false → OnErr result (vec_capacity segments.old.items
         < length (segments_of (ended end (marks profile (C.cell_of cells.now) (chars text.now))))) }
 {
     segments.clear();
@@ -60,26 +70,30 @@ pub fn cut_lines<C: CellSource>(
         return Ok(());
     }
     cut_alone(cells, profile, text, block, segments)?;
-    if let Some(last) = segments.pop() {
-        push_ended(segments, last, end);
-    }
+    end_last(segments, end);
     Ok(())
 }
 
-/// Puts a segment after those in the list, with this verdict at its end, if a line may break there.
-fn push_ended(segments: &mut Vec<Segment>, segment: Segment, end: Verdict)
-    requires { vec_len segments.old < vec_capacity segments.old }
-    ensures put { segments.new.items ≡ segments.old.items ++ ending_by end segment }
-    ensures room { vec_capacity segments.new ≡ vec_capacity segments.old }
-    ensures len { is_no end.kind ≡ false → vec_len segments.new ≡ vec_len segments.old + 1 }
+/// Puts this verdict at the end of the last segment in the list, if there is one, or takes it off where no line may break
+/// there.
+fn end_last(segments: &mut Front<Segment>, end: Verdict)
+    ensures none { segments.old.count ≡ 0 → segments.new ≡ segments.old }
+    ensures put { 0 < segments.old.count → (front : List Segment) × (last : Segment)
+        × (items_of segments.old ≡ front ++ last ∷ []) × (items_of segments.new ≡ front ++ ending_by end last) }
+    ensures room { vec_capacity segments.new.items ≡ vec_capacity segments.old.items }
+    ensures count { is_no end.kind ≡ false → segments.new.count ≡ segments.old.count }
 {
-    if !matches!(end.kind, Kind::No) {
-        segments.push_reserved(Segment {
-            kind: end.kind,
-            rule: end.rule,
-            ..segment
-        });
+    if segments.count == 0 {
+        return;
     }
+    let last = segments.count - 1;
+    if matches!(end.kind, Kind::No) {
+        segments.count = last;
+        return;
+    }
+    let segment = &mut segments.items[last];
+    segment.kind = end.kind;
+    segment.rule = end.rule;
 }
 
 /// Puts the segments of a text by itself, the last with the verdict at its end, after those in the list.
@@ -88,16 +102,16 @@ fn cut_alone<C: CellSource>(
     profile: Profile,
     text: &str,
     block: &mut [RawBreak; BLOCK],
-    segments: &mut Vec<Segment>,
+    segments: &mut Front<Segment>,
 ) -> Result<(), AllocError>
     requires { length text.now < 2 ^ 32 }
-    ensures cut { OnOk result (segments.new.items
-        ≡ segments.old.items ++ cut_at 0 (breaks profile (C.cell_of cells.now) (chars text.now))) }
-    ensures count { OnOk result (vec_len segments.new
-        ≡ vec_len segments.old + length (breaks profile (C.cell_of cells.now) (chars text.now))) }
+    ensures cut { OnOk result (items_of segments.new
+        ≡ items_of segments.old ++ cut_at 0 (breaks profile (C.cell_of cells.now) (chars text.now))) }
+    ensures count { OnOk result (segments.new.count
+        ≡ segments.old.count + length (breaks profile (C.cell_of cells.now) (chars text.now))) }
     ensures grows { Grows segments.old segments.new }
-    ensures full { OnErr result (vec_capacity segments.old
-        < vec_len segments.old + length (breaks profile (C.cell_of cells.now) (chars text.now))) }
+    ensures full { OnErr result (vec_capacity segments.old.items
+        < segments.old.count + length (breaks profile (C.cell_of cells.now) (chars text.now))) }
 {
     let mut here = START;
     let mut start = 0;
@@ -119,28 +133,31 @@ fn cut_block(
     block: &[RawBreak],
     base: usize,
     start: u32,
-    segments: &mut Vec<Segment>,
+    segments: &mut Front<Segment>,
 ) -> Result<u32, AllocError>
     requires breaks { AreBreaks block.now (length block.now) }
     requires few { All (λ one. (base ≤ one.at) × (one.at < base + 2 ^ 32)) block.now }
     ensures cut { IfOk result (λ next. (found more : List Break) → map shown block.now ≡ map (moved base) found
-        → segments.new.items ++ cut_at next more ≡ segments.old.items ++ cut_at start (found ++ more)) }
-    ensures count { OnOk result (vec_len segments.new ≡ vec_len segments.old + length block.now) }
+        → items_of segments.new ++ cut_at next more ≡ items_of segments.old ++ cut_at start (found ++ more)) }
+    ensures count { OnOk result (segments.new.count ≡ segments.old.count + length block.now) }
     ensures grows { Grows segments.old segments.new }
-    ensures full { OnErr result (vec_capacity segments.old < vec_len segments.old + length block.now) }
+    ensures full { OnErr result (vec_capacity segments.old.items < segments.old.count + length block.now) }
 {
-    make_room(segments, block.len())?;
+    segments.make_room(block.len(), NO_SEGMENT)?;
+    let mut count = segments.count;
+    let slots = segments.items.as_mut_slice();
     let mut start = start;
     for one in block {
         let found = break_of(*one);
         let end = (one.at - base) as u32;
-        segments.push_reserved(Segment {
-            start,
-            end,
-            kind: found.kind,
-            rule: found.rule,
-        });
+        let segment = &mut slots[count];
+        segment.start = start;
+        segment.end = end;
+        segment.kind = found.kind;
+        segment.rule = found.rule;
         start = end;
+        count += 1;
     }
+    segments.count = count;
     Ok(start)
 }

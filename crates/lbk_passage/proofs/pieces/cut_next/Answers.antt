@@ -1,8 +1,8 @@
-use Rattle.std.proofs.Common.{ℕ, ◌+◌, List, length, slice_index, take, refl, ap, subst, arith}
+use Rattle.std.proofs.Common.{ℕ, ◌+◌, List, length, slice_index, take, ap, subst, arith}
 use Rattle.std.proofs.lemmas.Result.{err_from_is_err_and}
 use Rattle.lbk_words.specs.Ends.{AreParts}
 use Rattle.lbk_words.proofs.PartLemmas.{lone-part}
-use Rattle.lbk_passage.proofs.PieceLemmas.{cut-from, cuts-made, cuts-refused, pieces-step}
+use Rattle.lbk_passage.proofs.PieceLemmas.{cuts-refused, pieces-step}
 use Rattle.lbk_passage.proofs.pieces.cut_next.Goals as goal
 
 pub returns-in_err-make_room-clause-cuts : goal.returns-in_err-make_room-clause-cuts
@@ -14,7 +14,7 @@ returns-in_err-make_room-clause-cuts g c =
     let lone = lone-part text start (omega arith) (omega (arith, low)) in
     let p = err_from_is_err_and c.from_residual.result c.from_residual.ensures.1 in
     let room = c.in_err-make_room.ensures in
-    cuts-refused cell text start c.args.pieces.now c.make_room.new.list 1 p.0 c.from_residual.result p.1 room.makes.refused room.makes.len room.full
+    cuts-refused cell text start c.args.pieces.now c.make_room.new.self 1 p.0 c.from_residual.result p.1 room.makes.refused room.makes.count room.full
     (omega (arith, ap length (pieces-step cell text start (start + 1) lone.0 c.requires.utf8 lone.1)))
 
 pub put_piece-requires-clause-piece : goal.put_piece-requires-clause-piece
@@ -26,12 +26,3 @@ pub cut_block-requires-clause-parts : goal.cut_block-requires-clause-parts
 cut_block-requires-clause-parts g c =
     let ends = take c.fill_ends-count.result c.fill_ends-count.new.out in
     subst (λ bytes. (to : ℕ) × AreParts bytes c.args.start to ends) c.as_bytes-bytes.ensures.value c.fill_ends-count.ensures.parts
-
-pub returns-then-bytes-start-lt128-clause-cuts : goal.returns-then-bytes-start-lt128-clause-cuts
-returns-then-bytes-start-lt128-clause-cuts g c =
-    let cell = g.C.CellSource.cell_of c.args.known.now.cells.now in
-    let made = c.in_ok-make_room.ensures.makes in
-    let put = c.put_piece.ensures in
-    let cut = cut-from cell c.args.text.now c.args.start c.args.pieces.now c.make_room.new.list (c.args.start + 1) c.put_piece.new.pieces made.items made.len put.cut in
-    cuts-made cell c.args.text.now c.args.start c.args.pieces.now c.make_room.new.list (c.args.start + 1) 1 c.put_piece.new.pieces _ refl cut made.kept made.most put.room
-    (omega (arith, put.len, made.len))

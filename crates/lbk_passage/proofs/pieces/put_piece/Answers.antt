@@ -1,5 +1,7 @@
-use Rattle.std.proofs.Common.{ap, ◌∙◌, arith}
+use Rattle.std.proofs.Common.{ap, take, ◌∙◌, arith}
+use Rattle.std.proofs.lemmas.List.{take_more_set}
 use Rattle.std.proofs.lemmas.Str.{IsCharBoundary-from_drop}
+use Rattle.lbk_passage.specs.declared.passage.Piece.{Piece}
 use Rattle.lbk_passage.specs.Pieces.{is_word}
 use Rattle.lbk_passage.proofs.PieceLemmas.{cut-one, piece-ends}
 use Rattle.lbk_passage.proofs.pieces.put_piece.Goals as goal
@@ -10,8 +12,11 @@ range-requires-clause-start_boundary g c = λ some. IsCharBoundary-from_drop c.a
 pub range-requires-clause-end_boundary : goal.range-requires-clause-end_boundary
 range-requires-clause-end_boundary g c = piece-ends c.args.text.now c.args.start c.args.end c.requires.piece.0 c.requires.utf8 c.requires.piece.1
 
-pub returns-clause-cut : goal.returns-clause-cut
-returns-clause-cut g c =
+pub returns : goal.returns
+returns g c =
     let cell = g.C.CellSource.cell_of c.args.known.now.cells.now in
-    cut-one cell c.args.text.now c.args.start c.args.end c.requires.piece.0 c.is_word.result c.args.pieces.now c.push_reserved.new.self c.requires.utf8 c.requires.piece.1
-    (c.is_word.ensures ∙ ap (is_word cell) c.range.ensures.value) c.push_reserved.ensures.items c.push_reserved.ensures.len
+    let all = c.args.pieces.now in
+    let at = c.args.at in
+    let piece : Piece = record { start = c.args.start; end = c.args.end; word = c.is_word-piece.result } in
+    cut-one cell c.args.text.now c.args.start c.args.end c.requires.piece.0 c.is_word-piece.result (take at all) _ c.requires.utf8 c.requires.piece.1
+    (c.is_word-piece.ensures ∙ ap (is_word cell) c.range.ensures.value) (take_more_set all at piece c.requires.room)

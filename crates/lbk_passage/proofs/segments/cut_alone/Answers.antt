@@ -4,6 +4,7 @@ use Rattle.std.proofs.lemmas.Result.{err_from_is_err_and}
 use Rattle.lbk_rules.specs.declared.Break.{Break}
 use Rattle.lbk_passage.specs.Cuts.{cut_at}
 use Rattle.lbk_passage.specs.Found.{left_after}
+use Rattle.lbk_passage.specs.Front.{items_of}
 use Rattle.lbk_passage.proofs.FoundLemmas.{IsFound-start, left-many, left-on, taken-breaks, taken-many}
 use Rattle.lbk_passage.proofs.SegmentLemmas.{breaks-within, cut-alone, cut-on, raw-within}
 use Rattle.lbk_passage.proofs.RoomLemmas.{Grows-none, Grows-on}
@@ -28,7 +29,7 @@ loop-start-preserved g c =
     let left = left_after c.args.profile cell c.args.text.now l.here in
     record {
       found = c.find-next.ensures.found;
-      cut = cut-on c.find-next.ensures c.loop-start.segments.items c.cut_block.new.segments.items c.loop-start.start c.in_ok-start.start (cut-alone (take n c.find-next.new.out) _ _ _ _ c.in_ok-start.ensures.cut) ∙ l.invariant.cut;
+      cut = cut-on c.find-next.ensures (items_of c.loop-start.segments) (items_of c.cut_block.new.segments) c.loop-start.start c.in_ok-start.start (cut-alone (take n c.find-next.new.out) _ _ _ _ c.in_ok-start.ensures.cut) ∙ l.invariant.cut;
       within = subst (All (λ (one : Break). one.at < 4294967296)) (sym (left-on c.find-next.ensures)) (All-drop (λ (one : Break). one.at < 4294967296) n left l.invariant.within);
       count = omega (
         arith,
@@ -79,10 +80,10 @@ returns-in_err-start-clause-full g c =
 
 pub returns-then-next-clause-cut : goal.returns-then-next-clause-cut
 returns-then-next-clause-cut g c =
-    let held = c.cut_block.new.segments.items in
+    let held = items_of c.cut_block.new.segments in
     sym (append-nil held)
     ∙ ap (λ bs. held ++ cut_at c.in_ok-start.start bs) (sym (c.find-next.ensures.found.none_left c.if-next.true))
-    ∙ cut-on c.find-next.ensures c.loop-start.segments.items c.cut_block.new.segments.items c.loop-start.start c.in_ok-start.start (cut-alone (take (c.find-next.result.state.count - c.loop-start.here.state.count) c.find-next.new.out) _ _ _ _ c.in_ok-start.ensures.cut) ∙ c.loop-start.invariant.cut
+    ∙ cut-on c.find-next.ensures (items_of c.loop-start.segments) (items_of c.cut_block.new.segments) c.loop-start.start c.in_ok-start.start (cut-alone (take (c.find-next.result.state.count - c.loop-start.here.state.count) c.find-next.new.out) _ _ _ _ c.in_ok-start.ensures.cut) ∙ c.loop-start.invariant.cut
 
 pub returns-then-next-clause-count : goal.returns-then-next-clause-count
 returns-then-next-clause-count g c =

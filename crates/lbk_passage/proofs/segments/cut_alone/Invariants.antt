@@ -1,8 +1,9 @@
-use Rattle.std.proofs.Common.{◌≡◌, ◌+◌, ◌<◌, ◌^◌, ◌++◌, All, length, vec_len}
+use Rattle.std.proofs.Common.{◌≡◌, ◌+◌, ◌<◌, ◌^◌, ◌++◌, All, length}
 use Rattle.std.specs.Str.{chars}
 use Rattle.lbk_passage.specs.Breaks.{breaks}
 use Rattle.lbk_passage.specs.Cuts.{cut_at}
 use Rattle.lbk_passage.specs.Found.{IsFound, left_after}
+use Rattle.lbk_passage.specs.Front.{items_of}
 use Rattle.lbk_passage.specs.Room.{Grows}
 use Rattle.lbk_passage.proofs.segments.cut_alone.Given as goal
 
@@ -13,9 +14,9 @@ invariant-loop-start g l =
     let left = left_after l.fn.profile cell l.text l.here in
     record {
       found : IsFound l.fn.profile cell l.text l.here;
-      cut : l.segments.items ++ cut_at l.start left ≡ l.fn.segments.items ++ cut_at 0 all;
+      cut : items_of l.segments ++ cut_at l.start left ≡ items_of l.fn.segments ++ cut_at 0 all;
       within : All (λ one. one.at < 2 ^ 32) left;
-      count : vec_len l.segments + length left ≡ vec_len l.fn.segments + length all;
+      count : l.segments.count + length left ≡ l.fn.segments.count + length all;
       grows : Grows l.fn.segments l.segments;
     }
 

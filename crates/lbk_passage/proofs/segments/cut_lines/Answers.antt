@@ -1,5 +1,6 @@
-use Rattle.std.proofs.Common.{◌≡◌, ◌+◌, ◌-◌, ◌<◌, ◌≤◌, All, List, [], ◌++◌, drop, length, map, subst, sym, take, ap, arith, rules, ◌∙◌}
+use Rattle.std.proofs.Common.{◌≡◌, ◌+◌, ◌-◌, ◌<◌, ◌≤◌, All, List, [], ◌++◌, drop, length, map, subst, sym, take, ap, arith, ⊎_elim, ◌∙◌}
 use Rattle.std.specs.Str.{chars}
+use Rattle.std.proofs.lemmas.Bool.{cases_lt}
 use Rattle.std.proofs.lemmas.List.{append-nil}
 use Rattle.std.proofs.lemmas.Result.{err_from_is_err_and}
 use Rattle.lbk_rules.specs.Breaks.{breaks}
@@ -10,25 +11,27 @@ use Rattle.lbk_bytes.specs.Shown.{shown}
 use Rattle.lbk_passage.specs.Ahead.{HasSizes, told_in}
 use Rattle.lbk_passage.specs.declared.ahead.Ahead.{Ahead}
 use Rattle.lbk_passage.specs.Cuts.{cut_at}
+use Rattle.lbk_passage.specs.Front.{items_of}
 use Rattle.lbk_passage.proofs.AheadLemmas.{lines-many, slice-breaks, slice-many, slice-near}
+use Rattle.lbk_passage.proofs.RoomLemmas.{items-many}
 use Rattle.lbk_passage.proofs.SegmentLemmas.{segments-many, segments-none, segments-replaced}
 use Rattle.lbk_passage.proofs.segments.cut_lines.Goals as goal
 
-pub returns-in_default-clause-cut : goal.returns-in_default-clause-cut
-returns-in_default-clause-cut g c =
+pub returns-clause-cut : goal.returns-clause-cut
+returns-clause-cut g c =
     let cell = g.C.CellSource.cell_of c.args.cells.now in
-    let all = cut_at 0 (breaks c.args.profile cell (chars c.args.text.now)) in
-    let cut : c.cut_alone.new.segments.items ≡ all = c.in_ok-cut_alone.ensures.cut ∙ ap (λ l. l ++ all) c.clear.ensures.items in
-    let left : c.pop.new.self.items ≡ all = sym (append-nil c.pop.new.self.items) ∙ sym c.in_default.ensures.items ∙ cut in
-    let none : length c.pop.new.self.items ≡ 0 = search rules in
-    segments-none c.args.profile cell (chars c.args.text.now) c.args.end c.pop.new.self.items none left
-
-pub returns-in-Some-clause-cut : goal.returns-in-Some-clause-cut
-returns-in-Some-clause-cut g c =
-    let cell = g.C.CellSource.cell_of c.args.cells.now in
-    let all = cut_at 0 (breaks c.args.profile cell (chars c.args.text.now)) in
-    let cut : c.cut_alone.new.segments.items ≡ all = c.in_ok-cut_alone.ensures.cut ∙ ap (λ l. l ++ all) c.clear.ensures.items in
-    c.push_ended.ensures.put ∙ segments-replaced c.args.profile cell (chars c.args.text.now) c.args.end c.pop.new.self.items c.in-Some.last (sym c.in-Some.ensures.items ∙ cut)
+    let cs = chars c.args.text.now in
+    let made = c.cut_alone.new.segments in
+    let all = cut_at 0 (breaks c.args.profile cell cs) in
+    let cut : items_of made ≡ all = c.in_ok-cut_alone.ensures.cut ∙ ap (λ l. l ++ all) c.clear.ensures.items in
+    ⊎_elim
+    (λ (some : 0 < made.count).
+    let put = c.end_last.ensures.put some in
+    put.3 ∙ segments-replaced c.args.profile cell cs c.args.end put.0 put.1 (sym put.2 ∙ cut))
+    (λ (few : made.count ≤ 0).
+    ap items_of (c.end_last.ensures.none (omega (arith, few)))
+    ∙ segments-none c.args.profile cell cs c.args.end (items_of made) (omega (arith, few, items-many made)) cut)
+    (cases_lt 0 made.count)
 
 pub returns-in_err-cut_alone-clause-full : goal.returns-in_err-cut_alone-clause-full
 returns-in_err-cut_alone-clause-full g c = λ broken.
@@ -69,5 +72,5 @@ returns-then-found-ne0-clause-cut g c =
     let a = c.args.ahead.now in
     let told = c.requires.told (some_told a c.requires.sizes c.found-found.ensures c.if-found-ne0.true) in
     let given = ap (map shown) c.found-found.ensures ∙ told.given ∙ ap (λ n. map (moved n) (told_in a (length c.args.text.now))) (sym c.start.ensures) in
-    sym (append-nil c.cut_block.new.segments.items) ∙ c.in_ok-cut_block.ensures.cut (told_in a (length c.args.text.now)) [] given
+    sym (append-nil (items_of c.cut_block.new.segments)) ∙ c.in_ok-cut_block.ensures.cut (told_in a (length c.args.text.now)) [] given
     ∙ ap (λ l. l ++ cut_at 0 ((told_in a (length c.args.text.now)) ++ [])) c.clear.ensures.items ∙ ap (cut_at 0) (append-nil (told_in a (length c.args.text.now))) ∙ told.cut

@@ -6,6 +6,7 @@ use Rattle.lbk_passage.specs.Segments.{segments_of}
 use Rattle.lbk_passage.specs.Pieces.{pieces_of}
 use Rattle.lbk_passage.specs.declared.faults.PassageFault.TheVariants.{Memory}
 use Rattle.lbk_passage.specs.Next.{failures_with, fault_in}
+use Rattle.lbk_passage.specs.Front.{items_of}
 use Rattle.lbk_passage.specs.Shown.{found_by}
 use Rattle.lbk_passage.specs.State.{state_with}
 use Rattle.lbk_passage.specs.Gathering.{IsFirst}
@@ -13,6 +14,7 @@ use Rattle.lbk_passage.specs.Stays.{IsWhole}
 use Rattle.lbk_passage.proofs.Giving.{After-fault, After-lent, After-memory, After-none, Goes-fault, Goes-lent, Goes-none, Goes-some, Keeps-same, lacks_room, most_of, never_memory, no_fault, on_err, on_ok}
 use Rattle.lbk_passage.specs.Ahead.{HasTold, IsAhead, KeepsTold}
 use Rattle.lbk_passage.proofs.AheadLemmas.{ahead-kept}
+use Rattle.lbk_passage.proofs.RoomLemmas.{items-many}
 use Rattle.lbk_passage.proofs.Taking.{string_len-is}
 use Rattle.lbk_passage.proofs.segmenter.Segmenter.next.Given.{Over}
 use Rattle.lbk_passage.proofs.segmenter.Segmenter.next.Goals as goal
@@ -76,9 +78,9 @@ returns-then-is_err g c =
     let fills = rw was at filled in
     let first : IsFirst (state_with (g.C.CellSource.cell_of c.args.self.now.known.cells.now) c.args.self.now.profile c.fill.new.self) c.fill.new.self c.in-Some.end = fills.answer in
     let many = λ (l : List ℕ). length (segments_of (ended c.in-Some.end (marks c.args.self.now.profile (g.C.CellSource.cell_of c.args.self.now.known.cells.now) (chars l)))) in
-    let lines : vec_capacity c.args.self.now.segments < many (string_bytes c.fill.new.self.text) =
-    subst (λ l. vec_capacity c.args.self.now.segments < many l) c.text-text.ensures.text
-    (on_err (vec_capacity c.args.self.now.segments < many c.text-text.result.now) c.cut_lines.result
+    let lines : vec_capacity c.args.self.now.segments.items < many (string_bytes c.fill.new.self.text) =
+    subst (λ l. vec_capacity c.args.self.now.segments.items < many l) c.text-text.ensures.text
+    (on_err (vec_capacity c.args.self.now.segments.items < many c.text-text.result.now) c.cut_lines.result
     (c.is_err.ensures.negation ∙ ap not c.if-is_err.true) (c.cut_lines.ensures.full first.broken)) in (
       (
         refl,
@@ -88,8 +90,8 @@ returns-then-is_err g c =
           record {
             for_segments = omega (arith, c.cut_lines.ensures.room);
             for_pieces = omega arith;
-            few_segments = most_of (vec_capacity c.cut_lines.new.segments) (vec_capacity c.args.self.now.segments) c.cut_lines.new.segments.ok.0 (c.cut_lines.ensures.most first.broken);
-            few_pieces = le-max_left (vec_capacity c.args.self.now.pieces) (2 * length c.args.self.now.pieces.items);
+            few_segments = most_of (vec_capacity c.cut_lines.new.segments.items) (vec_capacity c.args.self.now.segments.items) (sym (items-many c.cut_lines.new.segments)) (c.cut_lines.ensures.most first.broken);
+            few_pieces = le-max_left (vec_capacity c.args.self.now.pieces.items) (2 * length (items_of c.args.self.now.pieces));
             memory = λ is. lacks_room fills (found_by c.args.self.now) (inl lines);
           },
         ),
@@ -109,9 +111,9 @@ returns-then-is_err-2 g c =
     let fills = rw was at filled in
     let first : IsFirst (state_with (g.C.CellSource.cell_of c.args.self.now.known.cells.now) c.args.self.now.profile c.fill.new.self) c.fill.new.self c.in-Some.end = fills.answer in
     let many = λ (l : List ℕ). length (pieces_of (g.C.CellSource.cell_of c.args.self.now.known.cells.now) l) in
-    let words : vec_capacity c.args.self.now.pieces < many (string_bytes c.fill.new.self.text) =
-    subst (λ l. vec_capacity c.args.self.now.pieces < many l) c.text-text.ensures.text
-    (on_err (vec_capacity c.args.self.now.pieces < many c.text-text.result.now) c.cut_words.result
+    let words : vec_capacity c.args.self.now.pieces.items < many (string_bytes c.fill.new.self.text) =
+    subst (λ l. vec_capacity c.args.self.now.pieces.items < many l) c.text-text.ensures.text
+    (on_err (vec_capacity c.args.self.now.pieces.items < many c.text-text.result.now) c.cut_words.result
     (c.is_err-2.ensures.negation ∙ ap not c.if-is_err-2.true) c.cut_words.ensures.full) in (
       (
         refl,
@@ -121,8 +123,8 @@ returns-then-is_err-2 g c =
           record {
             for_segments = omega (arith, c.cut_lines.ensures.room);
             for_pieces = omega (arith, c.cut_words.ensures.room);
-            few_segments = most_of (vec_capacity c.cut_lines.new.segments) (vec_capacity c.args.self.now.segments) c.cut_lines.new.segments.ok.0 (c.cut_lines.ensures.most first.broken);
-            few_pieces = most_of (vec_capacity c.cut_words.new.pieces) (vec_capacity c.args.self.now.pieces) c.cut_words.new.pieces.ok.0 c.cut_words.ensures.most;
+            few_segments = most_of (vec_capacity c.cut_lines.new.segments.items) (vec_capacity c.args.self.now.segments.items) (sym (items-many c.cut_lines.new.segments)) (c.cut_lines.ensures.most first.broken);
+            few_pieces = most_of (vec_capacity c.cut_words.new.pieces.items) (vec_capacity c.args.self.now.pieces.items) (sym (items-many c.cut_words.new.pieces)) c.cut_words.ensures.most;
             memory = λ is. lacks_room fills (found_by c.args.self.now) (inr words);
           },
         ),
@@ -143,11 +145,11 @@ returns g c =
     let was = c.in_ok-end.was ∙ ap Ok c.in-Some.is in
     let fills = rw was at filled in
     let first : IsFirst (state_with cell profile c.fill.new.self) c.fill.new.self c.in-Some.end = fills.answer in
-    let lines : c.cut_lines.new.segments.items ≡ segments_of (ended c.in-Some.end (marks profile cell (chars c.text-text.result.now))) =
-    on_ok (c.cut_lines.new.segments.items ≡ segments_of (ended c.in-Some.end (marks profile cell (chars c.text-text.result.now))))
+    let lines : items_of c.cut_lines.new.segments ≡ segments_of (ended c.in-Some.end (marks profile cell (chars c.text-text.result.now))) =
+    on_ok (items_of c.cut_lines.new.segments ≡ segments_of (ended c.in-Some.end (marks profile cell (chars c.text-text.result.now))))
     c.cut_lines.result (c.is_err.ensures.negation ∙ ap not c.if-is_err.false) c.cut_lines.ensures.cut in
-    let words : c.cut_words.new.pieces.items ≡ pieces_of cell c.text-text.result.now =
-    on_ok (c.cut_words.new.pieces.items ≡ pieces_of cell c.text-text.result.now)
+    let words : items_of c.cut_words.new.pieces ≡ pieces_of cell c.text-text.result.now =
+    on_ok (items_of c.cut_words.new.pieces ≡ pieces_of cell c.text-text.result.now)
     c.cut_words.result (c.is_err-2.ensures.negation ∙ ap not c.if-is_err-2.false) c.cut_words.ensures.cut in
     let given = After-lent fills c.release.new.self c.lend.result c.release.ensures (record {
       start = omega (
@@ -171,8 +173,8 @@ returns g c =
           record {
             for_segments = omega (arith, c.cut_lines.ensures.room);
             for_pieces = omega (arith, c.cut_words.ensures.room);
-            few_segments = most_of (vec_capacity c.cut_lines.new.segments) (vec_capacity c.args.self.now.segments) c.cut_lines.new.segments.ok.0 (c.cut_lines.ensures.most first.broken);
-            few_pieces = most_of (vec_capacity c.cut_words.new.pieces) (vec_capacity c.args.self.now.pieces) c.cut_words.new.pieces.ok.0 c.cut_words.ensures.most;
+            few_segments = most_of (vec_capacity c.cut_lines.new.segments.items) (vec_capacity c.args.self.now.segments.items) (sym (items-many c.cut_lines.new.segments)) (c.cut_lines.ensures.most first.broken);
+            few_pieces = most_of (vec_capacity c.cut_words.new.pieces.items) (vec_capacity c.args.self.now.pieces.items) (sym (items-many c.cut_words.new.pieces)) c.cut_words.ensures.most;
             memory = λ is. no_fault _ is;
           },
         ),
