@@ -1,9 +1,9 @@
 -- What the first byte of a piece tells of whether it holds a letter or a number.
-use Rattle.std.proofs.Common.{◌≡◌, ℕ, ◌+◌, ◌-◌, ◌*◌, ◌<◌, ◌≤◌, Bool, true, false, ◌||◌, nat_lt, List, [], ◌∷◌, ◌++◌, length, drop, subst, slice_index_or, encode_utf8, encode_utf8_all, IsUtf8, inl, inr, refl, sym, ap, ◌∙◌, arith, length-append}
+use Rattle.std.proofs.Common.{◌≡◌, ℕ, ◌<◌, ◌≤◌, Bool, true, false, ◌||◌, nat_lt, List, [], ◌∷◌, ◌++◌, length, drop, subst, slice_index_or, encode_utf8, encode_utf8_all, IsUtf8, inl, inr, refl, sym, ap, ◌∙◌, arith, length-append}
 use Rattle.std.specs.Char.{len_utf8}
 use Rattle.std.specs.List.{list_any}
 use Rattle.std.specs.Str.{chars}
-use Rattle.std.proofs.lemmas.Bool.{cases_lt, le-ltb, lt-ltb}
+use Rattle.std.proofs.lemmas.Bool.{cases_lt, lt-ltb}
 use Rattle.std.proofs.lemmas.Bool.Decides.{nat_tests}
 use Rattle.std.proofs.Math.ListN.{drop_of_length-le}
 use Rattle.std.proofs.Math.Utf8.{scalars}
@@ -33,15 +33,6 @@ one-ascii text utf8 one = go (chars text) (encodes-chars text utf8)
           let impossible : ⊥ = omega (arith, two_bytes c high, length-encode c, long, length-append (encode_utf8 c) (encode_utf8_all cs), one) in
           absurd impossible
     ]
-
--- a text of three bytes whose first begins a scalar of three
-pub one-of-three : (text : List ℕ) → length text ≡ 3 → 224 ≤ slice_index_or text 0 0 → slice_index_or text 0 0 < 240 → (code : ℕ) × (chars text ≡ code ∷ [])
-unfolding chars
-one-of-three (a ∷ b ∷ c ∷ []) three low high = (((a - 224) * 64 + (b - 128)) * 64 + (c - 128), rw (le-ltb a 128 (omega arith), le-ltb a 224 low, lt-ltb a 240 high))
-one-of-three [] three low high = let impossible : ⊥ = omega (arith, three) in absurd impossible
-one-of-three (a ∷ []) three low high = let impossible : ⊥ = omega (arith, three) in absurd impossible
-one-of-three (a ∷ b ∷ []) three low high = let impossible : ⊥ = omega (arith, three) in absurd impossible
-one-of-three (a ∷ b ∷ c ∷ d ∷ rest) three low high = let impossible : ⊥ = omega (arith, three) in absurd impossible
 
 -- the first byte tells of a piece that is no longer than the length told
 pub letter-told : (cell : ℕ → Cell) (lengths : List ℕ) (piece : List ℕ) → IsUtf8 piece → AreLetters cell lengths → 0 < length piece

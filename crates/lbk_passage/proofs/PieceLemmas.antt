@@ -1,26 +1,30 @@
 -- The pieces from a byte on.
-use Rattle.std.proofs.Common.{◌≡◌, ℕ, zero, suc, ◌+◌, ◌*◌, ◌-◌, ◌^◌, Result, Ok, Err, max, vec_capacity, ◌<◌, ◌≤◌, ⊎_elim, bit_and, count_ones, w64, Bool, List, [], ◌∷◌, ◌++◌, append_assoc, drop, length, map, slice_index_or, take, refl, sym, ap, subst, ◌∙◌, arith}
+use Rattle.std.proofs.Common.{◌≡◌, ℕ, zero, suc, ◌+◌, ◌*◌, ◌-◌, ◌^◌, Result, Ok, Err, max, vec_capacity, ◌<◌, ◌≤◌, ⊎_elim, bit_and, count_ones, w64, Bool, List, [], ◌∷◌, ◌++◌, append-nil, append_assoc, All, IfOk, OnErr, OnOk, drop, length, map, take, refl, sym, ap, subst, ◌∙◌, arith}
 use Rattle.std.specs.Str.{IsCharBoundary, IsUtf8, encode_utf8_all}
 use Rattle.std.specs.Int.{trailing_zeros}
 use Rattle.std.proofs.lemmas.Bool.{cases_lt}
 use Rattle.std.proofs.lemmas.Nat.{and_le_r, ones_le_self}
 use Rattle.std.proofs.Math.ListN.{drop_of_length-le}
-use Rattle.std.proofs.lemmas.List.{drop_more, length-drop, length-take-le}
+use Rattle.std.proofs.lemmas.List.{length-drop, length-take-le}
 use Rattle.std.proofs.lemmas.Str.{IsCharBoundary-from_drop, chars-nil}
 use Rattle.unicode_segmentation.specs.Segments.{cut, segments}
 use Rattle.unicode_segmentation.specs.Word.{is_word_break, word_bounds}
 use Rattle.lbk_rules.specs.declared.Cell.{Cell}
 use Rattle.lbk_words.specs.Places.{IsFirstPiece}
-use Rattle.lbk_words.proofs.WellFormedLemmas.{first-bound}
+use Rattle.lbk_words.proofs.WellFormedLemmas.{first-bound, read-chars}
 use Rattle.lbk_masks.specs.Bits.{AreCleared, IsLowest}
 use Rattle.lbk_masks.proofs.KeptLemmas.{are-cleared, lowest}
 use Rattle.lbk_passage.proofs.CountLemmas.{one-fewer}
 use Rattle.lbk_passage.proofs.RoomLemmas.{Grows-made, Grows-none}
-use Rattle.lbk_words.specs.Ends.{AreEnds, AreParts, AreTold}
-use Rattle.lbk_words.proofs.EndLemmas.{IsEnd, next-end}
+use Rattle.lbk_words.specs.Ends.{AreEnds, AreParts, AreTold, IsEnd}
+use Rattle.lbk_words.specs.declared.letters.PartEnd.{PartEnd}
+use Rattle.std.specs.List.{list_any}
+use Rattle.std.proofs.lemmas.List.Elements.{All-cons, All-nil}
+use Rattle.lbk_passage.specs.Room.{Grows}
+use Rattle.lbk_words.proofs.EndLemmas.{IsEnd as IsTold, next-end}
 use Rattle.lbk_passage.specs.declared.front.Front.{Front}
 use Rattle.lbk_passage.specs.declared.passage.Piece.{Piece}
-use Rattle.lbk_passage.specs.Pieces.{CutsOn, IsCutOn, is_word, pieces_from, pieces_on}
+use Rattle.lbk_passage.specs.Pieces.{CutsOn, IsCutOn, is_word, next_start, pieces_by, pieces_from, pieces_on}
 use Rattle.lbk_passage.specs.Front.{items_of}
 
 -- the first of them, and those behind it
@@ -39,20 +43,6 @@ pub pieces-end : (cell : ℕ → Cell) (text : List ℕ) (start : ℕ) → lengt
 unfolding segments cut
 pieces-end cell text start past =
     ap (λ l. pieces_from cell start (word_bounds l)) (drop_of_length-le text past) ∙ ap (λ l. pieces_from cell start (map encode_utf8_all (cut is_word_break [] l []))) chars-nil
-
--- parts that end one behind the other are no more than there are pieces
-pub parts-few : (cell : ℕ → Cell) (text : List ℕ) (from to : ℕ) (ends : List ℕ) → IsUtf8 (drop from text) → AreParts text from to ends
-    → length ends ≤ length (pieces_on cell text from)
-parts-few cell text from to [] utf8 parts = omega arith
-parts-few cell text from to (end ∷ ends) utf8 parts =
-    let first = parts.0.1 in
-    let behind = parts-few cell text end to ends (first-bound text from end parts.0.0 utf8 first).utf8 parts.1 in
-    omega (arith, ap length (pieces-step cell text from end parts.0.0 utf8 first))
-
--- the part that ends at a place of the list, and those behind it
-pub part-at : (text : List ℕ) (from to i : ℕ) (ends : List ℕ) → i < length ends → AreParts text from to (drop i ends)
-    → ((is_word : Bool) × IsFirstPiece text from (slice_index_or ends i 0) is_word) × AreParts text (slice_index_or ends i 0) to (drop (i + 1) ends)
-part-at text from to i ends inside parts = subst (AreParts text from to) (drop_more ends i 0 inside) parts
 
 module _ (cell : ℕ → Cell) (text : List ℕ) where
   -- the next piece is put behind those of a list
@@ -75,6 +65,74 @@ module _ (cell : ℕ → Cell) (text : List ℕ) where
   pub cut-on : (from mid to : ℕ) (old some new : List Piece) → IsCutOn cell text from old some mid → IsCutOn cell text mid some new to
       → IsCutOn cell text from old new to
   cut-on from mid to old some new before after = record { cut = after.cut ∙ before.cut; utf8 = after.utf8; within = after.within }
+
+-- the letters that a source of cells knows
+abbrev pub letter_by : (ℕ → Cell) → ℕ → Bool
+letter_by cell code = (cell code).letter
+
+-- a part that ends there is a word if it holds a letter
+end-told : (cell : ℕ → Cell) (text : List ℕ) (from : ℕ) (end : PartEnd) → IsUtf8 (drop from text) → IsEnd (letter_by cell) text from end
+    → end.has_letter ≡ is_word cell (take (end.at - from) (drop from text))
+end-told cell text from end utf8 is =
+    is.noted.told ∙ ap (list_any (letter_by cell)) (sym (read-chars text from end.at is.noted.read utf8 is.noted.reads is.noted.place))
+
+-- the pieces that have the ends of parts are those of the text
+pub parts-cut : (cell : ℕ → Cell) (text : List ℕ) (from to : ℕ) (ends : List PartEnd) (old new : List Piece) → IsUtf8 (drop from text) → from ≤ length text
+    → AreParts (letter_by cell) text from to ends → new ≡ old ++ pieces_by from ends → IsCutOn cell text from old new (next_start from ends)
+parts-cut cell text from to [] old new utf8 within parts is =
+    record { cut = ap (λ l. l ++ pieces_on cell text from) (is ∙ append-nil old); utf8 = utf8; within = within }
+parts-cut cell text from to (end ∷ ends) old new utf8 within parts is =
+    let first = parts.0.first in
+    let piece : Piece = record { start = from; end = end.at; word = end.has_letter } in
+    let some = old ++ piece ∷ [] in
+    cut-on cell text from end.at (next_start end.at ends) old some new
+    (cut-one cell text from end.at parts.0.is_word end.has_letter old some utf8 first (end-told cell text from end utf8 parts.0) refl)
+    (parts-cut cell text end.at to ends some new (first-bound text from end.at parts.0.is_word utf8 first).utf8 first.within parts.1
+    (is ∙ sym (append_assoc old (piece ∷ []) (pieces_by end.at ends))))
+
+-- each has a byte at least
+parts-onward : (letter : ℕ → Bool) (text : List ℕ) (from to : ℕ) (ends : List PartEnd) → AreParts letter text from to ends
+    → from + length ends ≤ next_start from ends
+parts-onward letter text from to [] parts = omega arith
+parts-onward letter text from to (end ∷ ends) parts =
+    let grows = parts.0.first.grows in let on = parts-onward letter text end.at to ends parts.1 in omega (arith, grows, on)
+
+pub next-onward : {E : Type 0} (letter : ℕ → Bool) (text : List ℕ) (from to : ℕ) (ends : List PartEnd) (r : Result ℕ E) → AreParts letter text from to ends
+    → 0 < length ends → IfOk r (λ next. next ≡ next_start from ends) → IfOk r (λ next. from < next)
+next-onward letter text from to ends (Ok next) parts some is = omega (arith, some, is, parts-onward letter text from to ends parts)
+next-onward letter text from to ends (Err e) parts some is = tt
+
+-- they are no more than there are pieces
+pub parts-few : (cell : ℕ → Cell) (text : List ℕ) (from to : ℕ) (ends : List PartEnd) → IsUtf8 (drop from text) → AreParts (letter_by cell) text from to ends
+    → length ends ≤ length (pieces_on cell text from)
+parts-few cell text from to [] utf8 parts = omega arith
+parts-few cell text from to (end ∷ ends) utf8 parts =
+    let first = parts.0.first in
+    let behind = parts-few cell text end.at to ends (first-bound text from end.at parts.0.is_word utf8 first).utf8 parts.1 in
+    omega (arith, ap length (pieces-step cell text from end.at parts.0.is_word utf8 first))
+
+-- they end within the text
+pub parts-within : (letter : ℕ → Bool) (text : List ℕ) (from to most : ℕ) (ends : List PartEnd) → length text < most → AreParts letter text from to ends
+    → All (λ end. end.at < most) ends
+parts-within letter text from to most [] few parts = All-nil (λ (end : PartEnd). end.at < most)
+parts-within letter text from to most (end ∷ ends) few parts =
+    All-cons (λ (end : PartEnd). end.at < most) end ends (let within = parts.0.first.within in omega (arith, within, few)) (parts-within letter text end.at to most ends few parts.1)
+
+-- so the pieces that have these ends are cut, or there was no room for them
+pub cuts-parts : {E : Type 0} (cell : ℕ → Cell) (text : List ℕ) (from to : ℕ) (ends : List PartEnd) (old new : Front Piece) (r : Result ℕ E) → IsUtf8 (drop from text)
+    → from ≤ length text → AreParts (letter_by cell) text from to ends
+    → OnOk r (items_of new ≡ items_of old ++ pieces_by from ends) → IfOk r (λ next. next ≡ next_start from ends) → Grows old new
+    → OnErr r (vec_capacity old.items < old.count + length ends) → CutsOn cell text from old new r
+cuts-parts cell text from to ends old new (Ok next) utf8 within parts put is grows full = record {
+  cut = subst (IsCutOn cell text from (items_of old) (items_of new)) (sym is) (parts-cut cell text from to ends (items_of old) (items_of new) utf8 within parts put);
+  grows = grows;
+  full = tt;
+}
+cuts-parts cell text from to ends old new (Err e) utf8 within parts put is grows full = record {
+  cut = tt;
+  grows = grows;
+  full = omega (arith, full, parts-few cell text from to ends utf8 parts);
+}
 
 -- where a piece of well-formed text ends, a scalar begins
 pub piece-ends : (text : List ℕ) (start end : ℕ) (word : Bool) → IsUtf8 (drop start text) → IsFirstPiece text start end word → IsCharBoundary text end
@@ -100,7 +158,7 @@ pub record IsNext (text : List ℕ) (base start left end next : ℕ) : Type 0 wh
 pub next-told : (text : List ℕ) (base start left end next : ℕ) → AreNext text base start left → left < 2 ^ 64 → 0 < left → end < 64 → IsLowest left end
     → AreCleared left end next → IsNext text base start left end next
 next-told text base start left end next are fits some few lowest cleared =
-    let found : IsEnd text base are.at are.stop end next = next-end text base are.at are.stop left end next are.ends are.within some few lowest cleared in
+    let found : IsTold text base are.at are.stop end next = next-end text base are.at are.stop left end next are.ends are.within some few lowest cleared in
     record {
       piece = (found.part.0, subst (λ from. IsFirstPiece text from (base + end) found.part.0) (sym are.place) found.part.1);
       rest = record { at = end; stop = are.stop; place = refl; within = are.within; ends = found.rest };

@@ -5,6 +5,7 @@ ghost use Rattle.lbk_passage.specs.Flags.{AreLetters, AreQuiet};
 
 use crate::flags::ByteFlags;
 use lbk_rules::CellSource;
+use lbk_words::Letters;
 
 /// The cells of a source, with what is found out about them once, so that loops have it at hand.
 #[derive(Drop)]
@@ -24,5 +25,17 @@ impl<'a, C: CellSource> KnownCells<'a, C> {
             cells,
             flags: ByteFlags::of(cells),
         }
+    }
+}
+
+impl<'a, C: CellSource> Letters for KnownCells<'a, C> {
+    ghost letter_of = { λ known code. (C.cell_of known.cells.now code).letter };
+
+    /// Whether the cell of a scalar says that it is a letter or a number.
+    #[inline(always)]
+    fn is_letter(&self, code: u32) -> bool {
+        // (what any bytes are read as is a scalar)
+        let c = unsafe { char::from_u32_unchecked(code) };
+        self.cells.cell(c).letter
     }
 }

@@ -1,11 +1,11 @@
 //! The pieces of a passage.
 
-ghost use Rattle.std.specs.Prelude.{◌≡◌, ℕ, ◌+◌, ◌*◌, ◌<◌, ◌≤◌, ◌^◌, Bool, drop, length, max, take, vec_capacity};
-ghost use Rattle.std.specs.Prelude.{[], ◌∷◌, IfOk, IsUtf8, OnErr, OnOk};
-ghost use Rattle.std.specs.Str.{chars};
-ghost use Rattle.lbk_passage.specs.Pieces.{CutsOn, IsCutOn, is_word, pieces_of};
+ghost use Rattle.std.specs.Prelude.{◌≡◌, ℕ, ◌+◌, ◌*◌, ◌<◌, ◌≤◌, ◌^◌, ◌++◌, All, Bool, drop, length, max, take};
+ghost use Rattle.std.specs.Prelude.{IfOk, IsUtf8, OnErr, OnOk, vec_capacity};
+ghost use Rattle.lbk_passage.specs.Pieces.{CutsOn, IsCutOn, is_word, next_start, pieces_by, pieces_of};
 ghost use Rattle.lbk_passage.specs.Front.{items_of};
-ghost use Rattle.lbk_words.specs.Ends.{AreParts, AreTold};
+ghost use Rattle.lbk_passage.specs.Room.{Grows};
+ghost use Rattle.lbk_words.specs.Ends.{AreTold};
 ghost use Rattle.lbk_words.specs.Places.{IsFirstPiece};
 
 use crate::front::Front;
@@ -13,7 +13,7 @@ use crate::known::KnownCells;
 use crate::passage::Piece;
 use lbk_masks::{first_set, without_first};
 use lbk_rules::CellSource;
-use lbk_words::{ends_from, fill_ends};
+use lbk_words::{PartEnd, ends_from, fill_ends};
 use std::alloc::AllocError;
 
 /// How many ends of pieces are found at a time.
@@ -26,18 +26,18 @@ const NO_PIECE: Piece = Piece {
     word: false,
 };
 
-/// The first byte value with which scalars of three bytes begin.
-const THREES: u8 = 0xE0;
-
-/// The first byte value with which scalars of four bytes begin.
-const FOURS: u8 = 0xF0;
+/// An end that stands where none was found yet.
+pub(crate) const NO_END: PartEnd = PartEnd {
+    at: 0,
+    has_letter: false,
+};
 
 /// Writes the pieces of a text in place of what the list held (UAX #29, section 4). What the block held does not
 /// matter, and what it holds then is unspecified. Where memory could not grow the list holds some of them.
 pub fn cut_words<C: CellSource>(
     known: &KnownCells<'_, C>,
     text: &str,
-    block: &mut [usize; ENDS],
+    block: &mut [PartEnd; ENDS],
     pieces: &mut Front<Piece>,
 ) -> Result<(), AllocError>
     requires few { length text.now < 2 ^ 32 }
@@ -62,7 +62,7 @@ fn cut_next<C: CellSource>(
     known: &KnownCells<'_, C>,
     text: &str,
     start: usize,
-    block: &mut [usize; ENDS],
+    block: &mut [PartEnd; ENDS],
     pieces: &mut Front<Piece>,
 ) -> Result<usize, AllocError>
     requires few { length text.now < 2 ^ 32 }
@@ -89,8 +89,8 @@ fn cut_next<C: CellSource>(
     }
     let ends = ends_from(bytes, start);
     if ends == 0 {
-        let count = fill_ends(bytes, start, block);
-        return cut_block(known, text, start, &block[..count], pieces);
+        let count = fill_ends(known, bytes, start, block);
+        return cut_block(start, &block[..count], pieces);
     }
     cut_told(known, text, start, ends, pieces)
 }
@@ -129,30 +129,26 @@ fn cut_told<C: CellSource>(
     Ok(start)
 }
 
-/// Puts the pieces that end at these bytes after those in the list, the first from `start` on, and returns where the
-/// next begins.
+/// Puts the pieces that have these ends after those in the list, the first from `start` on, and returns where the next
+/// begins.
 #[inline(always)]
-fn cut_block<C: CellSource>(
-    known: &KnownCells<'_, C>,
-    text: &str,
-    start: usize,
-    ends: &[usize],
-    pieces: &mut Front<Piece>,
-) -> Result<usize, AllocError>
-    requires few { length text.now < 2 ^ 32 }
-    requires within { start ≤ length text.now }
-    requires utf8 { IsUtf8 (drop start text.now) }
-    requires parts { (to : ℕ) × AreParts text.now start to ends.now }
-    ensures cuts { CutsOn (C.cell_of known.now.cells.now) text.now start pieces.old pieces.new result }
-    ensures onward { IfOk result (λ next. start + length ends.now ≤ next) }
+fn cut_block(start: usize, ends: &[PartEnd], pieces: &mut Front<Piece>) -> Result<usize, AllocError>
+    requires few { (start < 2 ^ 32) × All (λ end. end.at < 2 ^ 32) ends.now }
+    ensures put { OnOk result (items_of pieces.new ≡ items_of pieces.old ++ pieces_by start ends.now) }
+    ensures next { IfOk result (λ next. next ≡ next_start start ends.now) }
+    ensures grows { Grows pieces.old pieces.new }
+    ensures full { OnErr result (vec_capacity pieces.old.items < pieces.old.count + length ends.now) }
 {
     pieces.make_room(ends.len(), NO_PIECE)?;
     let mut count = pieces.count;
     let slots = pieces.items.as_mut_slice();
     let mut start = start;
     for end in ends {
-        put_piece(known, text, start, *end, slots, count);
-        start = *end;
+        let piece = &mut slots[count];
+        piece.start = start as u32;
+        piece.end = end.at as u32;
+        piece.word = end.has_letter;
+        start = end.at;
         count += 1;
     }
     pieces.count = count;
@@ -195,21 +191,5 @@ fn is_word<C: CellSource>(known: &KnownCells<'_, C>, piece: &str) -> bool
     if bytes.len() <= told as usize {
         return 1 < told;
     }
-    // Most pieces of Japanese and Chinese are one scalar of three bytes.
-    if bytes.len() == 3 && THREES <= bytes[0] && bytes[0] < FOURS {
-        return is_letter(known, piece);
-    }
     piece.chars().any(|c| known.cells.cell(c).letter)
-}
-
-/// Whether a piece of one scalar is a letter or a number.
-#[inline(always)]
-fn is_letter<C: CellSource>(known: &KnownCells<'_, C>, piece: &str) -> bool
-    requires one { (code : ℕ) × (chars piece.now ≡ code ∷ []) }
-    ensures { result ≡ is_word (C.cell_of known.now.cells.now) piece.now }
-{
-    match piece.chars().next() {
-        Some(c) => known.cells.cell(c).letter,
-        None => false,
-    }
 }

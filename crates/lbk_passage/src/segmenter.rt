@@ -14,11 +14,12 @@ use crate::front::Front;
 use crate::known::KnownCells;
 use crate::paragraph::Paragraph;
 use crate::passage::{Passage, PassageText, Piece, Segment};
-use crate::pieces::{ENDS, cut_words};
+use crate::pieces::{ENDS, NO_END, cut_words};
 use crate::segments::{BLOCK, NO_BREAKS, cut_lines};
 use lbk_bytes::RawBreak;
 use lbk_feed::{LIMIT_MAX, Source};
 use lbk_rules::{CellSource, Profile, Verdict};
+use lbk_words::PartEnd;
 use std::alloc::{AllocError, Global};
 
 /// Cuts a text of any length into passages, and holds one at a time.
@@ -45,7 +46,7 @@ pub struct Segmenter<'a, C: CellSource> {
     /// Where those of a passage are found into that none was found ahead of.
     block: [RawBreak; BLOCK],
     /// Where the ends of pieces are found into.
-    ends: [usize; ENDS],
+    ends: [PartEnd; ENDS],
     segments: Front<Segment>,
     pieces: Front<Piece>,
     ghost told: { KeepsTold profile (C.cell_of known.cells.now) paragraph ahead },
@@ -89,7 +90,7 @@ impl<'a, C: CellSource> Segmenter<'a, C> {
             ahead: NOTHING,
             gave_segments: false,
             block: NO_BREAKS,
-            ends: [0; ENDS],
+            ends: [NO_END; ENDS],
             segments: Front::new(alloc),
             pieces: Front::new(alloc),
         })

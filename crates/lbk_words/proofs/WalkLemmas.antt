@@ -1,5 +1,6 @@
 -- What is read at a byte, and the first part from there on, scalar by scalar.
 use Rattle.std.proofs.Common.{◌≡◌, ℕ, ◌+◌, ◌-◌, ◌<◌, ◌≤◌, Bool, true, false, ◌||◌, List, [], ◌∷◌, ◌++◌, append_assoc, drop, length, reverse, take, refl, sym, ap, ap₂, subst, ◌∙◌, arith}
+use Rattle.std.specs.List.{list_any}
 use Rattle.std.proofs.lemmas.List.{length-drop, map-append, reverse-append, take_all}
 use Rattle.std.proofs.Math.ListN.{drop_of_length-le}
 use Rattle.std.proofs.Math.Seq.{drop-drop}
@@ -61,12 +62,12 @@ pub bytes-append : (ps qs : List Decoded) → bytes_of (ps ++ qs) ≡ bytes_of p
 bytes-append [] qs = omega arith
 bytes-append (p ∷ ps) qs = let more = bytes-append ps qs in omega arith
 
-letters-append : (cs : List ℕ) (c : ℕ) → has_letter (cs ++ c ∷ []) ≡ (has_letter cs || is_letter_or_number c)
-letters-append [] c = or-false (is_letter_or_number c)
-letters-append (x ∷ cs) c =
-    ap (λ b. is_letter_or_number x || b) (letters-append cs c) ∙ sym (assoc (is_letter_or_number x))
+-- whether one of some scalars is a letter, with one more
+pub any-append : (letter : ℕ → Bool) (cs : List ℕ) (c : ℕ) → list_any letter (cs ++ c ∷ []) ≡ (list_any letter cs || letter c)
+any-append letter [] c = or-false (letter c)
+any-append letter (x ∷ cs) c = ap (λ b. letter x || b) (any-append letter cs c) ∙ sym (assoc (letter x))
   where
-    assoc : (b : Bool) → ((b || has_letter cs) || is_letter_or_number c) ≡ (b || (has_letter cs || is_letter_or_number c))
+    assoc : (b : Bool) → ((b || list_any letter cs) || letter c) ≡ (b || (list_any letter cs || letter c))
     assoc true = refl
     assoc false = refl
 
@@ -132,7 +133,7 @@ walk-step text start at c end context is_word w read joined =
           ∙ ap₂ (λ b l. attach (is_word_break b rest) l (cut is_word_break b rest [])) (sym turned) (sym grown);
       word =
           ap₂ (λ a b. a || b) w.word (ap is_letter_or_number read.is)
-          ∙ sym (letters-append (scalars_of ps) x) ∙ ap has_letter (sym grown);
+          ∙ sym (any-append is_letter_or_number (scalars_of ps) x) ∙ ap has_letter (sym grown);
     }
 
 walk-cut : (text : List ℕ) (start at : ℕ) (context : Context) (is_word : Bool) → (w : IsWalk text start at context is_word)

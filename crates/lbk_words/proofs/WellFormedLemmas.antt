@@ -101,6 +101,58 @@ encoded-words cs all =
 pub words-utf8 : (text : List ℕ) → IsUtf8 text → words_of text ≡ words_in 0 (word_bounds text)
 words-utf8 text utf8 = subst (λ t. words_of t ≡ words_in 0 (word_bounds t)) utf8.1.1 (encoded-words utf8.0 utf8.1.0)
 
+-- some scalars are read at the front of well-formed text
+module _ (text : List ℕ) (start end : ℕ) (part : List Decoded) (utf8 : IsUtf8 (drop start text)) (reads : pieces (drop start text) ≡ part ++ pieces (drop end text))
+    (place : end ≡ start + bytes_of part) where
+  abbrev cs : List ℕ
+  cs = utf8.0
+
+  abbrev own : List ℕ
+  own = scalars_of part
+
+  abbrev behind : List ℕ
+  behind = scalars_on text end
+
+  -- the scalars that are read are those of the text
+  whole : pieces (drop start text) ≡ map good_of cs
+  whole = ap pieces (sym utf8.1.1) ∙ pieces-encode cs utf8.1.0
+
+  read : scalars_on text start ≡ cs
+  read = ap scalars_of whole ∙ scalars-good cs
+
+  split : own ++ behind ≡ cs
+  split = sym (map-append (λ (p : Decoded). or_replacement p.char) part (pieces (drop end text))) ∙ ap scalars_of (sym reads) ∙ read
+
+  both : (scalars own ≡ true) × (scalars behind ≡ true)
+  both = scalars-split own behind (ap scalars split ∙ utf8.1.0)
+
+  same : map good_of own ≡ part
+  same =
+      let count : length part ≡ length own = sym (length-map part (λ (p : Decoded). or_replacement p.char)) in
+      sym (take_at (map good_of own) (map good_of behind) (length part) (length-map own good_of ∙ sym count))
+      ∙ ap (take (length part)) (sym (map-append good_of own behind) ∙ ap (map good_of) split ∙ sym whole ∙ reads)
+      ∙ take_at part (pieces (drop end text)) (length part) refl
+
+  size : end - start ≡ length (encode_utf8_all own)
+  size = (let taken = sym (bytes-good own) ∙ ap bytes_of same in omega (arith, place))
+
+  bytes : drop start text ≡ encode_utf8_all own ++ encode_utf8_all behind
+  bytes = sym utf8.1.1 ∙ ap encode_utf8_all (sym split) ∙ encodes-append own behind
+
+  front : take (end - start) (drop start text) ≡ encode_utf8_all own
+  front = ap (take (end - start)) bytes ∙ take_at (encode_utf8_all own) (encode_utf8_all behind) (end - start) (sym size)
+
+  rest : encode_utf8_all behind ≡ drop end text
+  rest =
+      sym (drop-append_seam (encode_utf8_all own) (encode_utf8_all behind))
+      ∙ ap₂ (λ n l. drop n l) (sym size) (sym bytes)
+      ∙ drop-drop (end - start) start text
+      ∙ ap (λ n. drop n text) (let e : start + (end - start) ≡ end = omega (arith, place) in e)
+
+  -- they are those of the bytes that they take
+  pub read-chars : chars (take (end - start) (drop start text)) ≡ scalars_of part
+  read-chars = ap chars front ∙ chars-encodes own both.0
+
 -- of well-formed text the first part is the first piece, and what is behind it is well-formed too
 pub record IsFirstBound (text : List ℕ) (start end : ℕ) : Type 0 where
   pub utf8 : IsUtf8 (drop end text)
@@ -108,56 +160,17 @@ pub record IsFirstBound (text : List ℕ) (start end : ℕ) : Type 0 where
 
 pub first-bound : (text : List ℕ) (start end : ℕ) (is_word : Bool) → IsUtf8 (drop start text) → IsFirstPiece text start end is_word → IsFirstBound text start end
 unfolding segments
-first-bound text start end is_word utf8 first = record {
-  utf8 = (behind, (both.1, rest));
-  bounds =
-      ap word_bounds (sym utf8.1.1)
-      ∙ ap (λ l. map encode_utf8_all (parts_of l)) (chars-encodes cs utf8.1.0 ∙ sym read)
-      ∙ ap (map encode_utf8_all) first.first
-      ∙ ap₂ (λ x xs. x ∷ xs) (sym front) (ap (λ l. map encode_utf8_all (parts_of l)) (sym (chars-encodes behind both.1)) ∙ ap word_bounds rest);
-}
-  where
-    cs : List ℕ
-    cs = utf8.0
-
-    own : List ℕ
-    own = scalars_of first.part
-
-    behind : List ℕ
-    behind = scalars_on text end
-
-    -- the scalars that are read are those of the text
-    whole : pieces (drop start text) ≡ map good_of cs
-    whole = ap pieces (sym utf8.1.1) ∙ pieces-encode cs utf8.1.0
-
-    read : scalars_on text start ≡ cs
-    read = ap scalars_of whole ∙ scalars-good cs
-
-    split : own ++ behind ≡ cs
-    split = sym (map-append (λ (p : Decoded). or_replacement p.char) first.part (pieces (drop end text))) ∙ ap scalars_of (sym first.reads) ∙ read
-
-    both : (scalars own ≡ true) × (scalars behind ≡ true)
-    both = scalars-split own behind (ap scalars split ∙ utf8.1.0)
-
-    part : map good_of own ≡ first.part
-    part =
-        let count : length first.part ≡ length own = sym (length-map first.part (λ (p : Decoded). or_replacement p.char)) in
-        sym (take_at (map good_of own) (map good_of behind) (length first.part) (length-map own good_of ∙ sym count))
-        ∙ ap (take (length first.part)) (sym (map-append good_of own behind) ∙ ap (map good_of) split ∙ sym whole ∙ first.reads)
-        ∙ take_at first.part (pieces (drop end text)) (length first.part) refl
-
-    size : end - start ≡ length (encode_utf8_all own)
-    size = (let taken = sym (bytes-good own) ∙ ap bytes_of part in omega (arith, first.place))
-
-    bytes : drop start text ≡ encode_utf8_all own ++ encode_utf8_all behind
-    bytes = sym utf8.1.1 ∙ ap encode_utf8_all (sym split) ∙ encodes-append own behind
-
-    front : take (end - start) (drop start text) ≡ encode_utf8_all own
-    front = ap (take (end - start)) bytes ∙ take_at (encode_utf8_all own) (encode_utf8_all behind) (end - start) (sym size)
-
-    rest : encode_utf8_all behind ≡ drop end text
-    rest =
-        sym (drop-append_seam (encode_utf8_all own) (encode_utf8_all behind))
-        ∙ ap₂ (λ n l. drop n l) (sym size) (sym bytes)
-        ∙ drop-drop (end - start) start text
-        ∙ ap (λ n. drop n text) (let grows = first.grows in let e : start + (end - start) ≡ end = omega arith in e)
+first-bound text start end is_word utf8 first =
+    let cs = utf8.0 in
+    let behind = scalars_on text end in
+    let among = (both text start end first.part utf8 first.reads first.place).1 in
+    let rest = rest text start end first.part utf8 first.reads first.place in
+    record {
+      utf8 = (behind, (among, rest));
+      bounds =
+          ap word_bounds (sym utf8.1.1)
+          ∙ ap (λ l. map encode_utf8_all (parts_of l)) (chars-encodes cs utf8.1.0 ∙ sym (read text start end first.part utf8 first.reads first.place))
+          ∙ ap (map encode_utf8_all) first.first
+          ∙ ap₂ (λ x xs. x ∷ xs) (sym (front text start end first.part utf8 first.reads first.place))
+          (ap (λ l. map encode_utf8_all (parts_of l)) (sym (chars-encodes behind among)) ∙ ap word_bounds rest);
+    }

@@ -1,11 +1,16 @@
 -- Where the parts of a text end, as bits of 64 bytes tell it.
 use Rattle.std.specs.Prelude.{◌≡◌, ◌⊎◌, ℕ, ◌+◌, ◌-◌, ◌<◌, ◌≤◌, Bool, true, false, not, ◌&&◌, ◌||◌, ◌==◌, nat_lt, List}
 use Rattle.std.specs.Prelude.{[], ◌∷◌}
-use Rattle.std.specs.Prelude.{drop, get_or, length, take}
+use Rattle.std.specs.Prelude.{◌++◌, drop, get_or, length, take}
+use Rattle.std.specs.List.{list_any}
+use Rattle.bstr.specs.Utf8.{Decoded, pieces}
 use Rattle.lbk_masks.specs.Sets.{is_set}
 use Rattle.lbk_words.specs.Blocks.{ArePlain, begins_at, runs_at}
 use Rattle.lbk_words.specs.Filling.{IsInRow}
 use Rattle.lbk_words.specs.Places.{IsFirstPiece}
+use Rattle.lbk_words.specs.Words.{bytes_of, scalars_of}
+use Rattle.lbk_words.specs.declared.ends.Reading.{Reading}
+use Rattle.lbk_words.specs.declared.letters.PartEnd.{PartEnd}
 
 -- CR LF, and two spaces (rules WB3 and WB3d)
 abbrev pub is_pair : ℕ → ℕ → Bool
@@ -30,13 +35,31 @@ pub record AreTold (text : List ℕ) (base bits : ℕ) : Type 0 where
   pub within : base + stop ≤ length text
   pub ends : AreEnds (drop base text) 0 stop bits
 
--- the parts of a text from the boundary `from` up to the boundary `to` end at these bytes, in order
-abbrev pub AreParts : List ℕ → ℕ → ℕ → List ℕ → Type 0
-AreParts text from to [] = from ≡ to
-AreParts text from to (end ∷ ends) = ((is_word : Bool) × IsFirstPiece text from end is_word) × AreParts text end to ends
+-- a text is read from the byte `from` up to the byte `to`, and `noted` is whether one of these scalars is a letter
+pub record IsNoted (letter : ℕ → Bool) (text : List ℕ) (from to : ℕ) (noted : Bool) : Type 0 where
+  pub read : List Decoded
+  pub reads : pieces (drop from text) ≡ read ++ pieces (drop to text)
+  pub place : to ≡ from + bytes_of read
+  pub told : noted ≡ list_any letter (scalars_of read)
 
--- the parts that ended are in the front of a block, and the scalars behind them, up to the byte `at`, are of one part
-pub record IsReading (text : List ℕ) (from at row count : ℕ) (out : List ℕ) : Type 0 where
+-- the first part from the boundary `from` on ends there, and that is whether it holds a letter
+pub record IsEnd (letter : ℕ → Bool) (text : List ℕ) (from : ℕ) (end : PartEnd) : Type 0 where
+  pub is_word : Bool
+  pub first : IsFirstPiece text from end.at is_word
+  pub noted : IsNoted letter text from end.at end.has_letter
+
+-- the parts of a text from the boundary `from` up to the boundary `to` have these ends, in order
+abbrev pub AreParts : (ℕ → Bool) → List ℕ → ℕ → ℕ → List PartEnd → Type 0
+AreParts letter text from to [] = from ≡ to
+AreParts letter text from to (end ∷ ends) = IsEnd letter text from end × AreParts letter text end.at to ends
+
+-- the end of the part so far, if it ends there
+abbrev pub end_of : Reading → PartEnd
+end_of here = record { at = here.at; has_letter = here.has_letter }
+
+-- the ends of the parts that ended are in the front of a block, and the scalars behind them are of one part so far
+pub record IsReading (letter : ℕ → Bool) (text : List ℕ) (from : ℕ) (here : Reading) (out : List PartEnd) : Type 0 where
   pub begin : ℕ
-  pub parts : AreParts text from begin (take count out)
-  pub part : IsInRow text begin at row
+  pub parts : AreParts letter text from begin (take here.count out)
+  pub part : IsInRow text begin here.at here.row
+  pub noted : IsNoted letter text begin here.at here.has_letter

@@ -56,9 +56,8 @@ pub record IsInRow (text : List ℕ) (begin at row : ℕ) : Type 0 where
 
 -- what the scalar at a byte makes of a part of this row
 pub record IsNextStep (text : List ℕ) (row at : ℕ) (next : NextStep) : Type 0 where
-  pub code : ℕ
-  pub read : IsReadAt text at code next.end
-  pub step : IsStep row code (value_at (significant (scalars_on text next.end)) 0) next.step
+  pub read : IsReadAt text at next.code next.end
+  pub step : IsStep row next.code (value_at (significant (scalars_on text next.end)) 0) next.step
 
 -- a block is filled up to a part, of which these scalars have been read
 pub record IsFilling (text : List ℕ) (start : ℕ) (part : Filling) (out : List Word) : Type 0 where

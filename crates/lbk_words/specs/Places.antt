@@ -4,6 +4,10 @@ use Rattle.bstr.specs.Utf8.{Decoded, decoded, or_replacement, pieces}
 use Rattle.lbk_words.specs.Letters.{has_letter}
 use Rattle.lbk_words.specs.Words.{bytes_of, parts_of, scalars_of, scalars_on}
 
+-- some bytes begin with this scalar, as they are read
+abbrev pub IsReadAs : ℕ → Type 0
+IsReadAs c = (bytes : List ℕ) × (c ≡ or_replacement (decoded bytes).char)
+
 -- the scalar `c` is read at the byte `at`, and the next one at `end`
 pub record IsReadAt (text : List ℕ) (at c end : ℕ) : Type 0 where
   pub grows : at < end

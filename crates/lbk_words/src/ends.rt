@@ -1,12 +1,14 @@
 //! Where the parts of a text end: its cutting at word boundaries (UAX #29, section 4).
 
-ghost use Rattle.std.specs.Prelude.{◌≡◌, ℕ, ◌-◌, ◌<◌, ◌≤◌, get_or, length, take};
+ghost use Rattle.std.specs.Prelude.{◌≡◌, ℕ, ◌+◌, ◌-◌, ◌<◌, ◌≤◌, ◌++◌, ◌∷◌, [], List, true, get_or, length, take};
 ghost use Rattle.lbk_masks.specs.Sets.{is_set};
-ghost use Rattle.lbk_words.specs.Ends.{AreEnds, AreParts, AreTold, IsReading, is_pair};
+ghost use Rattle.lbk_words.specs.Ends.{AreEnds, AreParts, AreTold, IsReading, end_of, is_pair};
+ghost use Rattle.lbk_words.specs.Filling.{IsNextStep};
 
 use crate::blocks::{BLOCK, marks_of, wides_of};
+use crate::letters::{Letters, PartEnd};
 use crate::scalars::{WIDE, scalar_at};
-use crate::steps::{first_row, next_step, step_of_three};
+use crate::steps::{NextStep, first_row, next_step, step_of_three};
 use lbk_masks::{equal, first_set, kept_below, kept_from};
 
 /// Fewer bytes than this are left to steps.
@@ -20,61 +22,63 @@ const TOPS: u64 = 0x8080_8080_8080_8080;
 
 /// How far the parts of a text were read.
 #[derive(Clone, Copy)]
-struct Reading {
+pub(crate) struct Reading {
     /// How many ends were found.
     count: usize,
     /// The byte after the scalars of the part so far.
     at: usize,
     /// The row of the part so far.
     row: usize,
+    /// Whether it holds a letter.
+    has_letter: bool,
 }
 
 /// Puts where the next parts of a text end, from a boundary on, into the front of a block, scalar by scalar: until the
-/// block is full, the text ends, or bits are likely to tell the next end. Returns how many.
+/// block is full, the text ends, or bits are likely to tell the next end. Returns how many. Letters are asked for here,
+/// where each scalar is read, so that no branch depends on them.
 #[inline(never)]
-pub fn fill_ends(text: &[u8], start: usize, out: &mut [usize]) -> usize
+pub fn fill_ends<L: Letters>(letters: &L, text: &[u8], start: usize, out: &mut [PartEnd]) -> usize
     ensures some { start < length text.now → 0 < length out.old → 0 < result }
     ensures within { result ≤ length out.old }
-    ensures parts { (to : ℕ) × AreParts text.now start to (take result out.new) }
+    ensures parts { (to : ℕ) × AreParts (L.letter_of letters.now) text.now start to (take result out.new) }
 {
     if text.len() <= start || out.len() == 0 {
         return 0;
     }
     let first = scalar_at(text, start);
-    let mut at = first.end;
-    let mut row = first_row(first);
-    let mut count = 0;
-    'scalars: while at < text.len() {
-        let next = next_step(row, text, at);
-        // Written whether the part ends there or not, so that no branch depends on it.
-        out[count] = at;
-        count += usize::from(next.step.cuts);
-        if next.step.cuts && may_tell(&text[at..]) {
-            return count;
+    let mut here = Reading {
+        count: 0,
+        at: first.end,
+        row: first_row(first),
+        has_letter: letters.is_letter(first.code),
+    };
+    'scalars: while here.at < text.len() {
+        let next = next_step(here.row, text, here.at);
+        let read = taken(letters, here, next, out);
+        if next.step.cuts && may_tell(&text[here.at..]) {
+            return read.count;
         }
-        let read = Reading {
-            count,
-            at: next.end,
-            row: next.step.next,
-        };
-        let there = read_threes(text, text[at], read, out);
-        count = there.count;
-        if count == out.len() {
-            return count;
+        here = read_threes(letters, text, text[here.at], read, out);
+        if here.count == out.len() {
+            return here.count;
         }
-        at = there.at;
-        row = there.row;
     }
-    out[count] = at;
-    count + 1
+    put_end(here, out);
+    here.count + 1
 }
 
 /// Goes on by scalars of three bytes where the scalar before begins with such a byte, since they come in runs.
 #[inline(always)]
-fn read_threes(text: &[u8], before: u8, from: Reading, out: &mut [usize]) -> Reading
+fn read_threes<L: Letters>(
+    letters: &L,
+    text: &[u8],
+    before: u8,
+    from: Reading,
+    out: &mut [PartEnd],
+) -> Reading
     requires { (from.row < 43) × (from.at ≤ length text.now) × (from.count ≤ length out.old) }
-    ensures reads { (start : ℕ) → IsReading text.now start from.at from.row from.count out.old
-        → IsReading text.now start result.at result.row result.count out.new }
+    ensures reads { (start : ℕ) → IsReading (L.letter_of letters.now) text.now start from out.old
+        → IsReading (L.letter_of letters.now) text.now start result out.new }
     ensures onward { (from.at ≤ result.at) × (from.count ≤ result.count) }
     ensures within { (result.at ≤ length text.now) × (result.count ≤ length out.old) }
     ensures row { result.row < 43 }
@@ -87,14 +91,44 @@ fn read_threes(text: &[u8], before: u8, from: Reading, out: &mut [usize]) -> Rea
         let Some(next) = step_of_three(here.row, text, here.at) else {
             break;
         };
-        out[here.count] = here.at;
-        here = Reading {
-            count: here.count + usize::from(next.step.cuts),
-            at: next.end,
-            row: next.step.next,
-        };
+        here = taken(letters, here, next, out);
     }
     here
+}
+
+/// Takes one more scalar. It writes the end of the part so far whether the part ends there or not, so that no branch
+/// depends on it.
+#[inline(always)]
+fn taken<L: Letters>(letters: &L, here: Reading, next: NextStep, out: &mut [PartEnd]) -> Reading
+    requires room { here.count < length out.old }
+    requires reads { (text : List ℕ) × IsNextStep text here.row here.at next }
+    ensures reads { (text : List ℕ) (start : ℕ) → IsNextStep text here.row here.at next
+        → IsReading (L.letter_of letters.now) text start here out.old
+        → IsReading (L.letter_of letters.now) text start result out.new }
+    ensures place { (result.at ≡ next.end) × (result.row ≡ next.step.next) }
+    ensures count { (here.count ≤ result.count) × (result.count ≤ here.count + 1) }
+    ensures cut { next.step.cuts ≡ true → here.count < result.count }
+{
+    put_end(here, out);
+    Reading {
+        count: here.count + usize::from(next.step.cuts),
+        at: next.end,
+        row: next.step.next,
+        has_letter: letters.is_letter(next.code) | (here.has_letter & !next.step.cuts),
+    }
+}
+
+/// Writes where the part so far ends. Its fields are written one by one: a whole end would be copied with the bytes
+/// behind its fields.
+#[inline(always)]
+fn put_end(here: Reading, out: &mut [PartEnd])
+    requires { here.count < length out.old }
+    ensures kept { take here.count out.new ≡ take here.count out.old }
+    ensures put { take (here.count + 1) out.new ≡ take here.count out.old ++ end_of here ∷ [] }
+{
+    let end = &mut out[here.count];
+    end.at = here.at;
+    end.has_letter = here.has_letter;
 }
 
 /// Where the next parts of a text end, from a boundary on, as far as bits tell it: a bit for each byte from there on, the

@@ -28,10 +28,13 @@ pub(crate) struct Step {
     pub(crate) asks: bool,
 }
 
-/// A step, and the byte after the scalar that makes it.
+/// A step, and the scalar that makes it.
 #[derive(Clone, Copy)]
 pub(crate) struct NextStep {
+    /// The number of the scalar.
+    pub(crate) code: u32,
     pub(crate) step: Step,
+    /// The byte after the scalar.
     pub(crate) end: usize,
 }
 
@@ -60,6 +63,7 @@ pub(crate) fn next_step(row: usize, text: &[u8], at: usize) -> NextStep
 {
     let next = scalar_at(text, at);
     NextStep {
+        code: next.code,
         step: step_of(row, next, text),
         end: next.end,
     }
@@ -78,6 +82,7 @@ pub(crate) fn step_of_three(row: usize, text: &[u8], at: usize) -> Option<NextSt
         return None;
     }
     Some(NextStep {
+        code: next.code,
         step,
         end: next.end,
     })

@@ -1,13 +1,12 @@
-use Rattle.std.proofs.Common.{◌≡◌, ◌+◌, ◌≤◌, ℕ, drop, take}
-use Rattle.lbk_words.specs.Ends.{AreParts}
-use Rattle.lbk_passage.specs.Pieces.{IsCutOn}
+use Rattle.std.proofs.Common.{◌≡◌, ◌+◌, ◌<◌, ◌^◌, ◌++◌, drop, take}
 use Rattle.lbk_passage.specs.Front.{items_of}
+use Rattle.lbk_passage.specs.Pieces.{next_start, pieces_by}
 use Rattle.lbk_passage.proofs.pieces.cut_block.Given as goal
 
 abbrev pub invariant-loop-end : goal.invariant-loop-end
-invariant-loop-end g l = record {
-  cut : IsCutOn (g.C.CellSource.cell_of l.known.cells.now) l.text l.fn.start (items_of l.fn.pieces) (take l.count l.slots) l.start;
+invariant-loop-end l = record {
+  put : take l.count l.slots ++ pieces_by l.start (drop l.end-index l.ends) ≡ items_of l.fn.pieces ++ pieces_by l.fn.start l.ends;
+  next : next_start l.start (drop l.end-index l.ends) ≡ next_start l.fn.start l.ends;
   count : l.count ≡ l.fn.pieces.count + l.end-index;
-  onward : l.fn.start + l.end-index ≤ l.start;
-  parts : (to : ℕ) × AreParts l.text l.start to (drop l.end-index l.ends);
+  few : l.start < 2 ^ 32;
 }

@@ -1,5 +1,5 @@
-use Rattle.std.proofs.Common.{◌≡◌, ℕ, ◌<◌, ◌≤◌, nat_lt, List, length, slice_index, slice_index_or, ap, ◌∙◌, arith}
-use Rattle.lbk_passage.proofs.Letters.{letter-told, one-of-three}
+use Rattle.std.proofs.Common.{◌≡◌, ◌<◌, ◌≤◌, nat_lt, length, slice_index_or, ap, ◌∙◌, arith}
+use Rattle.lbk_passage.proofs.Letters.{letter-told}
 use Rattle.lbk_passage.proofs.pieces.is_word.Goals as goal
 
 pub returns-then-bytes-told : goal.returns-then-bytes-told
@@ -13,11 +13,3 @@ returns-then-bytes-told g c =
     c.length_told-told.ensures ∙ ap (λ bytes. slice_index_or lengths (slice_index_or bytes 0 0) 0) same in
     let short : length piece ≤ slice_index_or lengths (slice_index_or piece 0 0) 0 = omega (arith, ap length same, told, c.if-bytes-told.true) in
     ap (nat_lt 1) told ∙ letter-told cell lengths piece c.utf8.piece c.args.known.now.letters some short
-
-pub is_letter-requires : goal.is_letter-requires
-is_letter-requires g c =
-    let same = c.as_bytes-bytes.ensures.value in
-    let first = ap (λ (bytes : List ℕ). slice_index bytes 0) same in
-    record {
-      one = one-of-three c.args.piece.now (omega (arith, ap length same, c.if-bytes-eq3.true)) (omega (arith, first, c.if-bytes-ge-THREES.true)) (omega (arith, first, c.if-bytes-lt-FOURS.true));
-    }

@@ -14,7 +14,7 @@ quick-init c =
     let taken = c.taken-part in
     record {
       onward = omega (arith, taken.ensures.at, next.read.grows);
-      fills = taken.ensures.fills c.args.text.now c.args.here c.args.out.now next.code c.scalars.invariant next.read next.step;
+      fills = taken.ensures.fills c.args.text.now c.args.here c.args.out.now c.next_step-next.result.code c.scalars.invariant next.read next.step;
     }
 
 pub quick-preserved-then-byte-lt128 : goal.quick-preserved-then-byte-lt128

@@ -6,7 +6,6 @@ pub returns : goal.returns
 returns c =
     let next = c.in_ok-next.next in
     record {
-      code = next.code;
       read = c.in_ok-next.ensures;
       step = c.step_unasked-step.ensures c.if-step.false (value_at (significant (scalars_on c.args.text.now next.end)) 0);
     }
