@@ -56,7 +56,9 @@ class Crate:
         self.rt.rtlib.guarded()
         self.crate = next(it for it in self.rt.rtlib.crates_below(str(room)) if it.name == name)
         self.folder = Path(self.crate.folder)
-        self.seed = self.rt.seeded(self.crate, JOBS, f"{self.folder}/out/incremental")
+        # A kit whose `rt` keeps no such results tries each mutant alone.
+        seeded = getattr(self.rt, "seeded", None)
+        self.seed = seeded and seeded(self.crate, JOBS, f"{self.folder}/out/incremental")
 
     def source(self, path):
         file = self.folder / path
@@ -122,7 +124,8 @@ class Crate:
         return {it[3] for it in functions_of(texts.get(path, "")) if it[0] <= line <= it[2]}
 
     def close(self):
-        shutil.rmtree(self.seed, ignore_errors=True)
+        if self.seed:
+            shutil.rmtree(self.seed, ignore_errors=True)
 
 
 def refused_together(room, name, edits, size):
