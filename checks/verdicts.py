@@ -167,6 +167,7 @@ def try_kept_by_gate(tally, here, room):
         return
     if keeps_nothing(out):
         tally.leave_out("the program after a bare rt ci, since rt ci keeps nothing here")
+        try_left_libraries(tally, here, out)
         return
     tally.equal("rt ci leaves a program without a verdict", (here.program.exists(), verdict.exists()), (True, False))
     tally.equal("after rt ci ./lbk runs the program", here.run("./lbk"), (0, "told", ""))
@@ -184,6 +185,26 @@ def try_kept_by_gate(tally, here, room):
         (here.top / name).write_text(text, encoding="utf-8")
     tally.equal("the program of unchanged sources is taken", here.told("lbk"), (0, ""))
     try_kits(tally, here, copied_kit(room / "copied", entry), verdict)
+
+
+def try_left_libraries(tally, here, out):
+    """The libraries that `rt ci` left, where it keeps no results; it ran beside those of `scripts/prove`."""
+    log, label = here.top / "log", here.top / "crates/low/out/rlib/stamp"
+    _, sources, _ = here.run("scripts/verdict-of", "--sources", "lbk")
+
+    def keep(out):
+        log.write_text(f"{out}\n", encoding="utf-8")
+        return here.run("scripts/verdict-of", "--from-gate", log, sources, "lbk")[0]
+
+    label.write_text("another", encoding="utf-8")
+    tally.equal("a library of another check stays what it is", (keep(out), label.read_text(encoding="utf-8")), (0, "another"))
+    for it in ("low", "lbk", "shown"):
+        shutil.rmtree(here.top / f"crates/{it}/out")
+    _, out, _ = here.run("rt", "ci")
+    tally.equal("a library that rt ci left alone has its verdict", (keep(out), here.told("low")), (0, (0, "")))
+    status, said = here.prove("shown")
+    is_kept = status == 0 and "of 2 crates 1 are proved already" in said and "proving low" not in said
+    tally.tell("an archive is proved over it", None if is_kept else f"status {status}: {said}")
 
 
 def keeps_nothing(out):

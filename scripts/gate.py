@@ -1,5 +1,5 @@
-"""What `rt ci` proved of a program, by the results that it keeps next to the kit: for each crate the digests of its
-files.
+"""What `rt ci` proved: of a program by the results that it keeps next to the kit, for each crate the digests of its
+files; of libraries, where the kit keeps nothing, by the files that it left.
 
 The kit's own `rt`, imported as a module, computes the name of a crate's entry from the kit, HANDLES, the crate's line
 and sources, and its dependencies as built. So an entry is found only if `rt ci` itself would accept it. Anything else,
@@ -14,6 +14,7 @@ import json
 import os
 import shutil
 import stat
+from pathlib import Path
 from types import SimpleNamespace
 
 
@@ -25,6 +26,25 @@ def proved(top, name):
     # (any code of another kit may run here, and stop in any way)
     except (Exception, SystemExit):
         return None
+
+
+def label_libraries(top, names):
+    """Labels the libraries that `rt ci` left as built of the present sources, so that other commands of `rt` take them.
+    Returns whether it did.
+
+    Kits before 13f leave them without a label, as a library fits only those that it was built over. So none is labelled
+    unless `rt ci` left all of them, as in a fresh clone."""
+    try:
+        rt = read_rt()
+        libraries = [it for it in rt.rtlib.crates_below(os.path.realpath(top)) if it.name in names]
+        labels = [Path(it.folder, "out/rlib/stamp") for it in libraries]
+        if hasattr(rt, "STORE") or not all(os.path.isdir(it.rlib) for it in libraries) or any(it.exists() for it in labels):
+            return False
+        for it, label in zip(libraries, labels):
+            label.write_text(it.stamp(), encoding="utf-8")
+        return True
+    except (Exception, SystemExit):
+        return False
 
 
 def read_rt():
