@@ -140,7 +140,7 @@ def try_changes(tally, here):
 def try_gate(tally, here):
     """The verdict of `rt ci` on the program, by what it printed."""
     log, verdict = here.top / "log", here.top / "crates/lbk/out/verdict"
-    _, before, _ = here.run("scripts/verdict-of", "--sources", "lbk")
+    _, before, _ = here.run("scripts/verdict-of", "--before-gate", "lbk")
     proofs = {IN_GATE: "proof logic=proved functions=3", KEPT: f"proof {KEPT.splitlines()[0]}"}
     for text, wanted in proofs.items():
         verdict.unlink(missing_ok=True)
@@ -190,18 +190,21 @@ def try_kept_by_gate(tally, here, room):
 def try_left_libraries(tally, here, out):
     """The libraries that `rt ci` left, where it keeps no results; it ran beside those of `scripts/prove`."""
     log, label = here.top / "log", here.top / "crates/low/out/rlib/stamp"
-    _, sources, _ = here.run("scripts/verdict-of", "--sources", "lbk")
 
-    def keep(out):
+    def before():
+        return here.run("scripts/verdict-of", "--before-gate", "lbk")[1]
+
+    def keep(said_before, out):
         log.write_text(f"{out}\n", encoding="utf-8")
-        return here.run("scripts/verdict-of", "--from-gate", log, sources, "lbk")[0]
+        return here.run("scripts/verdict-of", "--from-gate", log, said_before, "lbk")[0]
 
-    label.write_text("another", encoding="utf-8")
-    tally.equal("a library of another check stays what it is", (keep(out), label.read_text(encoding="utf-8")), (0, "another"))
+    label.unlink()
+    tally.equal("a library of an earlier check, which rt ci puts back, gets no label", (keep(before(), out), label.exists()), (0, False))
     for it in ("low", "lbk", "shown"):
         shutil.rmtree(here.top / f"crates/{it}/out")
+    said_before = before()
     _, out, _ = here.run("rt", "ci")
-    tally.equal("a library that rt ci left alone has its verdict", (keep(out), here.told("low")), (0, (0, "")))
+    tally.equal("a library that rt ci left alone has its verdict", (keep(said_before, out), here.told("low")), (0, (0, "")))
     status, said = here.prove("shown")
     is_kept = status == 0 and "of 2 crates 1 are proved already" in said and "proving low" not in said
     tally.tell("an archive is proved over it", None if is_kept else f"status {status}: {said}")

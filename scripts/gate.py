@@ -28,17 +28,19 @@ def proved(top, name):
         return None
 
 
-def label_libraries(top, names):
+def label_libraries(top, names, began):
     """Labels the libraries that `rt ci` left as built of the present sources, so that other commands of `rt` take them.
     Returns whether it did.
 
-    Kits before 13f leave them without a label, as a library fits only those that it was built over. So none is labelled
-    unless `rt ci` left all of them, as in a fresh clone."""
+    Kits before 13f leave them without a label, as a library fits only those that it was built over. So all must have
+    been made since `rt ci` began, at this time in nanoseconds: those of earlier checks, which may be of other sources,
+    it puts back when it ends."""
     try:
         rt = read_rt()
         libraries = [it for it in rt.rtlib.crates_below(os.path.realpath(top)) if it.name in names]
         labels = [Path(it.folder, "out/rlib/stamp") for it in libraries]
-        if hasattr(rt, "STORE") or not all(os.path.isdir(it.rlib) for it in libraries) or any(it.exists() for it in labels):
+        is_old = any(os.stat(it.rlib).st_mtime_ns < began for it in libraries)
+        if hasattr(rt, "STORE") or is_old or any(it.exists() for it in labels):
             return False
         for it, label in zip(libraries, labels):
             label.write_text(it.stamp(), encoding="utf-8")
