@@ -11,3 +11,4 @@ pub mod Rows
 pub mod Filling
 pub mod Blocks
 pub mod Ends
+pub mod Widths

@@ -8,7 +8,7 @@ ghost use Rattle.lbk_words.specs.Filling.{FillsOn, IsFilled};
 use crate::letter_table::{FIRSTS, SECONDS};
 use crate::parts::fill_by_scalars;
 use crate::word::{Filled, Word};
-use lbk_masks::{HalfSets, first_set, kept_below, kept_from, wide, without_first};
+use lbk_masks::{HalfSets, equal, first_set, kept_below, kept_from, wide, without_first};
 
 /// How many bytes are examined together.
 pub(crate) const BLOCK: usize = 64;
@@ -27,6 +27,12 @@ const TURNS: u32 = 3;
 
 /// How many bytes then go by steps before a block is tried again.
 const PAUSE: usize = 512;
+
+/// The first byte of emoji and of most other scalars of four bytes.
+const EMOJI: u8 = 0xF0;
+
+/// Where more of 64 bytes than this are such, scalars of three bytes and of four are read alike.
+const FEW: u32 = 3;
 
 /// The sets of bytes that are asked for.
 const HALVES: HalfSets = HalfSets {
@@ -191,7 +197,7 @@ pub(crate) fn fill_by_marks(text: &[u8], start: Filled, out: &mut [Word]) -> Fil
     let pause = text.len().min(base.saturating_add(PAUSE));
     let wides = wides_of(&text[base..]);
     if MANY < wides.stops.count_ones() {
-        return fill_by_scalars(text, start, pause, out);
+        return fill_by_steps(text, start, pause, out);
     }
     let marks = marks_of::<BLOCK>(&text[base..], wides);
     let mut here = start;
@@ -206,13 +212,27 @@ pub(crate) fn fill_by_marks(text: &[u8], start: Filled, out: &mut [Word]) -> Fil
             return there;
         }
         if turns == 0 {
-            return fill_by_scalars(text, there, pause, out);
+            return fill_by_scalars::<false>(text, there, pause, out);
         }
         turns -= 1;
         let next = (base + behind_stops(marks.stops, found.stop)).max(there.at + 1);
-        here = fill_by_scalars(text, there, next, out);
+        here = fill_by_scalars::<false>(text, there, next, out);
     }
     here
+}
+
+/// Goes on filling scalar by scalar, in the way that is fast for scalars as in the next 64 bytes.
+#[inline(always)]
+fn fill_by_steps(text: &[u8], here: Filled, stop: usize, out: &mut [Word]) -> Filled
+    requires room { (here.count < length out.old) × (here.at + 64 ≤ length text.now) }
+    requires stop { (here.at < stop) × (stop ≤ length text.now) }
+    ensures fills { FillsOn text.now here out.old result out.new }
+    ensures far { result.count < length out.old → stop ≤ result.at }
+{
+    if FEW < equal(EMOJI, &text[here.at..]).count_ones() {
+        return fill_by_scalars::<true>(text, here, stop, out);
+    }
+    fill_by_scalars::<false>(text, here, stop, out)
 }
 
 /// The first byte after one that is not left to steps, or the first after the block.

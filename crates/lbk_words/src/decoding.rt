@@ -1,7 +1,8 @@
-//! The scalars of two and three bytes, read without a call.
+//! The scalars of two to four bytes, read without a call.
 
 ghost use Rattle.std.specs.Prelude.{◌≡◌, ◌<◌, ◌≤◌, ◌⊎◌, true, length, IfSome};
 ghost use Rattle.bstr.specs.Utf8.{code_of_2, code_of_3, continues, decoded, good};
+ghost use Rattle.lbk_words.specs.Widths.{IsWidth};
 
 /// A scalar value and how many bytes it takes.
 #[derive(Clone, Copy)]
@@ -61,6 +62,66 @@ pub(crate) fn scalar_of_three(bytes: &[u8]) -> Option<Coded>
         code: code_of_three(first, next, last),
         size: 3,
     })
+}
+
+/// How the bytes of a scalar count in its code, by how many they are.
+#[derive(Clone, Copy)]
+pub(crate) struct Width {
+    /// How much the third one counts.
+    pub(crate) third: u32,
+    /// How much the fourth counts, from 80 on: 1, or nothing where there is none.
+    pub(crate) fourth: u32,
+    /// What they come to, as they count, in the code 0.
+    pub(crate) marks: u32,
+    /// How many they are.
+    pub(crate) size: u32,
+}
+
+/// Scalars of three bytes, and of four.
+#[rattlefmt::skip]
+static WIDTHS: [Width; 2] = [
+    Width { third: 1, fourth: 0, marks: 0xE_2080, size: 3 },
+    Width { third: 64, fourth: 1, marks: 0x3C8_2000, size: 4 },
+];
+
+/// The scalar of three bytes or four at the front of some, where any continuation bytes may follow its first two. No
+/// jump depends on which it is: where both stand side by side, a processor seldom expects the right one.
+#[inline(always)]
+pub(crate) fn scalar_of_wide(bytes: &[u8]) -> Option<Coded>
+    requires { 4 ≤ length bytes.now }
+    ensures { IfSome result (λ scalar. decoded bytes.now ≡ good scalar.code scalar.size) }
+{
+    let (first, next, third) = (bytes[0], bytes[1], bytes[2]);
+    if first < 0xE1 || 0xF3 < first || first == 0xED {
+        return None;
+    }
+    let width = width_of(first);
+    let fourth = u32::from(bytes[3].wrapping_sub(0x80)) * width.fourth;
+    if !is_continuation(next) || !is_continuation(third) || 0x3F < fourth {
+        return None;
+    }
+    let two = u32::from(first) * 64 + u32::from(next);
+    if OVERLONG <= two && two < LEAST_FOUR {
+        return None;
+    }
+    Some(Coded {
+        code: (two * 64 + u32::from(third)) * width.third + fourth - width.marks,
+        size: width.size as usize,
+    })
+}
+
+/// The first two bytes F0 80, joined: from here on four bytes spell scalars that take fewer.
+const OVERLONG: u32 = 0x3C80;
+
+/// The bytes F0 90, joined: from here on they spell those that take four.
+const LEAST_FOUR: u32 = 0x3C90;
+
+/// How the bytes of a scalar with this first one count, which takes three or four.
+#[inline(always)]
+fn width_of(first: u8) -> &'static Width
+    ensures { 0xE0 ≤ first → IsWidth first result.now }
+{
+    &WIDTHS[usize::from(first / 16 % 2)]
 }
 
 /// Whether a byte is the first of a scalar of three bytes, and neither 0xE0 nor 0xED, which not every continuation byte

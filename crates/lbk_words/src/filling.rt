@@ -45,7 +45,7 @@ fn fill_further<const MASKS: bool>(text: &[u8], here: Filled, out: &mut [Word]) 
     ensures further { result.count < length out.old → here.at < result.at }
 {
     if !MASKS || text.len() - here.at < BLOCK {
-        return fill_by_scalars(text, here, text.len(), out);
+        return fill_by_scalars::<false>(text, here, text.len(), out);
     }
     fill_by_marks(text, here, out)
 }

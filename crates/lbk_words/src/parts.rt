@@ -1,6 +1,6 @@
 //! Words found scalar by scalar.
 
-ghost use Rattle.std.specs.Prelude.{◌≡◌, ◌<◌, ◌≤◌, ◌+◌, ℕ, List, length, if◌then◌else◌};
+ghost use Rattle.std.specs.Prelude.{◌≡◌, ◌<◌, ◌≤◌, ◌+◌, ℕ, List, true, length, IfSome, if◌then◌else◌};
 ghost use Rattle.unicode_segmentation.specs.Word.{significant, value_at};
 ghost use Rattle.lbk_words.specs.Filling.{FillsOn, FillsUpTo, IsFilled, IsFilling};
 ghost use Rattle.lbk_words.specs.Places.{IsReadAt};
@@ -8,7 +8,7 @@ ghost use Rattle.lbk_words.specs.Rows.{IsStep};
 ghost use Rattle.lbk_words.specs.Words.{scalars_on};
 
 use crate::decoding::begins_three;
-use crate::scalars::{scalar_at, three_at};
+use crate::scalars::{Scalar, scalar_at, three_at, wide_at};
 use crate::steps::{Step, first_row, is_word, next_step, step_of, step_of_byte, step_unasked};
 use crate::word::{Filled, Word};
 
@@ -23,18 +23,27 @@ pub(crate) struct Filling {
     pub(crate) row: usize,
 }
 
-/// Goes on filling a block from a boundary, up to the first boundary from `stop` on, or as far as there is room.
-pub(crate) fn fill_by_scalars(text: &[u8], here: Filled, stop: usize, out: &mut [Word]) -> Filled
+/// Goes on filling a block from a boundary, up to the first boundary from `stop` on, or as far as there is room. With
+/// `FOURS` it is fast where scalars of three bytes and of four are mixed, and without where few take four. Neither form
+/// is put in line, so that the code of a block stays as it is.
+#[inline(never)]
+pub(crate) fn fill_by_scalars<const FOURS: bool>(
+    text: &[u8],
+    here: Filled,
+    stop: usize,
+    out: &mut [Word],
+) -> Filled
     requires { (here.count < length out.old) × (here.at < stop) × (stop ≤ length text.now) }
     ensures fills { FillsOn text.now here out.old result out.new }
     ensures far { result.count < length out.old → stop ≤ result.at }
 {
     let mut part = begun(text, here);
+    let near = near_of::<FOURS>(text, stop);
     'scalars: while part.filled.count < out.len() && part.filled.at < stop && part.at < text.len() {
         let next = next_step(part.row, text, part.at);
         part = taken(part, next.step, next.end, out);
         let from = part.at;
-        'quick: while part.filled.count < out.len() && part.at < stop {
+        'quick: while part.filled.count < out.len() && part.at < near {
             let byte = text[part.at];
             if byte < 0x80 {
                 let step = step_of_byte(part.row, byte);
@@ -44,10 +53,7 @@ pub(crate) fn fill_by_scalars(text: &[u8], here: Filled, stop: usize, out: &mut 
                 part = taken(part, step, part.at + 1, out);
                 continue;
             }
-            if !begins_three(byte) || text.len() - part.at < 3 {
-                break;
-            }
-            let Some(next) = three_at(text, part.at) else {
+            let Some(next) = quick_at::<FOURS>(text, part.at) else {
                 break;
             };
             let step = step_unasked(part.row, next.code);
@@ -62,6 +68,37 @@ pub(crate) fn fill_by_scalars(text: &[u8], here: Filled, stop: usize, out: &mut 
         return ended(part, out);
     }
     part.filled
+}
+
+/// Up to where scalars are read quickly: `stop`, and with `FOURS`, which reads four bytes for each, no byte of the last
+/// three.
+#[inline(always)]
+fn near_of<const FOURS: bool>(text: &[u8], stop: usize) -> usize
+    requires { stop ≤ length text.now }
+    ensures within { result ≤ stop }
+    ensures enough { FOURS ≡ true → (at : ℕ) → at < result → at + 4 ≤ length text.now }
+{
+    if FOURS {
+        stop.min(text.len().saturating_sub(3))
+    } else {
+        stop
+    }
+}
+
+/// The scalar at a byte, where it takes three bytes, or with `FOURS` three or four.
+#[inline(always)]
+fn quick_at<const FOURS: bool>(text: &[u8], at: usize) -> Option<Scalar>
+    requires here { at < length text.now }
+    requires enough { FOURS ≡ true → at + 4 ≤ length text.now }
+    ensures { IfSome result (λ scalar. IsReadAt text.now at scalar.code scalar.end) }
+{
+    if FOURS {
+        return wide_at(text, at);
+    }
+    if !begins_three(text[at]) || text.len() - at < 3 {
+        return None;
+    }
+    three_at(text, at)
 }
 
 /// The part of the scalar at a boundary.

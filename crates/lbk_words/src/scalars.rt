@@ -1,13 +1,13 @@
 //! The scalars of a text, read from its bytes.
 
-ghost use Rattle.std.specs.Prelude.{◌≡◌, ◌+◌, ◌<◌, ◌≤◌, length, IfSome};
-ghost use Rattle.bstr.specs.Utf8.{decoded, or_replacement};
+ghost use Rattle.std.specs.Prelude.{◌≡◌, ◌+◌, ◌<◌, ◌≤◌, length, slice_range, IfSome};
+ghost use Rattle.bstr.specs.Utf8.{decoded, good, or_replacement};
 ghost use Rattle.unicode_segmentation.specs.Word.{significant, value_at};
 ghost use Rattle.lbk_words.specs.Places.{IsReadAt};
 ghost use Rattle.lbk_words.specs.Rows.{answer_number};
 ghost use Rattle.lbk_words.specs.Words.{scalars_on};
 
-use crate::decoding::{Coded, scalar_of_few, scalar_of_three};
+use crate::decoding::{Coded, scalar_of_few, scalar_of_three, scalar_of_wide};
 use crate::kinds::kind_of;
 use crate::step_table::ANSWERS;
 use bstr::decode_lossy;
@@ -46,10 +46,7 @@ pub(crate) fn scalar_at(text: &[u8], at: usize) -> Scalar
             end: at + scalar.size,
         };
     };
-    Scalar {
-        code: scalar.code,
-        end: at + scalar.size,
-    }
+    placed(text, at, scalar)
 }
 
 /// The scalar at a byte of a text, where its first byte alone tells that it may take three.
@@ -59,10 +56,30 @@ pub(crate) fn three_at(text: &[u8], at: usize) -> Option<Scalar>
     ensures { IfSome result (λ scalar. IsReadAt text.now at scalar.code scalar.end) }
 {
     let scalar = scalar_of_three(&text[at..])?;
-    Some(Scalar {
+    Some(placed(text, at, scalar))
+}
+
+/// The scalar at a byte of a text, where it takes three or four, with no jump on which.
+#[inline(always)]
+pub(crate) fn wide_at(text: &[u8], at: usize) -> Option<Scalar>
+    requires { at + 4 ≤ length text.now }
+    ensures { IfSome result (λ scalar. IsReadAt text.now at scalar.code scalar.end) }
+{
+    let scalar = scalar_of_wide(&text[at..])?;
+    Some(placed(text, at, scalar))
+}
+
+/// The scalar that stands at a byte of a text.
+#[inline(always)]
+fn placed(text: &[u8], at: usize, scalar: Coded) -> Scalar
+    requires inside { at < length text.now }
+    requires stands { decoded (slice_range text.now at (length text.now)) ≡ good scalar.code scalar.size }
+    ensures { IsReadAt text.now at result.code result.end }
+{
+    Scalar {
         code: scalar.code,
         end: at + scalar.size,
-    })
+    }
 }
 
 /// The scalar at the front of some bytes, by a call, which serves scalars of four bytes and ill-formed text.

@@ -46,7 +46,7 @@ returns-then-turns-eq0-clause-fills c =
     let runs = c.fill_runs-there.ensures in
     fills-then
     (fills-runs c.loop-here.invariant (edges c.args.text.now c.args.start.at c.marks_of-marks.ensures c.edges_from-found.ensures.edges) c.requires.1 runs.filled runs.onward runs.count runs.within (omega (arith, c.loop-here.auto.out)))
-    (omega (arith, c.fill_runs-there.auto.out, c.loop-here.auto.out)) c.fill_by_scalars-then-turns-eq0.ensures.fills
+    (omega (arith, c.fill_runs-there.auto.out, c.loop-here.auto.out)) c.fill_by_scalars.ensures.fills
 
 pub loop-here-preserved : goal.loop-here-preserved
 loop-here-preserved c =

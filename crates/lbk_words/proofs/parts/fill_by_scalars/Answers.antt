@@ -1,15 +1,11 @@
-use Rattle.std.proofs.Common.{◌+◌, ◌≤◌, length, slice_index, arith}
+use Rattle.std.proofs.Common.{◌+◌, slice_index, arith}
 use Rattle.unicode_segmentation.specs.Word.{significant, value_at}
 use Rattle.lbk_words.specs.Words.{scalars_on}
 use Rattle.lbk_words.proofs.ReadLemmas.{one-read}
 use Rattle.lbk_words.proofs.parts.fill_by_scalars.Goals as goal
-use Rattle.lbk_words.proofs.parts.fill_by_scalars.Goals.{then-scalars-test+then-part-stop+else-part-text, then-scalars-test+else-part-stop, else-scalars-test}
-
-pub scalars-init : goal.scalars-init
-scalars-init c = c.begun-part.ensures c.args.out.now c.requires.0
 
 pub quick-init : goal.quick-init
-quick-init c =
+quick-init g c =
     let next = c.next_step-next.ensures in
     let taken = c.taken-part in
     record {
@@ -18,7 +14,7 @@ quick-init c =
     }
 
 pub quick-preserved-then-byte-lt128 : goal.quick-preserved-then-byte-lt128
-quick-preserved-then-byte-lt128 c =
+quick-preserved-then-byte-lt128 g c =
     let text = c.args.text.now in
     let l = c.quick in
     let taken = c.taken-part-then-byte-lt128 in
@@ -29,8 +25,11 @@ quick-preserved-then-byte-lt128 c =
           (c.step_of_byte-step.ensures c.if-step.false (value_at (significant (scalars_on text (l.part.at + 1))) 0));
     }
 
+pub quick_at-requires-clause-enough : goal.quick_at-requires-clause-enough
+quick_at-requires-clause-enough g c = λ fours. c.near_of-near.ensures.enough fours c.quick.part.at c.if-part-near.true
+
 pub quick-preserved : goal.quick-preserved
-quick-preserved c =
+quick-preserved g c =
     let text = c.args.text.now in
     let l = c.quick in
     let read = c.in-Some.ensures in
@@ -43,32 +42,5 @@ quick-preserved c =
     }
 
 pub scalars-preserved-then-step-2 : goal.scalars-preserved-then-step-2
-scalars-preserved-then-step-2 c =
+scalars-preserved-then-step-2 g c =
     c.taken-part-then-step-2.ensures.fills c.args.text.now c.args.here c.args.out.now c.in-Some.next.code c.quick.invariant.fills c.in-Some.ensures c.step_of.ensures
-
--- the text ends
-past : (c : goal.After-out-then-part-stop-3-1) → length c.args.text.now ≤ c.scalars.part.at
-past c = elim c.scalars-test.branch [
-  | then-scalars-test+then-part-stop+else-part-text w ↦ w.if-part-text.false
-  | then-scalars-test+else-part-stop w ↦ absurd (let before = c.if-part-stop-3.true in let not_before = w.if-part-stop.false in omega arith)
-  | else-scalars-test w ↦ absurd (let few = c.if-part-out.true in let full = w.scalars-test.false in omega arith)
-]
-
-pub returns-then-part-stop-3-clause-fills : goal.returns-then-part-stop-3-clause-fills
-returns-then-part-stop-3-clause-fills c =
-    let fills = c.scalars.invariant in
-    let ended = c.ended in
-    record {
-      onward = (omega (arith, fills.onward, fills.some, ended.ensures.at), omega (arith, fills.onward, ended.ensures.count));
-      within = (omega (arith, fills.within, ended.ensures.at), omega (arith, ended.ensures.count));
-      filled = λ start filled. ended.ensures.filled c.args.text.now start (fills.filling start filled) (past c);
-    }
-
-pub returns-clause-fills : goal.returns-clause-fills
-returns-clause-fills c =
-    let fills = c.scalars.invariant in
-    record {
-      onward = fills.onward;
-      within = (omega (arith, fills.within, fills.some), omega (arith, fills.within));
-      filled = λ start filled. (fills.filling start filled).filled;
-    }

@@ -1,6 +1,6 @@
 use Rattle.std.proofs.Common.{◌+◌, sym, subst, arith}
 use Rattle.lbk_words.specs.Places.{IsReadAt}
-use Rattle.lbk_words.proofs.ReadLemmas.{any-read, coded-read, one-read}
+use Rattle.lbk_words.proofs.ReadLemmas.{any-read, one-read}
 use Rattle.lbk_words.proofs.scalars.scalar_at.Goals as goal
 
 pub returns-then-byte-lt128 : goal.returns-then-byte-lt128
@@ -17,14 +17,3 @@ pub returns-in_default : goal.returns-in_default
 returns-in_default c =
     let any = c.any_scalar-scalar in
     any-read c.args.text.now c.args.at any.result.code any.result.size c.requires any.ensures.code any.ensures.size
-
-pub overflow_add-result-2 : goal.overflow_add-result-2
-overflow_add-result-2 c =
-    let few = c.in-Some in
-    let read = coded-read c.args.text.now c.args.at few.scalar.code few.scalar.size c.requires few.ensures in
-    omega (arith, read.within)
-
-pub returns : goal.returns
-returns c =
-    let few = c.in-Some in
-    coded-read c.args.text.now c.args.at few.scalar.code few.scalar.size c.requires few.ensures
