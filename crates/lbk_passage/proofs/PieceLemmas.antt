@@ -1,13 +1,14 @@
 -- The pieces from a byte on.
-use Rattle.std.proofs.Common.{◌≡◌, ℕ, zero, suc, ◌+◌, ◌*◌, ◌-◌, ◌^◌, Result, Ok, Err, max, vec_capacity, ◌<◌, ◌≤◌, ⊎_elim, bit_and, count_ones, w64, Bool, List, [], ◌∷◌, ◌++◌, append-nil, append_assoc, All, IfOk, OnErr, OnOk, drop, length, map, take, refl, sym, ap, subst, ◌∙◌, arith}
-use Rattle.std.specs.Str.{IsCharBoundary, IsUtf8, encode_utf8_all}
+use Rattle.std.proofs.Common.{◌≡◌, ℕ, zero, suc, ◌+◌, ◌*◌, ◌-◌, ◌^◌, Result, Ok, Err, max, vec_capacity, ◌<◌, ◌≤◌, ⊎_elim, bit_and, count_ones, w64, Bool, true, false, if◌then◌else◌, List, [], ◌∷◌, ◌++◌, append-nil, append_assoc, drop, length, map, take, refl, sym, ap, subst, ◌∙◌, arith}
+use Rattle.std.specs.Str.{IsCharBoundary, IsUtf8, chars, encode_utf8_all}
+use Rattle.std.proofs.Math.Utf8.{scalars}
 use Rattle.std.specs.Int.{trailing_zeros}
 use Rattle.std.proofs.lemmas.Bool.{cases_lt}
 use Rattle.std.proofs.lemmas.Nat.{and_le_r, ones_le_self}
 use Rattle.std.proofs.Math.ListN.{drop_of_length-le}
 use Rattle.std.proofs.lemmas.List.{length-drop, length-take-le}
-use Rattle.std.proofs.lemmas.Str.{IsCharBoundary-from_drop, chars-nil}
-use Rattle.unicode_segmentation.specs.Segments.{cut, segments}
+use Rattle.std.proofs.lemmas.Str.{IsCharBoundary-from_drop, chars-encodes, chars-nil}
+use Rattle.unicode_segmentation.specs.Segments.{cut, prepend, segments}
 use Rattle.unicode_segmentation.specs.Word.{is_word_break, word_bounds}
 use Rattle.lbk_rules.specs.declared.Cell.{Cell}
 use Rattle.lbk_words.specs.Places.{IsFirstPiece}
@@ -15,16 +16,14 @@ use Rattle.lbk_words.proofs.WellFormedLemmas.{first-bound, read-chars}
 use Rattle.lbk_masks.specs.Bits.{AreCleared, IsLowest}
 use Rattle.lbk_masks.proofs.KeptLemmas.{are-cleared, lowest}
 use Rattle.lbk_passage.proofs.CountLemmas.{one-fewer}
-use Rattle.lbk_passage.proofs.RoomLemmas.{Grows-made, Grows-none}
-use Rattle.lbk_words.specs.Ends.{AreEnds, AreParts, AreTold, IsEnd}
-use Rattle.lbk_words.specs.declared.letters.PartEnd.{PartEnd}
+use Rattle.lbk_passage.proofs.RoomLemmas.{Grows-made, Grows-more, Grows-none}
+use Rattle.lbk_words.specs.Ends.{AreEnds, AreParts, AreTold, FillsParts, IsEnd, PartEnd, parts_by}
+use Rattle.lbk_words.specs.declared.word.Filled.{Filled}
 use Rattle.std.specs.List.{list_any}
-use Rattle.std.proofs.lemmas.List.Elements.{All-cons, All-nil}
-use Rattle.lbk_passage.specs.Room.{Grows}
 use Rattle.lbk_words.proofs.EndLemmas.{IsEnd as IsTold, next-end}
 use Rattle.lbk_passage.specs.declared.front.Front.{Front}
 use Rattle.lbk_passage.specs.declared.passage.Piece.{Piece}
-use Rattle.lbk_passage.specs.Pieces.{CutsOn, IsCutOn, is_word, next_start, pieces_by, pieces_from, pieces_on}
+use Rattle.lbk_passage.specs.Pieces.{CutsOn, IsCutOn, is_word, letter_by, piece_of, pieces_from, pieces_on}
 use Rattle.lbk_passage.specs.Front.{items_of}
 
 -- the first of them, and those behind it
@@ -66,10 +65,6 @@ module _ (cell : ℕ → Cell) (text : List ℕ) where
       → IsCutOn cell text from old new to
   cut-on from mid to old some new before after = record { cut = after.cut ∙ before.cut; utf8 = after.utf8; within = after.within }
 
--- the letters that a source of cells knows
-abbrev pub letter_by : (ℕ → Cell) → ℕ → Bool
-letter_by cell code = (cell code).letter
-
 -- a part that ends there is a word if it holds a letter
 end-told : (cell : ℕ → Cell) (text : List ℕ) (from : ℕ) (end : PartEnd) → IsUtf8 (drop from text) → IsEnd (letter_by cell) text from end
     → end.has_letter ≡ is_word cell (take (end.at - from) (drop from text))
@@ -78,61 +73,43 @@ end-told cell text from end utf8 is =
 
 -- the pieces that have the ends of parts are those of the text
 pub parts-cut : (cell : ℕ → Cell) (text : List ℕ) (from to : ℕ) (ends : List PartEnd) (old new : List Piece) → IsUtf8 (drop from text) → from ≤ length text
-    → AreParts (letter_by cell) text from to ends → new ≡ old ++ pieces_by from ends → IsCutOn cell text from old new (next_start from ends)
+    → AreParts (letter_by cell) text from to ends → new ≡ old ++ parts_by piece_of from ends → IsCutOn cell text from old new to
 parts-cut cell text from to [] old new utf8 within parts is =
-    record { cut = ap (λ l. l ++ pieces_on cell text from) (is ∙ append-nil old); utf8 = utf8; within = within }
+    subst (IsCutOn cell text from old new) parts
+    (record { cut = ap (λ l. l ++ pieces_on cell text from) (is ∙ append-nil old); utf8 = utf8; within = within })
 parts-cut cell text from to (end ∷ ends) old new utf8 within parts is =
     let first = parts.0.first in
-    let piece : Piece = record { start = from; end = end.at; word = end.has_letter } in
+    let piece = piece_of from end.at end.has_letter in
     let some = old ++ piece ∷ [] in
-    cut-on cell text from end.at (next_start end.at ends) old some new
+    cut-on cell text from end.at to old some new
     (cut-one cell text from end.at parts.0.is_word end.has_letter old some utf8 first (end-told cell text from end utf8 parts.0) refl)
     (parts-cut cell text end.at to ends some new (first-bound text from end.at parts.0.is_word utf8 first).utf8 first.within parts.1
-    (is ∙ sym (append_assoc old (piece ∷ []) (pieces_by end.at ends))))
+    (is ∙ sym (append_assoc old (piece ∷ []) (parts_by piece_of end.at ends))))
 
--- each has a byte at least
-parts-onward : (letter : ℕ → Bool) (text : List ℕ) (from to : ℕ) (ends : List PartEnd) → AreParts letter text from to ends
-    → from + length ends ≤ next_start from ends
-parts-onward letter text from to [] parts = omega arith
-parts-onward letter text from to (end ∷ ends) parts =
-    let grows = parts.0.first.grows in let on = parts-onward letter text end.at to ends parts.1 in omega (arith, grows, on)
+-- a text that is not empty has a piece
+cut-some : (before : List ℕ) (c : ℕ) (cs : List ℕ) → 1 ≤ length (cut is_word_break before (c ∷ cs) [])
+unfolding cut
+cut-some before c cs = by_case (is_word_break (c ∷ before) (cs ++ [])) (cut is_word_break (c ∷ before) cs [])
+  where
+    by_case : (b : Bool) (rest : List (List ℕ)) → 1 ≤ length (if b then (c ∷ []) ∷ rest else prepend (c ∷ []) rest)
+    by_case true rest = omega arith
+    by_case false [] = omega arith
+    by_case false (p ∷ ps) = omega arith
 
-pub next-onward : {E : Type 0} (letter : ℕ → Bool) (text : List ℕ) (from to : ℕ) (ends : List PartEnd) (r : Result ℕ E) → AreParts letter text from to ends
-    → 0 < length ends → IfOk r (λ next. next ≡ next_start from ends) → IfOk r (λ next. from < next)
-next-onward letter text from to ends (Ok next) parts some is = omega (arith, some, is, parts-onward letter text from to ends parts)
-next-onward letter text from to ends (Err e) parts some is = tt
+some-from : (cell : ℕ → Cell) (start : ℕ) (parts : List (List ℕ)) → 1 ≤ length parts → 1 ≤ length (pieces_from cell start (map encode_utf8_all parts))
+some-from cell start [] some = absurd (omega (arith, some))
+some-from cell start (p ∷ ps) some = omega arith
 
--- they are no more than there are pieces
-pub parts-few : (cell : ℕ → Cell) (text : List ℕ) (from to : ℕ) (ends : List PartEnd) → IsUtf8 (drop from text) → AreParts (letter_by cell) text from to ends
-    → length ends ≤ length (pieces_on cell text from)
-parts-few cell text from to [] utf8 parts = omega arith
-parts-few cell text from to (end ∷ ends) utf8 parts =
-    let first = parts.0.first in
-    let behind = parts-few cell text end.at to ends (first-bound text from end.at parts.0.is_word utf8 first).utf8 parts.1 in
-    omega (arith, ap length (pieces-step cell text from end.at parts.0.is_word utf8 first))
+some-of : (cell : ℕ → Cell) (start : ℕ) (text cs : List ℕ) → scalars cs ≡ true → encode_utf8_all cs ≡ text → 0 < length text
+    → 1 ≤ length (pieces_from cell start (word_bounds text))
+unfolding segments
+some-of cell start text [] are is some = absurd (omega (arith, some, ap length is))
+some-of cell start text (c ∷ cs) are is some =
+    subst (λ l. 1 ≤ length (pieces_from cell start (map encode_utf8_all (cut is_word_break [] l [])))) (sym (ap chars (sym is) ∙ chars-encodes (c ∷ cs) are))
+    (some-from cell start (cut is_word_break [] (c ∷ cs) []) (cut-some [] c cs))
 
--- they end within the text
-pub parts-within : (letter : ℕ → Bool) (text : List ℕ) (from to most : ℕ) (ends : List PartEnd) → length text < most → AreParts letter text from to ends
-    → All (λ end. end.at < most) ends
-parts-within letter text from to most [] few parts = All-nil (λ (end : PartEnd). end.at < most)
-parts-within letter text from to most (end ∷ ends) few parts =
-    All-cons (λ (end : PartEnd). end.at < most) end ends (let within = parts.0.first.within in omega (arith, within, few)) (parts-within letter text end.at to most ends few parts.1)
-
--- so the pieces that have these ends are cut, or there was no room for them
-pub cuts-parts : {E : Type 0} (cell : ℕ → Cell) (text : List ℕ) (from to : ℕ) (ends : List PartEnd) (old new : Front Piece) (r : Result ℕ E) → IsUtf8 (drop from text)
-    → from ≤ length text → AreParts (letter_by cell) text from to ends
-    → OnOk r (items_of new ≡ items_of old ++ pieces_by from ends) → IfOk r (λ next. next ≡ next_start from ends) → Grows old new
-    → OnErr r (vec_capacity old.items < old.count + length ends) → CutsOn cell text from old new r
-cuts-parts cell text from to ends old new (Ok next) utf8 within parts put is grows full = record {
-  cut = subst (IsCutOn cell text from (items_of old) (items_of new)) (sym is) (parts-cut cell text from to ends (items_of old) (items_of new) utf8 within parts put);
-  grows = grows;
-  full = tt;
-}
-cuts-parts cell text from to ends old new (Err e) utf8 within parts put is grows full = record {
-  cut = tt;
-  grows = grows;
-  full = omega (arith, full, parts-few cell text from to ends utf8 parts);
-}
+pub some-piece : (cell : ℕ → Cell) (text : List ℕ) (start : ℕ) → start < length text → IsUtf8 (drop start text) → 1 ≤ length (pieces_on cell text start)
+some-piece cell text start within utf8 = some-of cell start (drop start text) utf8.0 utf8.1.0 utf8.1.1 (omega (arith, length-drop start text))
 
 -- where a piece of well-formed text ends, a scalar begins
 pub piece-ends : (text : List ℕ) (start end : ℕ) (word : Bool) → IsUtf8 (drop start text) → IsFirstPiece text start end word → IsCharBoundary text end
@@ -185,6 +162,25 @@ told-few (suc k) cell text base start left fits most utf8 are = ⊎_elim
     (cases_lt 0 left)
 
 module _ {E : Type 0} (cell : ℕ → Cell) (text : List ℕ) (start : ℕ) (old made : Front Piece) where
+  -- the pieces that parts are were put into room that was made for some of them
+  pub cuts-parts : (from to : Filled) (before : List Piece) (new : Front Piece) (r : Result ℕ E) → r ≡ Ok to.at → IsUtf8 (drop start text) → start ≤ length text
+      → from ≡ record { count = old.count; at = start } → take old.count before ≡ items_of old → FillsParts piece_of (letter_by cell) text from before to new.items.items
+      → new.count ≡ to.count
+      → vec_capacity old.items ≤ vec_capacity made.items → vec_capacity made.items ≤ max (vec_capacity old.items) (2 * (old.count + 1))
+      → vec_capacity new.items ≡ vec_capacity made.items → old.count < to.count
+      → CutsOn cell text start old new r
+  cuts-parts from to before new r is utf8 within same items fills count kept most room more =
+      subst (CutsOn cell text start old new) (sym is) (record {
+        cut = (
+            let put : items_of new ≡ items_of old ++ parts_by piece_of start fills.ends =
+            ap (λ n. take n new.items.items) count ∙ fills.put ∙ ap (λ f. take f.count before ++ parts_by piece_of f.at fills.ends) same
+            ∙ ap (λ l. l ++ parts_by piece_of start fills.ends) items in
+            parts-cut cell text start to.at fills.ends (items_of old) (items_of new) utf8 within
+            (subst (λ (f : Filled). AreParts (letter_by cell) text f.at to.at fills.ends) same fills.parts) put);
+        grows = Grows-more old made new 1 kept most room (omega (arith, count, more));
+        full = tt;
+      })
+
   -- they were put into room that was made for them
   pub cuts-made : (next more : ℕ) (new : Front Piece) (r : Result ℕ E) → r ≡ Ok next → IsCutOn cell text start (items_of old) (items_of new) next
       → vec_capacity old.items ≤ vec_capacity made.items → vec_capacity made.items ≤ max (vec_capacity old.items) (2 * (old.count + more))

@@ -1,5 +1,5 @@
 -- Lists that are written over, and room that grows in steps.
-use Rattle.std.proofs.Common.{◌≡◌, ℕ, ◌+◌, ◌*◌, ◌≤◌, length, max, vec_capacity, subst, sym, arith}
+use Rattle.std.proofs.Common.{◌≡◌, ℕ, ◌+◌, ◌*◌, ◌≤◌, length, max, vec_capacity, arith}
 use Rattle.std.proofs.lemmas.List.{length-take-le}
 use Rattle.std.proofs.Math.Nat.{le-max_left, le-max_right, max-le}
 use Rattle.lbk_passage.specs.declared.front.Front.{Front}
@@ -34,12 +34,23 @@ Grows-none old new room count = record {
   onward = omega (arith, count);
 }
 
+-- items were put into room that was made for some of them
+pub Grows-more : {X : Type 0} (old made new : Front X) (more : ℕ) → vec_capacity old.items ≤ vec_capacity made.items
+    → vec_capacity made.items ≤ max (vec_capacity old.items) (2 * (old.count + more)) → vec_capacity new.items ≡ vec_capacity made.items → old.count + more ≤ new.count
+    → Grows old new
+Grows-more old made new more kept most room count =
+    let first = vec_capacity old.items in
+    let left = le-max_left first (2 * new.count) in
+    let right = le-max_right first (2 * new.count) in
+    let upto : max first (2 * (old.count + more)) ≤ max first (2 * new.count) = max-le left (omega arith) in
+    record {
+      room = omega (arith, kept, room);
+      most = omega (arith, most, room, upto);
+      onward = omega (arith, count);
+    }
+
 -- items were put into room that was made for them
 pub Grows-made : {X : Type 0} (old made new : Front X) (more : ℕ) → vec_capacity old.items ≤ vec_capacity made.items
     → vec_capacity made.items ≤ max (vec_capacity old.items) (2 * (old.count + more)) → vec_capacity new.items ≡ vec_capacity made.items → new.count ≡ old.count + more
     → Grows old new
-Grows-made old made new more kept most room count = record {
-  room = omega (arith, kept, room);
-  most = subst (λ n. vec_capacity new.items ≤ max (vec_capacity old.items) (2 * n)) (sym count) (subst (λ n. n ≤ max (vec_capacity old.items) (2 * (old.count + more))) (sym room) most);
-  onward = omega (arith, count);
-}
+Grows-made old made new more kept most room count = Grows-more old made new more kept most room (omega (arith, count))

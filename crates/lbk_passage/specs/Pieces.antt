@@ -5,7 +5,6 @@ use Rattle.std.specs.List.{list_any}
 use Rattle.std.specs.Str.{chars}
 use Rattle.unicode_segmentation.specs.Word.{word_bounds}
 use Rattle.lbk_rules.specs.declared.Cell.{Cell}
-use Rattle.lbk_words.specs.declared.letters.PartEnd.{PartEnd}
 use Rattle.lbk_passage.specs.declared.passage.Piece.{Piece}
 use Rattle.lbk_passage.specs.declared.front.Front.{Front}
 use Rattle.lbk_passage.specs.Front.{items_of}
@@ -30,15 +29,13 @@ pieces_of cell text = pieces_from cell 0 (word_bounds text)
 abbrev pub pieces_on : (ℕ → Cell) → List ℕ → ℕ → List Piece
 pieces_on cell text at = pieces_from cell at (word_bounds (drop at text))
 
--- the pieces that have these ends, of which the first begins at byte `start`
-abbrev pub pieces_by : ℕ → List PartEnd → List Piece
-pieces_by start [] = []
-pieces_by start (end ∷ ends) = record { start = start; end = end.at; word = end.has_letter } ∷ pieces_by end.at ends
+-- the letters that a source of cells knows
+abbrev pub letter_by : (ℕ → Cell) → ℕ → Bool
+letter_by cell code = (cell code).letter
 
--- where the piece behind them begins
-abbrev pub next_start : ℕ → List PartEnd → ℕ
-next_start start [] = start
-next_start start (end ∷ ends) = next_start end.at ends
+-- a piece from one byte up to another
+abbrev pub piece_of : ℕ → ℕ → Bool → Piece
+piece_of start end word = record { start = start; end = end; word = word }
 
 -- the pieces of a text from the boundary `start` up to the boundary `next` were put behind those of a list
 pub record IsCutOn (cell : ℕ → Cell) (text : List ℕ) (start : ℕ) (old new : List Piece) (next : ℕ) : Type 0 where

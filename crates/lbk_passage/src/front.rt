@@ -40,8 +40,8 @@ impl<T> Front<T> {
         self.count = 0;
     }
 
-    /// Sees to it that there are `more` items behind those that count, `filler` where there were none. Where there was
-    /// too little room, there is room for twice as many as are then to count at most, so that a list that grows is
+    /// Sees to it that there are `more` items or more behind those that count, `filler` where there were none. Where there
+    /// was too little room, there is room for twice as many as are then to count at most, so that a list that grows is
     /// seldom moved.
     #[inline(always)]
     pub(crate) fn make_room(&mut self, more: usize, filler: T) -> Result<(), AllocError>
@@ -70,7 +70,7 @@ impl<T> Front<T> {
             let missing = all - self.items.len();
             self.items.reserve_exact(all.saturating_add(missing))?;
         }
-        while self.items.len() < all {
+        while self.items.len() < self.items.capacity() {
             self.items.push_reserved(filler);
         }
         Ok(())

@@ -1,11 +1,11 @@
 //! The pieces of a passage.
 
-ghost use Rattle.std.specs.Prelude.{◌≡◌, ℕ, ◌+◌, ◌*◌, ◌<◌, ◌≤◌, ◌^◌, ◌++◌, All, Bool, drop, length, max, take};
+ghost use Rattle.std.specs.Prelude.{◌≡◌, ◌+◌, ◌*◌, ◌<◌, ◌≤◌, ◌^◌, Bool, drop, length, max, take};
 ghost use Rattle.std.specs.Prelude.{IfOk, IsUtf8, OnErr, OnOk, vec_capacity};
-ghost use Rattle.lbk_passage.specs.Pieces.{CutsOn, IsCutOn, is_word, next_start, pieces_by, pieces_of};
+ghost use Rattle.lbk_passage.specs.Pieces.{CutsOn, IsCutOn, is_word, letter_by, piece_of, pieces_of};
 ghost use Rattle.lbk_passage.specs.Front.{items_of};
-ghost use Rattle.lbk_passage.specs.Room.{Grows};
 ghost use Rattle.lbk_words.specs.Ends.{AreTold};
+ghost use Rattle.lbk_words.specs.Near.{AreMet};
 ghost use Rattle.lbk_words.specs.Places.{IsFirstPiece};
 
 use crate::front::Front;
@@ -13,11 +13,8 @@ use crate::known::KnownCells;
 use crate::passage::Piece;
 use lbk_masks::{first_set, without_first};
 use lbk_rules::CellSource;
-use lbk_words::{PartEnd, ends_from, fill_ends};
+use lbk_words::{Filled, NearScalars, PartSlot, ends_from, fill_parts};
 use std::alloc::AllocError;
-
-/// How many ends of pieces are found at a time.
-pub(crate) const ENDS: usize = 64;
 
 /// A piece that stands where none was put yet.
 const NO_PIECE: Piece = Piece {
@@ -26,21 +23,17 @@ const NO_PIECE: Piece = Piece {
     word: false,
 };
 
-/// An end that stands where none was found yet.
-pub(crate) const NO_END: PartEnd = PartEnd {
-    at: 0,
-    has_letter: false,
-};
-
-/// Writes the pieces of a text in place of what the list held (UAX #29, section 4). What the block held does not
-/// matter, and what it holds then is unspecified. Where memory could not grow the list holds some of them.
+/// Writes the pieces of a text in place of what the list held (UAX #29, section 4). `near`: the scalars that were met.
+/// Where memory could not grow the list holds some of them.
 pub fn cut_words<C: CellSource>(
     known: &KnownCells<'_, C>,
+    near: &mut NearScalars,
     text: &str,
-    block: &mut [PartEnd; ENDS],
     pieces: &mut Front<Piece>,
 ) -> Result<(), AllocError>
     requires few { length text.now < 2 ^ 32 }
+    requires met { AreMet (letter_by (C.cell_of known.now.cells.now)) near.old }
+    ensures met { AreMet (letter_by (C.cell_of known.now.cells.now)) near.new }
     ensures cut { OnOk result (items_of pieces.new ≡ pieces_of (C.cell_of known.now.cells.now) text.now) }
     ensures room { vec_capacity pieces.old.items ≤ vec_capacity pieces.new.items }
     ensures most { vec_capacity pieces.new.items ≤ max (vec_capacity pieces.old.items) (2 * pieces.new.count) }
@@ -51,7 +44,7 @@ pub fn cut_words<C: CellSource>(
     let bytes = text.as_bytes();
     let mut start = 0;
     while start < bytes.len() {
-        start = cut_next(known, text, start, block, pieces)?;
+        start = cut_next(known, near, text, start, pieces)?;
     }
     Ok(())
 }
@@ -60,14 +53,16 @@ pub fn cut_words<C: CellSource>(
 #[inline(always)]
 fn cut_next<C: CellSource>(
     known: &KnownCells<'_, C>,
+    near: &mut NearScalars,
     text: &str,
     start: usize,
-    block: &mut [PartEnd; ENDS],
     pieces: &mut Front<Piece>,
 ) -> Result<usize, AllocError>
     requires few { length text.now < 2 ^ 32 }
     requires within { start < length text.now }
     requires utf8 { IsUtf8 (drop start text.now) }
+    requires met { AreMet (letter_by (C.cell_of known.now.cells.now)) near.old }
+    ensures met { AreMet (letter_by (C.cell_of known.now.cells.now)) near.new }
     ensures cuts { CutsOn (C.cell_of known.now.cells.now) text.now start pieces.old pieces.new result }
     ensures onward { IfOk result (λ next. start < next) }
 {
@@ -89,10 +84,51 @@ fn cut_next<C: CellSource>(
     }
     let ends = ends_from(bytes, start);
     if ends == 0 {
-        let count = fill_ends(known, bytes, start, block);
-        return cut_block(start, &block[..count], pieces);
+        return cut_by_steps(known, near, text, start, pieces);
     }
     cut_told(known, text, start, ends, pieces)
+}
+
+/// Puts the next pieces after those in the list, scalar by scalar, where bits tell no end: as many as there is room for,
+/// and one at least.
+#[inline(always)]
+fn cut_by_steps<C: CellSource>(
+    known: &KnownCells<'_, C>,
+    near: &mut NearScalars,
+    text: &str,
+    start: usize,
+    pieces: &mut Front<Piece>,
+) -> Result<usize, AllocError>
+    requires few { length text.now < 2 ^ 32 }
+    requires within { start < length text.now }
+    requires utf8 { IsUtf8 (drop start text.now) }
+    requires met { AreMet (letter_by (C.cell_of known.now.cells.now)) near.old }
+    ensures met { AreMet (letter_by (C.cell_of known.now.cells.now)) near.new }
+    ensures cuts { CutsOn (C.cell_of known.now.cells.now) text.now start pieces.old pieces.new result }
+    ensures onward { IfOk result (λ next. start < next) }
+{
+    pieces.make_room(1, NO_PIECE)?;
+    let from = Filled {
+        count: pieces.count,
+        at: start,
+    };
+    let slots = pieces.items.as_mut_slice();
+    let filled = fill_parts(known, near, text.as_bytes(), from, slots);
+    pieces.count = filled.count;
+    Ok(filled.at)
+}
+
+impl PartSlot for Piece {
+    ghost made = { piece_of };
+
+    /// Its fields are written one by one: a whole piece would be made elsewhere, and then be copied with the bytes between
+    /// its fields.
+    #[inline(always)]
+    fn put(&mut self, start: usize, end: usize, has_letter: bool) {
+        self.start = start as u32;
+        self.end = end as u32;
+        self.word = has_letter;
+    }
 }
 
 /// Puts the pieces whose ends bits tell after those in the list, the first from `base` on, and returns where the next
@@ -129,34 +165,7 @@ fn cut_told<C: CellSource>(
     Ok(start)
 }
 
-/// Puts the pieces that have these ends after those in the list, the first from `start` on, and returns where the next
-/// begins.
-#[inline(always)]
-fn cut_block(start: usize, ends: &[PartEnd], pieces: &mut Front<Piece>) -> Result<usize, AllocError>
-    requires few { (start < 2 ^ 32) × All (λ end. end.at < 2 ^ 32) ends.now }
-    ensures put { OnOk result (items_of pieces.new ≡ items_of pieces.old ++ pieces_by start ends.now) }
-    ensures next { IfOk result (λ next. next ≡ next_start start ends.now) }
-    ensures grows { Grows pieces.old pieces.new }
-    ensures full { OnErr result (vec_capacity pieces.old.items < pieces.old.count + length ends.now) }
-{
-    pieces.make_room(ends.len(), NO_PIECE)?;
-    let mut count = pieces.count;
-    let slots = pieces.items.as_mut_slice();
-    let mut start = start;
-    for end in ends {
-        let piece = &mut slots[count];
-        piece.start = start as u32;
-        piece.end = end.at as u32;
-        piece.word = end.has_letter;
-        start = end.at;
-        count += 1;
-    }
-    pieces.count = count;
-    Ok(start)
-}
-
-/// Writes the piece between two bytes over the item at this place. Its fields are written one by one: a whole piece
-/// would be made elsewhere, and then be copied with the bytes between its fields.
+/// Writes the piece between two bytes over the item at this place.
 #[inline(always)]
 fn put_piece<C: CellSource>(
     known: &KnownCells<'_, C>,
@@ -173,10 +182,8 @@ fn put_piece<C: CellSource>(
     requires room { at < length pieces.old }
     ensures { IsCutOn (C.cell_of known.now.cells.now) text.now start (take at pieces.old) (take (at + 1) pieces.new) end }
 {
-    let piece = &mut pieces[at];
-    piece.start = start as u32;
-    piece.end = end as u32;
-    piece.word = is_word(known, &text[start..end]);
+    let word = is_word(known, &text[start..end]);
+    pieces[at].put(start, end, word);
 }
 
 /// Whether a piece holds a letter or a number. Its first byte tells where it is one, or is all of the piece. One

@@ -6,7 +6,9 @@ ghost use Rattle.std.specs.Borrow.{sem};
 ghost use Rattle.std.specs.Io.BufRead.{Rests};
 ghost use Rattle.std.specs.Str.{chars};
 ghost use Rattle.lbk_passage.specs.Ahead.{IsAhead, KeepsTold};
+ghost use Rattle.lbk_passage.specs.Pieces.{letter_by};
 ghost use Rattle.lbk_passage.specs.Stays.{IsWhole};
+ghost use Rattle.lbk_words.specs.Near.{AreMet};
 
 use crate::ahead::{Ahead, NOTHING};
 use crate::faults::PassageFault;
@@ -14,12 +16,12 @@ use crate::front::Front;
 use crate::known::KnownCells;
 use crate::paragraph::Paragraph;
 use crate::passage::{Passage, PassageText, Piece, Segment};
-use crate::pieces::{ENDS, NO_END, cut_words};
+use crate::pieces::cut_words;
 use crate::segments::{BLOCK, NO_BREAKS, cut_lines};
 use lbk_bytes::RawBreak;
 use lbk_feed::{LIMIT_MAX, Source};
 use lbk_rules::{CellSource, Profile, Verdict};
-use lbk_words::PartEnd;
+use lbk_words::NearScalars;
 use std::alloc::{AllocError, Global};
 
 /// Cuts a text of any length into passages, and holds one at a time.
@@ -45,13 +47,14 @@ pub struct Segmenter<'a, C: CellSource> {
     gave_segments: bool,
     /// Where those of a passage are found into that none was found ahead of.
     block: [RawBreak; BLOCK],
-    /// Where the ends of pieces are found into.
-    ends: [PartEnd; ENDS],
+    /// The scalars that were met where pieces were found.
+    near: NearScalars,
     segments: Front<Segment>,
     pieces: Front<Piece>,
     ghost told: { KeepsTold profile (C.cell_of known.cells.now) paragraph ahead },
     ghost found: { IsAhead profile (C.cell_of known.cells.now) paragraph.feed.ready ahead },
     ghost whole: { paragraph.is_held ≡ true → IsWhole (C.cell_of known.cells.now) paragraph },
+    ghost met: { AreMet (letter_by (C.cell_of known.cells.now)) near },
 }
 
 impl<'a, C: CellSource> Segmenter<'a, C> {
@@ -90,7 +93,7 @@ impl<'a, C: CellSource> Segmenter<'a, C> {
             ahead: NOTHING,
             gave_segments: false,
             block: NO_BREAKS,
-            ends: [NO_END; ENDS],
+            near: NearScalars::new(),
             segments: Front::new(alloc),
             pieces: Front::new(alloc),
         })
@@ -128,8 +131,8 @@ impl<'a, C: CellSource> Segmenter<'a, C> {
         if cut_lines(cells, self.profile, text, end, ahead, block, segments).is_err() {
             return Err(PassageFault::Memory);
         }
-        let (ends, pieces) = (&mut self.ends, &mut self.pieces);
-        if cut_words(&self.known, text, ends, pieces).is_err() {
+        let (near, pieces) = (&mut self.near, &mut self.pieces);
+        if cut_words(&self.known, near, text, pieces).is_err() {
             return Err(PassageFault::Memory);
         }
         self.paragraph.release();

@@ -1,5 +1,5 @@
 -- The table has the kinds of all scalars.
-use Rattle.std.proofs.Common.{◌≡◌, ℕ, ◌<◌, Bool, true, ◌&&◌, ◌==◌, nat_lt, refl, arith, eqb-true, ltb-true}
+use Rattle.std.proofs.Common.{◌≡◌, ℕ, ◌<◌, Bool, true, ◌&&◌, ◌==◌, nat_lt, refl, sym, subst, arith, eqb-true, ltb-true}
 use Rattle.std.specs.Bool.{beq}
 use Rattle.std.proofs.lemmas.Bool.{and_parts}
 use Rattle.ucd_table.proofs.Facts.{Stepped-always, always, same_from_beq}
@@ -15,6 +15,7 @@ use Rattle.ucd_category.proofs.GeneralCategoryLemmas.{general_category_stepped}
 use Rattle.ucd_emoji.specs.Binary.{is_extended_pictographic}
 use Rattle.ucd_emoji.proofs.BinaryLemmas.{is_extended_pictographic_stepped}
 use Rattle.lbk_words.specs.declared.kind_table.TheConstants.{KIND_INDEX, KIND_WORDS, KIND_TAIL}
+use Rattle.lbk_words.specs.Near.{IsOfKind}
 use Rattle.lbk_words.specs.Kinds.{kind_at, kind_letter, kind_number, kind_pict, kind_value}
 use Rattle.lbk_words.specs.Letters.{is_letter_category, is_letter_or_number}
 
@@ -74,3 +75,7 @@ is-kind c scalar =
       letter = same_from_beq _ _ rest.0;
       pict = same_from_beq _ _ rest.1;
     }
+
+-- a scalar of this kind has what the kind tells
+pub is-of-kind : (code kind : ℕ) → IsOfKind code kind → IsKind code kind
+is-of-kind code kind is = subst (IsKind code) (sym is.is) (is-kind code is.few)

@@ -9,6 +9,7 @@ pub mod FreshLemmas
 pub mod KindTrie
 pub mod LetterLemmas
 pub mod LikeLemmas
+pub mod NearLemmas
 pub mod PairLemmas
 pub mod PartLemmas
 pub mod PlaceLemmas

@@ -1,17 +1,16 @@
 -- Ends of parts, one behind the other in a block.
-use Rattle.std.proofs.Common.{◌≡◌, ℕ, ◌+◌, ◌<◌, ◌≤◌, Bool, true, false, not, ◌&&◌, ◌||◌, List, [], ◌∷◌, ◌++◌, append_assoc, drop, length, slice_index, take, refl, sym, ap, ap₂, subst, ◌∙◌, arith}
+use Rattle.std.proofs.Common.{◌≡◌, ℕ, ◌+◌, ◌<◌, ◌≤◌, Bool, true, false, not, ◌&&◌, ◌||◌, List, [], ◌∷◌, ◌++◌, if◌then◌else◌, append_assoc, drop, length, slice_index, take, refl, sym, ap, ap₂, subst, ◌∙◌, arith}
 use Rattle.std.specs.Int.{from_bool}
 use Rattle.std.specs.List.{list_any}
 use Rattle.std.proofs.lemmas.List.{map-append}
 use Rattle.bstr.specs.Utf8.{Decoded, decoded, or_replacement, pieces}
 use Rattle.ucd_breaks.specs.WordBreak.{word_break}
 use Rattle.lbk_words.specs.declared.ends.Reading.{Reading}
-use Rattle.lbk_words.specs.declared.letters.PartEnd.{PartEnd}
-use Rattle.lbk_words.specs.declared.steps.NextStep.{NextStep}
+use Rattle.lbk_words.specs.declared.ends.Noted.{Noted}
+use Rattle.lbk_words.specs.declared.word.Filled.{Filled}
 use Rattle.lbk_words.specs.Contexts.{context_after, context_of}
 use Rattle.lbk_words.specs.Letters.{is_letter_or_number}
-use Rattle.lbk_words.specs.Ends.{AreParts, IsEnd, IsNoted, IsReading, end_of}
-use Rattle.lbk_words.specs.Filling.{IsNextStep}
+use Rattle.lbk_words.specs.Ends.{AreParts, FillsParts, IsEnd, IsNoted, IsNotedStep, IsReading, PartEnd, parts_by}
 use Rattle.lbk_words.specs.Places.{IsFirstPiece, IsReadAt}
 use Rattle.lbk_words.specs.Rows.{row_word}
 use Rattle.lbk_words.specs.Words.{scalars_of}
@@ -51,64 +50,92 @@ pub parts-more : (letter : ℕ → Bool) (text : List ℕ) (from mid : ℕ) (end
 parts-more letter text from mid end [] parts last = (subst (λ m. IsEnd letter text m end) (sym parts) last, refl)
 parts-more letter text from mid end (e ∷ es) parts last = (parts.0, parts-more letter text e.at mid end es parts.1 last)
 
--- a part ends where the text does
-pub reading-ended : (letter : ℕ → Bool) (text : List ℕ) (from : ℕ) (here : Reading) (out new : List PartEnd) → IsReading letter text from here out
-    → length text ≤ here.at → take (here.count + 1) new ≡ take here.count out ++ end_of here ∷ []
-    → AreParts letter text from here.at (take (here.count + 1) new)
-reading-ended letter text from here out new r past put =
-    subst (AreParts letter text from here.at) (sym put)
-    (parts-more letter text from r.begin (end_of here) (take here.count out) r.parts (record {
-      is_word = row_word here.row;
-      first = walk-end text r.begin here.at r.part.context (row_word here.row) r.part.walk past;
-      noted = r.noted;
-    }))
+-- so one more is made
+made-more : {X : Type 0} (made : ℕ → ℕ → Bool → X) (letter : ℕ → Bool) (text : List ℕ) (from mid : ℕ) (end : PartEnd) (ends : List PartEnd)
+    → AreParts letter text from mid ends → parts_by made from (ends ++ end ∷ []) ≡ parts_by made from ends ++ made mid end.at end.has_letter ∷ []
+made-more made letter text from mid end [] parts = ap (λ m. made m end.at end.has_letter ∷ []) parts
+made-more made letter text from mid end (e ∷ es) parts =
+    ap (λ l. made from e.at e.has_letter ∷ l) (made-more made letter text e.at mid end es parts.1)
 
--- one scalar more is read
-reading-by : (letter : ℕ → Bool) (text : List ℕ) (from : ℕ) (here : Reading) (out new : List PartEnd) (next : NextStep) (cuts : Bool) → IsReading letter text from here out
-    → take here.count new ≡ take here.count out → take (here.count + 1) new ≡ take here.count out ++ end_of here ∷ []
-    → IsNextStep text here.row here.at next → next.step.cuts ≡ cuts
-    → IsReading letter text from
-    (record { count = here.count + from_bool cuts; at = next.end; row = next.step.next; has_letter = letter next.code || (here.has_letter && not cuts) }) new
-reading-by letter text from here out new next true r kept put is cuts = record {
-  begin = here.at;
-  parts = subst (AreParts letter text from here.at) (sym put)
-      (parts-more letter text from r.begin (end_of here) (take here.count out) r.parts (record {
+module _ {X : Type 0} (made : ℕ → ℕ → Bool → X) (letter : ℕ → Bool) (text : List ℕ) (from : Filled) (old : List X) where
+  -- one part more is put
+  fills-more : (count start : ℕ) (end : PartEnd) (out new : List X) → FillsParts made letter text from old (record { count = count; at = start }) out
+      → IsEnd letter text start end → take (count + 1) new ≡ take count out ++ made start end.at end.has_letter ∷ []
+      → FillsParts made letter text from old (record { count = count + 1; at = end.at }) new
+  fills-more count start end out new fills is put =
+      let one = made start end.at end.has_letter ∷ [] in
+      record {
+        ends = fills.ends ++ end ∷ [];
+        parts = parts-more letter text from.at start end fills.ends fills.parts is;
+        put =
+            put
+            ∙ ap (λ l. l ++ one) fills.put
+            ∙ append_assoc (take from.count old) (parts_by made from.at fills.ends) one
+            ∙ ap (λ l. take from.count old ++ l) (sym (made-more made letter text from.at start end fills.ends fills.parts));
+      }
+
+  -- a part ends where the text does
+  pub reading-ended : (here : Reading) (out new : List X) → IsReading made letter text from old here out
+      → length text ≤ here.at → take (here.count + 1) new ≡ take here.count out ++ made here.start here.at here.has_letter ∷ []
+      → FillsParts made letter text from old (record { count = here.count + 1; at = here.at }) new
+  reading-ended here out new r past put =
+      fills-more here.count here.start (record { at = here.at; has_letter = here.has_letter }) out new r.fills
+      (record {
         is_word = row_word here.row;
-        first = row-ends text r.begin here.at here.row next.code next.end next.step r.part is.read is.step cuts;
+        first = walk-end text here.start here.at r.part.context (row_word here.row) r.part.walk past;
         noted = r.noted;
-      }));
-  part = row-begins text here.at here.row next.code next.end next.step is.read is.step cuts;
-  noted = subst (IsNoted letter text here.at next.end) (sym (alone (letter next.code) here.has_letter)) (noted-one letter text here.at next.code next.end is.read);
-}
-  where
-    alone : (a b : Bool) → (a || (b && false)) ≡ a
-    alone true b = refl
-    alone false true = refl
-    alone false false = refl
-reading-by letter text from here out new next false r kept put is cuts = record {
-  begin = r.begin;
-  parts = subst (AreParts letter text from r.begin) (sym (ap (λ n. take n new) (let e : here.count + 0 ≡ here.count = omega arith in e) ∙ kept)) r.parts;
-  part = row-goes-on text r.begin here.at here.row next.code next.end next.step r.part is.read is.step cuts;
-  noted = subst (IsNoted letter text r.begin next.end) (turned here.has_letter (letter next.code))
-      (noted-more letter text r.begin here.at next.code next.end here.has_letter r.noted is.read);
-}
-  where
-    turned : (a b : Bool) → (a || b) ≡ (b || (a && true))
-    turned true true = refl
-    turned true false = refl
-    turned false true = refl
-    turned false false = refl
+      }) put
 
-pub reading-taken : (letter : ℕ → Bool) (text : List ℕ) (from : ℕ) (here : Reading) (out new : List PartEnd) (next : NextStep) (one : Bool) (n : ℕ)
-    → IsReading letter text from here out
-    → take here.count new ≡ take here.count out → take (here.count + 1) new ≡ take here.count out ++ end_of here ∷ []
-    → IsNextStep text here.row here.at next → n ≡ from_bool next.step.cuts → one ≡ letter next.code
-    → IsReading letter text from
-    (record { count = here.count + n; at = next.end; row = next.step.next; has_letter = one || (here.has_letter && not next.step.cuts) }) new
-reading-taken letter text from here out new next one n r kept put is few told =
-    subst (λ m. IsReading letter text from (record { count = here.count + m; at = next.end; row = next.step.next; has_letter = one || (here.has_letter && not next.step.cuts) }) new) (sym few)
-    (subst (λ b. IsReading letter text from (record { count = here.count + from_bool next.step.cuts; at = next.end; row = next.step.next; has_letter = b || (here.has_letter && not next.step.cuts) }) new) (sym told)
-    (reading-by letter text from here out new next next.step.cuts r kept put is refl))
+  -- one scalar more is read
+  reading-by : (here : Reading) (out new : List X) (noted : Noted) (cuts : Bool) → IsReading made letter text from old here out
+      → take here.count new ≡ take here.count out → take (here.count + 1) new ≡ take here.count out ++ made here.start here.at here.has_letter ∷ []
+      → IsNotedStep letter text here.row here.at noted → noted.next.step.cuts ≡ cuts
+      → IsReading made letter text from old
+      (record { count = here.count + from_bool cuts; start = if cuts then here.at else here.start; at = noted.next.end; row = noted.next.step.next; has_letter = noted.is_letter || (here.has_letter && not cuts) }) new
+  reading-by here out new noted true r kept put is cuts =
+      let next = noted.next in
+      record {
+        fills = fills-more here.count here.start (record { at = here.at; has_letter = here.has_letter }) out new r.fills
+            (record {
+              is_word = row_word here.row;
+              first = row-ends text here.start here.at here.row next.code next.end next.step r.part is.next.read is.next.step cuts;
+              noted = r.noted;
+            }) put;
+        part = row-begins text here.at here.row next.code next.end next.step is.next.read is.next.step cuts;
+        noted = subst (IsNoted letter text here.at next.end) (sym (alone noted.is_letter here.has_letter ∙ is.told)) (noted-one letter text here.at next.code next.end is.next.read);
+      }
+    where
+      alone : (a b : Bool) → (a || (b && false)) ≡ a
+      alone true b = refl
+      alone false true = refl
+      alone false false = refl
+  reading-by here out new noted false r kept put is cuts =
+      let next = noted.next in
+      record {
+        fills = record {
+          ends = r.fills.ends;
+          parts = r.fills.parts;
+          put = ap (λ n. take n new) (let e : here.count + 0 ≡ here.count = omega arith in e) ∙ kept ∙ r.fills.put;
+        };
+        part = row-goes-on text here.start here.at here.row next.code next.end next.step r.part is.next.read is.next.step cuts;
+        noted = subst (IsNoted letter text here.start next.end) (turned here.has_letter (letter next.code) ∙ ap (λ b. b || (here.has_letter && true)) (sym is.told))
+            (noted-more letter text here.start here.at next.code next.end here.has_letter r.noted is.next.read);
+      }
+    where
+      turned : (a b : Bool) → (a || b) ≡ (b || (a && true))
+      turned true true = refl
+      turned true false = refl
+      turned false true = refl
+      turned false false = refl
+
+  pub reading-taken : (here : Reading) (out new : List X) (noted : Noted) (n : ℕ) → IsReading made letter text from old here out
+      → take here.count new ≡ take here.count out → take (here.count + 1) new ≡ take here.count out ++ made here.start here.at here.has_letter ∷ []
+      → IsNotedStep letter text here.row here.at noted → n ≡ from_bool noted.next.step.cuts
+      → IsReading made letter text from old
+      (record { count = here.count + n; start = if noted.next.step.cuts then here.at else here.start; at = noted.next.end; row = noted.next.step.next; has_letter = noted.is_letter || (here.has_letter && not noted.next.step.cuts) }) new
+  reading-taken here out new noted n r kept put is few =
+      subst (λ m. IsReading made letter text from old (record { count = here.count + m; start = if noted.next.step.cuts then here.at else here.start; at = noted.next.end; row = noted.next.step.next; has_letter = noted.is_letter || (here.has_letter && not noted.next.step.cuts) }) new) (sym few)
+      (reading-by here out new noted noted.next.step.cuts r kept put is refl)
 
 -- the last byte of a text is a part, if it is a scalar by itself
 pub lone-part : (text : List ℕ) (at : ℕ) → length text ≡ at + 1 → slice_index text at < 128 → (is_word : Bool) × IsFirstPiece text at (at + 1) is_word

@@ -6,11 +6,12 @@ use Rattle.std.specs.List.{list_any}
 use Rattle.bstr.specs.Utf8.{Decoded, pieces}
 use Rattle.lbk_masks.specs.Sets.{is_set}
 use Rattle.lbk_words.specs.Blocks.{ArePlain, begins_at, runs_at}
-use Rattle.lbk_words.specs.Filling.{IsInRow}
+use Rattle.lbk_words.specs.Filling.{IsInRow, IsNextStep}
 use Rattle.lbk_words.specs.Places.{IsFirstPiece}
 use Rattle.lbk_words.specs.Words.{bytes_of, scalars_of}
 use Rattle.lbk_words.specs.declared.ends.Reading.{Reading}
-use Rattle.lbk_words.specs.declared.letters.PartEnd.{PartEnd}
+use Rattle.lbk_words.specs.declared.ends.Noted.{Noted}
+use Rattle.lbk_words.specs.declared.word.Filled.{Filled}
 
 -- CR LF, and two spaces (rules WB3 and WB3d)
 abbrev pub is_pair : ℕ → ℕ → Bool
@@ -42,6 +43,11 @@ pub record IsNoted (letter : ℕ → Bool) (text : List ℕ) (from to : ℕ) (no
   pub place : to ≡ from + bytes_of read
   pub told : noted ≡ list_any letter (scalars_of read)
 
+-- where a part ends, and whether it holds a letter
+pub record PartEnd : Type 0 where
+  pub at : ℕ
+  pub has_letter : Bool
+
 -- the first part from the boundary `from` on ends there, and that is whether it holds a letter
 pub record IsEnd (letter : ℕ → Bool) (text : List ℕ) (from : ℕ) (end : PartEnd) : Type 0 where
   pub is_word : Bool
@@ -53,13 +59,24 @@ abbrev pub AreParts : (ℕ → Bool) → List ℕ → ℕ → ℕ → List PartE
 AreParts letter text from to [] = from ≡ to
 AreParts letter text from to (end ∷ ends) = IsEnd letter text from end × AreParts letter text end.at to ends
 
--- the end of the part so far, if it ends there
-abbrev pub end_of : Reading → PartEnd
-end_of here = record { at = here.at; has_letter = here.has_letter }
+-- what is made of the parts that have these ends, of which the first begins at byte `start`
+abbrev pub parts_by : {X : Type 0} → (ℕ → ℕ → Bool → X) → ℕ → List PartEnd → List X
+parts_by made start [] = []
+parts_by made start (end ∷ ends) = made start end.at end.has_letter ∷ parts_by made end.at ends
 
--- the ends of the parts that ended are in the front of a block, and the scalars behind them are of one part so far
-pub record IsReading (letter : ℕ → Bool) (text : List ℕ) (from : ℕ) (here : Reading) (out : List PartEnd) : Type 0 where
-  pub begin : ℕ
-  pub parts : AreParts letter text from begin (take here.count out)
-  pub part : IsInRow text begin here.at here.row
-  pub noted : IsNoted letter text begin here.at here.has_letter
+-- from one boundary up to another, the parts of a text were put behind those in the front of a block
+pub record FillsParts {X : Type 0} (made : ℕ → ℕ → Bool → X) (letter : ℕ → Bool) (text : List ℕ) (from : Filled) (old : List X) (to : Filled) (new : List X) : Type 0 where
+  pub ends : List PartEnd
+  pub parts : AreParts letter text from.at to.at ends
+  pub put : take to.count new ≡ take from.count old ++ parts_by made from.at ends
+
+-- what the scalar at a byte makes of a part of this row, and whether it is a letter
+pub record IsNotedStep (letter : ℕ → Bool) (text : List ℕ) (row at : ℕ) (noted : Noted) : Type 0 where
+  pub next : IsNextStep text row at noted.next
+  pub told : noted.is_letter ≡ letter noted.next.code
+
+-- the parts that ended were put into a block, and the scalars behind them are of one part so far
+pub record IsReading {X : Type 0} (made : ℕ → ℕ → Bool → X) (letter : ℕ → Bool) (text : List ℕ) (from : Filled) (old : List X) (here : Reading) (out : List X) : Type 0 where
+  pub fills : FillsParts made letter text from old (record { count = here.count; at = here.start }) out
+  pub part : IsInRow text here.start here.at here.row
+  pub noted : IsNoted letter text here.start here.at here.has_letter

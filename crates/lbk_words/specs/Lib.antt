@@ -6,6 +6,7 @@ pub mod Calls
 -- What only carries proofs.
 pub mod Contexts
 pub mod Kinds
+pub mod Near
 pub mod RowList
 pub mod Rows
 pub mod Filling

@@ -1,14 +1,18 @@
-//! Where the parts of a text end: its cutting at word boundaries (UAX #29, section 4).
+//! The parts of a text, and where they end: its cutting at word boundaries (UAX #29, section 4).
 
-ghost use Rattle.std.specs.Prelude.{◌≡◌, ℕ, ◌+◌, ◌-◌, ◌<◌, ◌≤◌, ◌++◌, ◌∷◌, [], List, true, get_or, length, take};
+ghost use Rattle.std.specs.Prelude.{◌≡◌, ℕ, ◌+◌, ◌-◌, ◌<◌, ◌≤◌, ◌^◌, List, Bool, true, get_or, length, IfSome};
 ghost use Rattle.lbk_masks.specs.Sets.{is_set};
-ghost use Rattle.lbk_words.specs.Ends.{AreEnds, AreParts, AreTold, IsReading, end_of, is_pair};
+ghost use Rattle.lbk_words.specs.Ends.{AreEnds, AreTold, FillsParts, IsNotedStep, IsReading, is_pair};
 ghost use Rattle.lbk_words.specs.Filling.{IsNextStep};
+ghost use Rattle.lbk_words.specs.Near.{AreMet};
 
 use crate::blocks::{BLOCK, marks_of, wides_of};
-use crate::letters::{Letters, PartEnd};
-use crate::scalars::{WIDE, scalar_at};
-use crate::steps::{NextStep, first_row, next_step, step_of_three};
+use crate::letters::{Letters, PartSlot};
+use crate::near::NearScalars;
+use crate::parts::one_of;
+use crate::scalars::{WIDE, scalar_at, three_at};
+use crate::steps::{NextStep, first_row_of, step_by_kind, step_of_kind};
+use crate::word::Filled;
 use lbk_masks::{equal, first_set, kept_below, kept_from};
 
 /// Fewer bytes than this are left to steps.
@@ -23,8 +27,10 @@ const TOPS: u64 = 0x8080_8080_8080_8080;
 /// How far the parts of a text were read.
 #[derive(Clone, Copy)]
 pub(crate) struct Reading {
-    /// How many ends were found.
+    /// How many slots were filled.
     count: usize,
+    /// The byte that the part so far begins with.
+    start: usize,
     /// The byte after the scalars of the part so far.
     at: usize,
     /// The row of the part so far.
@@ -33,54 +39,136 @@ pub(crate) struct Reading {
     has_letter: bool,
 }
 
-/// Puts where the next parts of a text end, from a boundary on, into the front of a block, scalar by scalar: until the
-/// block is full, the text ends, or bits are likely to tell the next end. Returns how many. Letters are asked for here,
-/// where each scalar is read, so that no branch depends on them.
+/// What the next scalar makes of a part, and whether it is a letter.
+#[derive(Clone, Copy)]
+pub(crate) struct Noted {
+    next: NextStep,
+    is_letter: bool,
+}
+
+/// Writes the next parts of a text over the slots from `from.count` on, from the boundary `from.at` on, scalar by scalar:
+/// until no slot is left, the text ends, or bits are likely to tell the next end. Returns how many slots were filled, and
+/// the boundary from which the other parts come. Letters are asked for here, where each scalar is read, so that no branch
+/// depends on them.
 #[inline(never)]
-pub fn fill_ends<L: Letters>(letters: &L, text: &[u8], start: usize, out: &mut [PartEnd]) -> usize
-    ensures some { start < length text.now → 0 < length out.old → 0 < result }
-    ensures within { result ≤ length out.old }
-    ensures parts { (to : ℕ) × AreParts (L.letter_of letters.now) text.now start to (take result out.new) }
+pub fn fill_parts<L: Letters, S: PartSlot>(
+    letters: &L,
+    near: &mut NearScalars,
+    text: &[u8],
+    from: Filled,
+    out: &mut [S],
+) -> Filled
+    requires few { length text.now < 2 ^ 32 }
+    requires some { (from.count < length out.old) × (from.at < length text.now) }
+    requires met { AreMet (L.letter_of letters.now) near.old }
+    ensures met { AreMet (L.letter_of letters.now) near.new }
+    ensures onward { (from.count < result.count) × (from.at < result.at) }
+    ensures within { (result.count ≤ length out.old) × (result.at ≤ length text.now) }
+    ensures parts { FillsParts S.made (L.letter_of letters.now) text.now from out.old result out.new }
 {
-    if text.len() <= start || out.len() == 0 {
-        return 0;
-    }
-    let first = scalar_at(text, start);
+    let first = scalar_at(text, from.at);
+    let told = near.told(letters, first.code);
     let mut here = Reading {
-        count: 0,
+        count: from.count,
+        start: from.at,
         at: first.end,
-        row: first_row(first),
-        has_letter: letters.is_letter(first.code),
+        row: first_row_of(told.kind),
+        has_letter: told.is_letter,
     };
     'scalars: while here.at < text.len() {
-        let next = next_step(here.row, text, here.at);
-        let read = taken(letters, here, next, out);
-        if next.step.cuts && may_tell(&text[here.at..]) {
-            return read.count;
+        let noted = noted_at(letters, near, here.row, text, here.at);
+        let read = taken(here, noted, out);
+        if noted.next.step.cuts && may_tell(&text[here.at..]) {
+            return Filled {
+                count: read.count,
+                at: read.start,
+            };
         }
-        here = read_threes(letters, text, text[here.at], read, out);
+        here = read_threes(near, text, text[here.at], read, out);
         if here.count == out.len() {
-            return here.count;
+            return Filled {
+                count: here.count,
+                at: here.start,
+            };
         }
     }
-    put_end(here, out);
-    here.count + 1
+    out[here.count].put(here.start, here.at, here.has_letter);
+    Filled {
+        count: here.count + 1,
+        at: here.at,
+    }
+}
+
+/// What the scalar at a byte makes of a part of this row, and whether it is a letter.
+#[inline(always)]
+fn noted_at<L: Letters>(
+    letters: &L,
+    near: &mut NearScalars,
+    row: usize,
+    text: &[u8],
+    at: usize,
+) -> Noted
+    requires place { (row < 43) × (at < length text.now) }
+    requires met { AreMet (L.letter_of letters.now) near.old }
+    ensures noted { IsNotedStep (L.letter_of letters.now) text.now row at result }
+    ensures met { AreMet (L.letter_of letters.now) near.new }
+{
+    let scalar = scalar_at(text, at);
+    let told = near.told(letters, scalar.code);
+    Noted {
+        next: NextStep {
+            code: scalar.code,
+            step: step_by_kind(row, told.kind, text, scalar.end),
+            end: scalar.end,
+        },
+        is_letter: told.is_letter,
+    }
+}
+
+/// The same, where its first byte tells that it takes three, it was met before, and no step depends on what follows it.
+#[inline(always)]
+fn noted_three(near: &NearScalars, row: usize, text: &[u8], at: usize) -> Option<Noted>
+    requires place { (row < 43) × (at + 3 ≤ length text.now) }
+    requires met { (letter : ℕ → Bool) × AreMet letter near.now }
+    ensures next { IfSome result (λ noted. IsNextStep text.now row at noted.next) }
+    ensures told { IfSome result (λ noted. (letter : ℕ → Bool) → AreMet letter near.now
+        → noted.is_letter ≡ letter noted.next.code) }
+{
+    let scalar = three_at(text, at)?;
+    let told = near.kept(scalar.code)?;
+    let step = step_of_kind(row, told.kind);
+    if step.asks {
+        return None;
+    }
+    Some(Noted {
+        next: NextStep {
+            code: scalar.code,
+            step,
+            end: scalar.end,
+        },
+        is_letter: told.is_letter,
+    })
 }
 
 /// Goes on by scalars of three bytes where the scalar before begins with such a byte, since they come in runs.
 #[inline(always)]
-fn read_threes<L: Letters>(
-    letters: &L,
+fn read_threes<S: PartSlot>(
+    near: &NearScalars,
     text: &[u8],
     before: u8,
     from: Reading,
-    out: &mut [PartEnd],
+    out: &mut [S],
 ) -> Reading
-    requires { (from.row < 43) × (from.at ≤ length text.now) × (from.count ≤ length out.old) }
-    ensures reads { (start : ℕ) → IsReading (L.letter_of letters.now) text.now start from out.old
-        → IsReading (L.letter_of letters.now) text.now start result out.new }
+    requires few { length text.now < 2 ^ 32 }
+    requires place { (from.start < from.at) × (from.at ≤ length text.now) × (from.count ≤ length out.old) }
+    requires row { from.row < 43 }
+    requires met { (letter : ℕ → Bool) × AreMet letter near.now }
+    ensures reads { (letter : ℕ → Bool) → AreMet letter near.now → (start : Filled) (old : List S)
+        → IsReading S.made letter text.now start old from out.old
+        → IsReading S.made letter text.now start old result out.new }
     ensures onward { (from.at ≤ result.at) × (from.count ≤ result.count) }
-    ensures within { (result.at ≤ length text.now) × (result.count ≤ length out.old) }
+    ensures starts { from.start + result.count ≤ result.start + from.count }
+    ensures within { (result.start < result.at) × (result.at ≤ length text.now) × (result.count ≤ length out.old) }
     ensures row { result.row < 43 }
 {
     let mut here = from;
@@ -88,47 +176,38 @@ fn read_threes<L: Letters>(
         return here;
     }
     'threes: while here.count < out.len() && 3 <= text.len() - here.at {
-        let Some(next) = step_of_three(here.row, text, here.at) else {
+        let Some(noted) = noted_three(near, here.row, text, here.at) else {
             break;
         };
-        here = taken(letters, here, next, out);
+        here = taken(here, noted, out);
     }
     here
 }
 
-/// Takes one more scalar. It writes the end of the part so far whether the part ends there or not, so that no branch
-/// depends on it.
+/// Takes one more scalar. It writes the part so far whether it ends there or not, so that no branch depends on it.
 #[inline(always)]
-fn taken<L: Letters>(letters: &L, here: Reading, next: NextStep, out: &mut [PartEnd]) -> Reading
+fn taken<S: PartSlot>(here: Reading, noted: Noted, out: &mut [S]) -> Reading
     requires room { here.count < length out.old }
-    requires reads { (text : List ℕ) × IsNextStep text here.row here.at next }
-    ensures reads { (text : List ℕ) (start : ℕ) → IsNextStep text here.row here.at next
-        → IsReading (L.letter_of letters.now) text start here out.old
-        → IsReading (L.letter_of letters.now) text start result out.new }
-    ensures place { (result.at ≡ next.end) × (result.row ≡ next.step.next) }
+    requires few { (here.start < here.at) × (here.at < 2 ^ 32) }
+    ensures reads { (letter : ℕ → Bool) (text : List ℕ) (start : Filled) (old : List S)
+        → IsNotedStep letter text here.row here.at noted
+        → IsReading S.made letter text start old here out.old
+        → IsReading S.made letter text start old result out.new }
+    ensures place { (result.at ≡ noted.next.end) × (result.row ≡ noted.next.step.next) }
+    ensures start { (here.start ≤ result.start) × (result.start ≤ here.at) }
+    ensures starts { here.start + result.count ≤ result.start + here.count }
     ensures count { (here.count ≤ result.count) × (result.count ≤ here.count + 1) }
-    ensures cut { next.step.cuts ≡ true → here.count < result.count }
+    ensures cut { noted.next.step.cuts ≡ true → here.count < result.count }
 {
-    put_end(here, out);
+    out[here.count].put(here.start, here.at, here.has_letter);
+    let step = noted.next.step;
     Reading {
-        count: here.count + usize::from(next.step.cuts),
-        at: next.end,
-        row: next.step.next,
-        has_letter: letters.is_letter(next.code) | (here.has_letter & !next.step.cuts),
+        count: here.count + usize::from(step.cuts),
+        start: one_of(step.cuts, here.at, here.start),
+        at: noted.next.end,
+        row: step.next,
+        has_letter: noted.is_letter | (here.has_letter & !step.cuts),
     }
-}
-
-/// Writes where the part so far ends. Its fields are written one by one: a whole end would be copied with the bytes
-/// behind its fields.
-#[inline(always)]
-fn put_end(here: Reading, out: &mut [PartEnd])
-    requires { here.count < length out.old }
-    ensures kept { take here.count out.new ≡ take here.count out.old }
-    ensures put { take (here.count + 1) out.new ≡ take here.count out.old ++ end_of here ∷ [] }
-{
-    let end = &mut out[here.count];
-    end.at = here.at;
-    end.has_letter = here.has_letter;
 }
 
 /// Where the next parts of a text end, from a boundary on, as far as bits tell it: a bit for each byte from there on, the

@@ -1,6 +1,6 @@
 //! Letters, as those who ask for the parts of a text tell them.
 
-ghost use Rattle.std.specs.Prelude.{◌≡◌, ℕ, Bool};
+ghost use Rattle.std.specs.Prelude.{◌≡◌, ℕ, ◌<◌, ◌^◌, Bool};
 ghost use Rattle.lbk_words.specs.Places.{IsReadAs};
 
 /// Something that tells which scalars are letters.
@@ -14,11 +14,13 @@ pub trait Letters {
         ensures { result ≡ letter_of self.now code };
 }
 
-/// Where a part of a text ends, and what it holds.
-#[derive(Clone, Copy)]
-pub struct PartEnd {
-    /// The byte after it.
-    pub at: usize,
-    /// Whether it holds a letter.
-    pub has_letter: bool,
+/// Something that a part of a text is written over.
+pub trait PartSlot {
+    // What is written there of a part from one byte up to another, which holds a letter or none.
+    ghost made: { ℕ → ℕ → Bool → Self };
+
+    /// Writes a part.
+    fn put(&mut self, start: usize, end: usize, has_letter: bool)
+        requires { (start < 2 ^ 32) × (end < 2 ^ 32) }
+        ensures { self.new ≡ made start end has_letter };
 }

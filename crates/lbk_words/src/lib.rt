@@ -13,6 +13,7 @@ mod kinds;
 pub mod laws;
 mod letter_table;
 mod letters;
+mod near;
 mod parts;
 mod scalars;
 mod step_table;
@@ -20,7 +21,8 @@ mod steps;
 mod word;
 
 pub use calls::{WordState, lbk_words};
-pub use ends::{ends_from, fill_ends};
+pub use ends::{ends_from, fill_parts};
 pub use filling::fill;
-pub use letters::{Letters, PartEnd};
+pub use letters::{Letters, PartSlot};
+pub use near::NearScalars;
 pub use word::{Filled, Word};

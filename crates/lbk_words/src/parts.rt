@@ -161,7 +161,7 @@ fn ended(part: Filling, out: &mut [Word]) -> Filled
 
 /// One of two places.
 #[inline(always)]
-fn one_of(is_first: bool, first: usize, second: usize) -> usize
+pub(crate) fn one_of(is_first: bool, first: usize, second: usize) -> usize
     ensures { result ≡ (if is_first then first else second) }
 {
     if is_first { first } else { second }

@@ -1,14 +1,15 @@
 //! What one more scalar makes of a part of a text, by tables.
 
-ghost use Rattle.std.specs.Prelude.{◌≡◌, ◌+◌, ◌<◌, ◌≤◌, false, length, IfSome};
+ghost use Rattle.std.specs.Prelude.{◌≡◌, ℕ, ◌<◌, false, length};
 ghost use Rattle.ucd_breaks.specs.declared.WordBreak.{WordBreak};
 ghost use Rattle.unicode_segmentation.specs.Word.{significant, value_at};
 ghost use Rattle.lbk_words.specs.Filling.{IsNextStep};
+ghost use Rattle.lbk_words.specs.Near.{IsOfKind};
 ghost use Rattle.lbk_words.specs.Rows.{IsFirstRow, IsStep, row_word, step_number, told};
 ghost use Rattle.lbk_words.specs.Words.{scalars_on};
 
 use crate::kinds::kind_of;
-use crate::scalars::{Scalar, answer_ahead, scalar_at, three_at};
+use crate::scalars::{Scalar, answer_ahead, scalar_at};
 use crate::step_table::{ARE_WORDS, FIRST_ROWS, STEPS};
 
 /// How many rows there are. A row is what the rules ask of a part so far, and whether the part has a letter or a
@@ -43,7 +44,16 @@ pub(crate) struct NextStep {
 pub(crate) fn first_row(first: Scalar) -> usize
     ensures { IsFirstRow first.code result }
 {
-    FIRST_ROWS[kind_of(first.code) as usize] as usize
+    first_row_of(kind_of(first.code) as usize)
+}
+
+/// The row of a part of one scalar of this kind.
+#[inline(always)]
+pub(crate) fn first_row_of(kind: usize) -> usize
+    requires { kind < 32 }
+    ensures { (code : ℕ) → IsOfKind code kind → IsFirstRow code result }
+{
+    FIRST_ROWS[kind] as usize
 }
 
 /// Whether a part of this row is a word.
@@ -69,37 +79,27 @@ pub(crate) fn next_step(row: usize, text: &[u8], at: usize) -> NextStep
     }
 }
 
-/// What the scalar at a byte makes of a part of this row, where its first byte tells that it takes three, and no step
-/// depends on what follows it.
-#[inline(always)]
-pub(crate) fn step_of_three(row: usize, text: &[u8], at: usize) -> Option<NextStep>
-    requires { (row < 43) × (at + 3 ≤ length text.now) }
-    ensures { IfSome result (IsNextStep text.now row at) }
-{
-    let next = three_at(text, at)?;
-    let step = step_unasked(row, next.code);
-    if step.asks {
-        return None;
-    }
-    Some(NextStep {
-        code: next.code,
-        step,
-        end: next.end,
-    })
-}
-
 /// What the next scalar of a text makes of a part of this row.
 #[inline(always)]
 pub(crate) fn step_of(row: usize, next: Scalar, text: &[u8]) -> Step
     requires { row < 43 }
     ensures { IsStep row next.code (value_at (significant (scalars_on text.now next.end)) 0) result }
 {
-    let kind = kind_of(next.code) as usize;
+    step_by_kind(row, kind_of(next.code) as usize, text, next.end)
+}
+
+/// What a scalar of this kind makes of a part of this row, where the text goes on at the byte `end`.
+#[inline(always)]
+pub(crate) fn step_by_kind(row: usize, kind: usize, text: &[u8], end: usize) -> Step
+    requires { (row < 43) × (kind < 32) }
+    ensures { (code : ℕ) → IsOfKind code kind
+        → IsStep row code (value_at (significant (scalars_on text.now end)) 0) result }
+{
     let step = step_at(0, row, kind);
     if !step.asks {
         return step;
     }
-    step_at(answer_ahead(text, next.end), row, kind)
+    step_at(answer_ahead(text, end), row, kind)
 }
 
 /// What a scalar of one byte makes of a part of this row. It is right where the step does not ask.
@@ -117,7 +117,16 @@ pub(crate) fn step_unasked(row: usize, code: u32) -> Step
     requires { (row < 43) × (code < 0x11_0000) }
     ensures { result.asks ≡ false → (far : WordBreak) → IsStep row code far result }
 {
-    step_at(0, row, kind_of(code) as usize)
+    step_of_kind(row, kind_of(code) as usize)
+}
+
+/// What a scalar of this kind makes of a part of this row. It is right where the step does not ask.
+#[inline(always)]
+pub(crate) fn step_of_kind(row: usize, kind: usize) -> Step
+    requires { (row < 43) × (kind < 32) }
+    ensures { result.asks ≡ false → (code : ℕ) (far : WordBreak) → IsOfKind code kind → IsStep row code far result }
+{
+    step_at(0, row, kind)
 }
 
 /// The step that the table has for a row and a kind, and an answer to what is after the scalar.

@@ -18,6 +18,7 @@ loop-start-init g c =
       most = omega (arith, c.clear.ensures.room, le-max_left (vec_capacity c.args.pieces.now.items) (2 * c.clear.new.self.count));
       within = omega arith;
       utf8 = c.utf8.text;
+      met = c.requires.met;
     }
 
 pub returns-in_err-start-clause-most : goal.returns-in_err-start-clause-most
@@ -54,6 +55,7 @@ loop-start-preserved g c =
           grows.most grows.onward;
       within = next.within;
       utf8 = next.utf8;
+      met = c.cut_next.ensures.met;
     }
 
 pub returns-clause-cut : goal.returns-clause-cut

@@ -1,6 +1,7 @@
 use Rattle.std.proofs.Common.{◌≡◌, ◌*◌, ◌-◌, ◌≤◌, ◌++◌, drop, length, max, vec_capacity}
 use Rattle.std.specs.Str.{IsUtf8}
-use Rattle.lbk_passage.specs.Pieces.{pieces_of, pieces_on}
+use Rattle.lbk_passage.specs.Pieces.{letter_by, pieces_of, pieces_on}
+use Rattle.lbk_words.specs.Near.{AreMet}
 use Rattle.lbk_passage.specs.Front.{items_of}
 use Rattle.lbk_passage.proofs.pieces.cut_words.Given as goal
 
@@ -13,6 +14,7 @@ invariant-loop-start g l =
       most : vec_capacity l.pieces.items ≤ max (vec_capacity l.fn.pieces.items) (2 * l.pieces.count);
       within : l.start ≤ length l.text;
       utf8 : IsUtf8 (drop l.start l.text);
+      met : AreMet (letter_by cell) l.near;
     }
 
 abbrev pub decreases-loop-start : goal.decreases-loop-start

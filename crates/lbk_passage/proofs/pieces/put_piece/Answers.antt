@@ -1,7 +1,6 @@
-use Rattle.std.proofs.Common.{ap, take, ◌∙◌, arith}
+use Rattle.std.proofs.Common.{[], ◌∷◌, ◌++◌, ap, take, ◌∙◌, arith}
 use Rattle.std.proofs.lemmas.List.{take_more_set}
 use Rattle.std.proofs.lemmas.Str.{IsCharBoundary-from_drop}
-use Rattle.lbk_passage.specs.declared.passage.Piece.{Piece}
 use Rattle.lbk_passage.specs.Pieces.{is_word}
 use Rattle.lbk_passage.proofs.PieceLemmas.{cut-one, piece-ends}
 use Rattle.lbk_passage.proofs.pieces.put_piece.Goals as goal
@@ -17,6 +16,7 @@ returns g c =
     let cell = g.C.CellSource.cell_of c.args.known.now.cells.now in
     let all = c.args.pieces.now in
     let at = c.args.at in
-    let piece : Piece = record { start = c.args.start; end = c.args.end; word = c.is_word-piece.result } in
-    cut-one cell c.args.text.now c.args.start c.args.end c.requires.piece.0 c.is_word-piece.result (take at all) _ c.requires.utf8 c.requires.piece.1
-    (c.is_word-piece.ensures ∙ ap (is_word cell) c.range.ensures.value) (take_more_set all at piece c.requires.room)
+    let word = c.is_word-word.result in
+    cut-one cell c.args.text.now c.args.start c.args.end c.requires.piece.0 word (take at all) _ c.requires.utf8 c.requires.piece.1
+    (c.is_word-word.ensures ∙ ap (is_word cell) c.range.ensures.value)
+    (take_more_set all at c.put.new.self c.requires.room ∙ ap (λ piece. take at all ++ piece ∷ []) c.put.ensures)

@@ -1,15 +1,19 @@
-use Rattle.std.proofs.Common.{ℕ, ◌≡◌, ◌-◌, ◌<◌, ◌≤◌, length}
+use Rattle.std.proofs.Common.{ℕ, ◌≡◌, ◌+◌, ◌-◌, ◌<◌, ◌≤◌, Bool, List, length}
+use Rattle.lbk_words.specs.declared.word.Filled.{Filled}
 use Rattle.lbk_words.specs.Ends.{IsReading}
+use Rattle.lbk_words.specs.Near.{AreMet}
 use Rattle.lbk_words.proofs.ends.read_threes.Given as goal
 
 abbrev pub invariant-threes : goal.invariant-threes
 invariant-threes g l = record {
   few : l.here.row < 43;
   onward : (l.fn.from.at ≤ l.here.at) × (l.fn.from.count ≤ l.here.count);
-  within : (l.here.at ≤ length l.text) × (l.here.count ≤ length l.out);
+  starts : l.fn.from.start + l.here.count ≤ l.here.start + l.fn.from.count;
+  within : (l.here.start < l.here.at) × (l.here.at ≤ length l.text) × (l.here.count ≤ length l.out);
   len : length l.out ≡ length l.fn.out;
-  reads : (start : ℕ) → IsReading (g.L.Letters.letter_of l.letters) l.text start l.fn.from l.fn.out
-      → IsReading (g.L.Letters.letter_of l.letters) l.text start l.here l.out;
+  reads : (letter : ℕ → Bool) → AreMet letter l.near → (start : Filled) (old : List g.row.S.Denot)
+      → IsReading g.S.PartSlot.made letter l.text start old l.fn.from l.fn.out
+      → IsReading g.S.PartSlot.made letter l.text start old l.here l.out;
 }
 
 abbrev pub decreases-threes : goal.decreases-threes

@@ -7,9 +7,8 @@ invariant-loop-filler g l = record {
   items : items_of l.self ≡ items_of l.fn.self;
   count : l.self.count ≡ l.fn.self.count;
   capacity : vec_capacity l.self.items ≡ vec_capacity l.initial.self.items;
-  few : vec_len l.self.items ≤ l.all;
   fits : l.all ≤ vec_capacity l.self.items;
 }
 
 abbrev pub decreases-loop-filler : goal.decreases-loop-filler
-decreases-loop-filler g l = l.all - vec_len l.self.items
+decreases-loop-filler g l = vec_capacity l.self.items - vec_len l.self.items

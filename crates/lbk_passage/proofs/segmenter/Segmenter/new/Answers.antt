@@ -1,6 +1,7 @@
 use Rattle.std.proofs.Common.{◌||◌, refl, sym, ap, arith, ◌∙◌}
 use Rattle.lbk_passage.proofs.AheadLemmas.{HasAhead-nothing}
 use Rattle.std.proofs.lemmas.Bool.{false≢true}
+use Rattle.lbk_passage.specs.Pieces.{letter_by}
 use Rattle.lbk_passage.specs.State.{new_state}
 use Rattle.lbk_passage.proofs.segmenter.Segmenter.new.Goals as goal
 
@@ -12,6 +13,7 @@ invariant_of-result g c = record {
       sym (ap (λ s. s.is_settled) (c.in-Ok.ensures.state (g.C.CellSource.cell_of c.args.cells.now) c.args.profile))
       ∙ ap (λ b. b || c.in-Ok.paragraph.is_spent) held
       ));
+  met = c.new-2.ensures (letter_by (g.C.CellSource.cell_of c.of.result.cells.now));
 }
 
 pub returns-clause-state : goal.returns-clause-state

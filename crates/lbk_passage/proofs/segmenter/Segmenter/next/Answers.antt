@@ -196,13 +196,19 @@ cut_lines-requires-clause-told g c = λ some.
     (kept c.in_ok-end.ensures.held some c.in-Some.end (sym c.in_ok-end.ensures.end ∙ c.in-Some.is))
 
 pub invariant_of-self : goal.invariant_of-self
-invariant_of-self g c = filled g (goal.at.invariant_of-self g c).After-fill
+invariant_of-self g c =
+    let kept = filled g (goal.at.invariant_of-self g c).After-fill in
+    record { told = kept.told; found = kept.found; whole = kept.whole; met = c.args.self.now.met }
 
 pub invariant_of-self-then-is_err : goal.invariant_of-self-then-is_err
-invariant_of-self-then-is_err g c = filled g (goal.at.invariant_of-self-then-is_err g c).After-fill
+invariant_of-self-then-is_err g c =
+    let kept = filled g (goal.at.invariant_of-self-then-is_err g c).After-fill in
+    record { told = kept.told; found = kept.found; whole = kept.whole; met = c.args.self.now.met }
 
 pub invariant_of-self-then-is_err-2 : goal.invariant_of-self-then-is_err-2
-invariant_of-self-then-is_err-2 g c = filled g (goal.at.invariant_of-self-then-is_err-2 g c).After-fill
+invariant_of-self-then-is_err-2 g c =
+    let kept = filled g (goal.at.invariant_of-self-then-is_err-2 g c).After-fill in
+    record { told = kept.told; found = kept.found; whole = kept.whole; met = c.cut_words.ensures.met }
 
 pub invariant_of-self-2 : goal.invariant_of-self-2
 invariant_of-self-2 g c =
@@ -213,4 +219,5 @@ invariant_of-self-2 g c =
       found = subst (λ f. IsAhead s.profile cell f.ready c.tell-told.new.self) (sym c.release.ensures.feed)
           (filled g (goal.at.invariant_of-self-2 g c).After-fill).found;
       whole = λ held. absurd (let no = sym c.release.ensures.held ∙ held in cc);
+      met = c.cut_words.ensures.met;
     }

@@ -1,0 +1,19 @@
+use Rattle.std.proofs.Common.{◌∙◌, arith}
+use Rattle.lbk_words.proofs.ends.read_threes.Goals as goal
+
+pub threes-preserved : goal.threes-preserved
+threes-preserved g c =
+    let i = c.threes.invariant in
+    let next = c.in-Some.ensures.next in
+    let t = c.taken-here.ensures in
+    let grows = next.read.grows in
+    let within = next.read.within in
+    record {
+      few = omega (arith, next.step.next, t.place.1);
+      onward = (omega (arith, i.onward, grows, t.place.0), omega (arith, i.onward, t.count));
+      starts = omega (arith, i.starts, t.starts);
+      within = (omega (arith, t.start.1, t.place.0, grows), omega (arith, t.place.0, within), omega (arith, t.count, c.threes-test.true, c.taken-here.auto.out));
+      len = c.taken-here.auto.out ∙ i.len;
+      reads = λ letter met start old r.
+          t.reads letter c.args.text.now start old (record { next = next; told = c.in-Some.ensures.told letter met }) (i.reads letter met start old r);
+    }
