@@ -4,6 +4,7 @@ import copy
 import itertools
 import mmap
 import multiprocessing
+import os
 import pathlib
 import pickle
 import tempfile
@@ -17,6 +18,8 @@ import samples
 from lbk import Columns, ListColumns, Table
 
 TEXTS = ["é à\n一", "", "a « b » c", b"a b\r\nc d", "ab cd\n" * 400]
+# gcc's checkers of memory do not release their locks in a forked process, which may then wait forever.
+STARTS = ("spawn",) if "libasan" in os.environ.get("LD_PRELOAD", "") else ("fork", "spawn")
 
 
 def protocols(lowest=0):
@@ -136,7 +139,7 @@ class Folders(unittest.TestCase):
 
     def test_processes_share_the_work(self):
         for table in (Table.load(self.folder), samples.table()):
-            for start in ("fork", "spawn"):
+            for start in STARTS:
                 with self.subTest(start), ProcessPoolExecutor(2, multiprocessing.get_context(start)) as processes:
                     for call in (table.break_columns, table.breaks, table.segments, table.passages):
                         found = list(processes.map(call, TEXTS))
