@@ -7,10 +7,12 @@ use Rattle.bstr.specs.Utf8.{Decoded, pieces}
 use Rattle.lbk_masks.specs.Sets.{is_set}
 use Rattle.lbk_words.specs.Blocks.{ArePlain, begins_at, runs_at}
 use Rattle.lbk_words.specs.Filling.{IsInRow, IsNextStep}
+use Rattle.lbk_words.specs.Near.{AreMet}
 use Rattle.lbk_words.specs.Places.{IsFirstPiece}
 use Rattle.lbk_words.specs.Words.{bytes_of, scalars_of}
 use Rattle.lbk_words.specs.declared.ends.Reading.{Reading}
 use Rattle.lbk_words.specs.declared.ends.Noted.{Noted}
+use Rattle.lbk_words.specs.declared.near.NearScalars.{NearScalars}
 use Rattle.lbk_words.specs.declared.word.Filled.{Filled}
 
 -- CR LF, and two spaces (rules WB3 and WB3d)
@@ -80,3 +82,12 @@ pub record IsReading {X : Type 0} (made : ℕ → ℕ → Bool → X) (letter : 
   pub fills : FillsParts made letter text from old (record { count = here.count; at = here.start }) out
   pub part : IsInRow text here.start here.at here.row
   pub noted : IsNoted letter text here.start here.at here.has_letter
+
+-- more scalars of a text are read, by what is kept of those that were met, and the parts that end there put behind the others
+pub record ReadsOn {X : Type 0} (made : ℕ → ℕ → Bool → X) (near : NearScalars) (text : List ℕ) (from : Reading) (old : List X) (to : Reading) (new : List X) : Type 0 where
+  pub reads : (letter : ℕ → Bool) → AreMet letter near → (start : Filled) (first : List X)
+      → IsReading made letter text start first from old → IsReading made letter text start first to new
+  pub onward : (from.at ≤ to.at) × (from.count ≤ to.count)
+  pub starts : from.start + to.count ≤ to.start + from.count
+  pub within : (to.start < to.at) × (to.at ≤ length text) × (to.count ≤ length old)
+  pub row : to.row < 43

@@ -18,36 +18,28 @@ pub(crate) fn scalar_of_few(bytes: &[u8]) -> Option<Coded>
     ensures { IfSome result (λ scalar. decoded bytes.now ≡ good scalar.code scalar.size) }
 {
     let first = *bytes.first()?;
-    if first < 0xC2 || 0xEF < first || bytes.len() < 3 {
+    if first < 0xC2 || bytes.len() < 3 {
         return None;
+    }
+    if 0xE0 <= first {
+        return scalar_of_three(bytes);
     }
     let next = bytes[1];
     if !is_continuation(next) {
         return None;
     }
-    if first < 0xE0 {
-        return Some(Coded {
-            code: code_of_two(first, next),
-            size: 2,
-        });
-    }
-    let last = bytes[2];
-    if !is_continuation(last) {
-        return None;
-    }
-    let code = code_of_three(first, next, last);
-    if !takes_three(code) {
-        return None;
-    }
-    Some(Coded { code, size: 3 })
+    Some(Coded {
+        code: code_of_two(first, next),
+        size: 2,
+    })
 }
 
-/// The scalar at the front of three bytes or more, by few comparisons, where any two continuation bytes may follow its
-/// first byte.
+/// The scalar of three bytes at the front of three bytes or more.
 #[inline(always)]
 pub(crate) fn scalar_of_three(bytes: &[u8]) -> Option<Coded>
     requires { 3 ≤ length bytes.now }
-    ensures { IfSome result (λ scalar. decoded bytes.now ≡ good scalar.code scalar.size) }
+    ensures reads { IfSome result (λ scalar. decoded bytes.now ≡ good scalar.code scalar.size) }
+    ensures size { IfSome result (λ scalar. scalar.size ≡ 3) }
 {
     let first = bytes[0];
     if !begins_three(first) {
@@ -58,10 +50,11 @@ pub(crate) fn scalar_of_three(bytes: &[u8]) -> Option<Coded>
     if !is_continuation(next) || !is_continuation(last) {
         return None;
     }
-    Some(Coded {
-        code: code_of_three(first, next, last),
-        size: 3,
-    })
+    let code = code_of_three(first, next, last);
+    if !takes_three(code) {
+        return None;
+    }
+    Some(Coded { code, size: 3 })
 }
 
 /// How the bytes of a scalar count in its code, by how many they are.
@@ -124,13 +117,12 @@ fn width_of(first: u8) -> &'static Width
     &WIDTHS[usize::from(first / 16 % 2)]
 }
 
-/// Whether a byte is the first of a scalar of three bytes, and neither 0xE0 nor 0xED, which not every continuation byte
-/// may follow.
+/// Whether a scalar of three bytes may begin with a byte.
 #[inline(always)]
 pub(crate) fn begins_three(byte: u8) -> bool
-    ensures { result ≡ true → (0xE0 < byte) × (byte < 0xF0) × (byte < 0xED ⊎ 0xED < byte) }
+    ensures { result ≡ true → (0xE0 ≤ byte) × (byte < 0xF0) }
 {
-    0xE0 < byte && byte < 0xF0 && byte != 0xED
+    0xE0 <= byte && byte < 0xF0
 }
 
 /// Whether a byte may follow the first byte of a scalar.
@@ -146,7 +138,10 @@ fn is_continuation(byte: u8) -> bool
 fn takes_three(code: u32) -> bool
     ensures { result ≡ true → (0x800 ≤ code) × (code < 0xD800 ⊎ 0xE000 ≤ code) }
 {
-    (0x7FF < code && code < 0xD800) || 0xDFFF < code
+    if code < 0x800 {
+        return false;
+    }
+    code < 0xD800 || 0xDFFF < code
 }
 
 #[inline(always)]

@@ -1,8 +1,8 @@
 //! The parts of a text, and where they end: its cutting at word boundaries (UAX #29, section 4).
 
-ghost use Rattle.std.specs.Prelude.{◌≡◌, ℕ, ◌+◌, ◌-◌, ◌<◌, ◌≤◌, ◌^◌, List, Bool, true, get_or, length, IfSome};
+ghost use Rattle.std.specs.Prelude.{◌≡◌, ℕ, ◌+◌, ◌-◌, ◌*◌, ◌<◌, ◌≤◌, ◌⊎◌, ◌^◌, List, Bool, true, get_or, length, IfSome};
 ghost use Rattle.lbk_masks.specs.Sets.{is_set};
-ghost use Rattle.lbk_words.specs.Ends.{AreEnds, AreTold, FillsParts, IsNotedStep, IsReading, is_pair};
+ghost use Rattle.lbk_words.specs.Ends.{AreEnds, AreTold, FillsParts, IsNotedStep, IsReading, ReadsOn, is_pair};
 ghost use Rattle.lbk_words.specs.Filling.{IsNextStep};
 ghost use Rattle.lbk_words.specs.Near.{AreMet};
 
@@ -10,7 +10,7 @@ use crate::blocks::{BLOCK, marks_of, wides_of};
 use crate::letters::{Letters, PartSlot};
 use crate::near::NearScalars;
 use crate::parts::one_of;
-use crate::scalars::{WIDE, scalar_at, three_at};
+use crate::scalars::{scalar_at, scalar_of_size};
 use crate::steps::{NextStep, first_row_of, step_by_kind, step_of_kind};
 use crate::word::Filled;
 use lbk_masks::{equal, first_set, kept_below, kept_from};
@@ -20,6 +20,9 @@ const FEW: usize = 3;
 
 /// The first byte value with which few letters of two bytes begin, or longer ones do.
 const LONG: u8 = 0xDC;
+
+/// How far a text is looked at for a scalar of three bytes or more, near which steps tell ends as fast as bits do.
+const SOON: usize = 20;
 
 /// The top bit of each of eight bytes.
 const TOPS: u64 = 0x8080_8080_8080_8080;
@@ -84,7 +87,7 @@ pub fn fill_parts<L: Letters, S: PartSlot>(
                 at: read.start,
             };
         }
-        here = read_threes(near, text, text[here.at], read, out);
+        here = read_runs(near, text, read, out);
         if here.count == out.len() {
             return Filled {
                 count: here.count,
@@ -125,16 +128,24 @@ fn noted_at<L: Letters>(
     }
 }
 
-/// The same, where its first byte tells that it takes three, it was met before, and no step depends on what follows it.
+/// The same, where its first byte tells that it takes one or three (`SIZE`), it was met before, and no step depends on what
+/// follows it.
 #[inline(always)]
-fn noted_three(near: &NearScalars, row: usize, text: &[u8], at: usize) -> Option<Noted>
-    requires place { (row < 43) × (at + 3 ≤ length text.now) }
+fn noted_alike<const SIZE: usize>(
+    near: &NearScalars,
+    row: usize,
+    text: &[u8],
+    at: usize,
+) -> Option<Noted>
+    requires size { (SIZE ≡ 1) ⊎ (SIZE ≡ 3) }
+    requires place { (row < 43) × (at + SIZE ≤ length text.now) }
     requires met { (letter : ℕ → Bool) × AreMet letter near.now }
     ensures next { IfSome result (λ noted. IsNextStep text.now row at noted.next) }
     ensures told { IfSome result (λ noted. (letter : ℕ → Bool) → AreMet letter near.now
         → noted.is_letter ≡ letter noted.next.code) }
+    ensures end { IfSome result (λ noted. noted.next.end ≡ at + SIZE) }
 {
-    let scalar = three_at(text, at)?;
+    let scalar = scalar_of_size::<SIZE>(text, at)?;
     let told = near.kept(scalar.code)?;
     let step = step_of_kind(row, told.kind);
     if step.asks {
@@ -150,36 +161,46 @@ fn noted_three(near: &NearScalars, row: usize, text: &[u8], at: usize) -> Option
     })
 }
 
-/// Goes on by scalars of three bytes where the scalar before begins with such a byte, since they come in runs.
+/// Goes on by scalars of one byte, a few, and then by those of three, since those of one size come in runs.
 #[inline(always)]
-fn read_threes<S: PartSlot>(
-    near: &NearScalars,
-    text: &[u8],
-    before: u8,
-    from: Reading,
-    out: &mut [S],
-) -> Reading
+fn read_runs<S: PartSlot>(near: &NearScalars, text: &[u8], from: Reading, out: &mut [S]) -> Reading
     requires few { length text.now < 2 ^ 32 }
     requires place { (from.start < from.at) × (from.at ≤ length text.now) × (from.count ≤ length out.old) }
     requires row { from.row < 43 }
     requires met { (letter : ℕ → Bool) × AreMet letter near.now }
-    ensures reads { (letter : ℕ → Bool) → AreMet letter near.now → (start : Filled) (old : List S)
-        → IsReading S.made letter text.now start old from out.old
-        → IsReading S.made letter text.now start old result out.new }
-    ensures onward { (from.at ≤ result.at) × (from.count ≤ result.count) }
-    ensures starts { from.start + result.count ≤ result.start + from.count }
-    ensures within { (result.start < result.at) × (result.at ≤ length text.now) × (result.count ≤ length out.old) }
-    ensures row { result.row < 43 }
+    ensures { ReadsOn S.made near.now text.now from out.old result out.new }
+{
+    let few = SOON.min(text.len() - from.at).min(out.len() - from.count);
+    let ones = read_alike::<1, S>(near, text, few, from, out);
+    let most = ((text.len() - ones.at) / 3).min(out.len() - ones.count);
+    read_alike::<3, S>(near, text, most, ones, out)
+}
+
+/// Goes on by so many scalars of one byte or of three (`SIZE`), or by fewer where another one comes.
+#[inline(always)]
+fn read_alike<const SIZE: usize, S: PartSlot>(
+    near: &NearScalars,
+    text: &[u8],
+    most: usize,
+    from: Reading,
+    out: &mut [S],
+) -> Reading
+    requires few { length text.now < 2 ^ 32 }
+    requires place { (from.start < from.at) × (from.at ≤ length text.now) × (from.count + most ≤ length out.old) }
+    requires size { (SIZE ≡ 1) ⊎ (SIZE ≡ 3) }
+    requires within { from.at + SIZE * most ≤ length text.now }
+    requires row { from.row < 43 }
+    requires met { (letter : ℕ → Bool) × AreMet letter near.now }
+    ensures { ReadsOn S.made near.now text.now from out.old result out.new }
 {
     let mut here = from;
-    if before < WIDE {
-        return here;
-    }
-    'threes: while here.count < out.len() && 3 <= text.len() - here.at {
-        let Some(noted) = noted_three(near, here.row, text, here.at) else {
+    let mut left = most;
+    'alike: while 0 < left {
+        let Some(noted) = noted_alike::<SIZE>(near, here.row, text, here.at) else {
             break;
         };
         here = taken(here, noted, out);
+        left -= 1;
     }
     here
 }
@@ -268,13 +289,26 @@ fn may_tell(bytes: &[u8]) -> bool {
     is_usual(*first) && (0x80 <= *first || is_usual(bytes[1])) && !is_long_soon(bytes)
 }
 
-/// Whether a scalar of three bytes or more begins among the first eight of some bytes, if there are so many. One that
-/// begins behind the first two holds the fifth or the eighth, so most text of one byte a scalar needs one test.
+/// Whether a scalar of three bytes or more begins soon in some bytes: in the first eight, or further on if those before it
+/// seem to be of one byte each. One that begins behind the first two of eight holds the fifth or the eighth, so most text of
+/// one byte a scalar needs one test for six bytes.
 #[inline(always)]
 fn is_long_soon(bytes: &[u8]) -> bool {
-    if bytes.len() < 8 || bytes[4] | bytes[7] < 0x80 {
-        return false;
+    let mut at = 0;
+    'eights: while at + 8 <= SOON && at + 8 <= bytes.len() {
+        if 0x80 <= bytes[at + 4] | bytes[at + 7] {
+            return is_long_in(&bytes[at..]);
+        }
+        at += 6;
     }
+    false
+}
+
+/// Whether such a scalar begins in the first eight bytes.
+#[inline(always)]
+fn is_long_in(bytes: &[u8]) -> bool
+    requires { 8 ≤ length bytes.now }
+{
     let front = u64::from_le_bytes([
         bytes[0], bytes[1], bytes[2], bytes[3], bytes[4], bytes[5], bytes[6], bytes[7],
     ]);

@@ -1,6 +1,6 @@
 //! The scalars of a text, read from its bytes.
 
-ghost use Rattle.std.specs.Prelude.{◌≡◌, ◌+◌, ◌<◌, ◌≤◌, length, slice_range, IfSome};
+ghost use Rattle.std.specs.Prelude.{◌≡◌, ◌+◌, ◌<◌, ◌≤◌, ◌⊎◌, length, slice_range, IfSome};
 ghost use Rattle.bstr.specs.Utf8.{decoded, good, or_replacement};
 ghost use Rattle.unicode_segmentation.specs.Word.{significant, value_at};
 ghost use Rattle.lbk_words.specs.Places.{IsReadAt};
@@ -11,9 +11,6 @@ use crate::decoding::{Coded, scalar_of_few, scalar_of_three, scalar_of_wide};
 use crate::kinds::kind_of;
 use crate::step_table::ANSWERS;
 use bstr::decode_lossy;
-
-/// The first byte value with which scalars of three bytes or more begin.
-pub(crate) const WIDE: u8 = 0xE0;
 
 /// A scalar of a text.
 #[derive(Clone, Copy)]
@@ -31,12 +28,8 @@ pub(crate) fn scalar_at(text: &[u8], at: usize) -> Scalar
     requires { at < length text.now }
     ensures { IsReadAt text.now at result.code result.end }
 {
-    let byte = text[at];
-    if byte < 0x80 {
-        return Scalar {
-            code: u32::from(byte),
-            end: at + 1,
-        };
+    if let Some(one) = one_at(text, at) {
+        return one;
     }
     let rest = &text[at..];
     let Some(scalar) = scalar_of_few(rest) else {
@@ -49,11 +42,43 @@ pub(crate) fn scalar_at(text: &[u8], at: usize) -> Scalar
     placed(text, at, scalar)
 }
 
+/// The scalar at a byte of a text, where its first byte alone tells that it takes one, or may take three (`SIZE`).
+#[inline(always)]
+pub(crate) fn scalar_of_size<const SIZE: usize>(text: &[u8], at: usize) -> Option<Scalar>
+    requires size { (SIZE ≡ 1) ⊎ (SIZE ≡ 3) }
+    requires place { at + SIZE ≤ length text.now }
+    ensures reads { IfSome result (λ scalar. IsReadAt text.now at scalar.code scalar.end) }
+    ensures end { IfSome result (λ scalar. scalar.end ≡ at + SIZE) }
+{
+    if SIZE == 1 {
+        return one_at(text, at);
+    }
+    three_at(text, at)
+}
+
+/// The scalar at a byte of a text, where it takes one.
+#[inline(always)]
+fn one_at(text: &[u8], at: usize) -> Option<Scalar>
+    requires { at < length text.now }
+    ensures reads { IfSome result (λ scalar. IsReadAt text.now at scalar.code scalar.end) }
+    ensures end { IfSome result (λ scalar. scalar.end ≡ at + 1) }
+{
+    let byte = text[at];
+    if 0x80 <= byte {
+        return None;
+    }
+    Some(Scalar {
+        code: u32::from(byte),
+        end: at + 1,
+    })
+}
+
 /// The scalar at a byte of a text, where its first byte alone tells that it may take three.
 #[inline(always)]
 pub(crate) fn three_at(text: &[u8], at: usize) -> Option<Scalar>
     requires { at + 3 ≤ length text.now }
-    ensures { IfSome result (λ scalar. IsReadAt text.now at scalar.code scalar.end) }
+    ensures reads { IfSome result (λ scalar. IsReadAt text.now at scalar.code scalar.end) }
+    ensures end { IfSome result (λ scalar. scalar.end ≡ at + 3) }
 {
     let scalar = scalar_of_three(&text[at..])?;
     Some(placed(text, at, scalar))
@@ -74,7 +99,8 @@ pub(crate) fn wide_at(text: &[u8], at: usize) -> Option<Scalar>
 fn placed(text: &[u8], at: usize, scalar: Coded) -> Scalar
     requires inside { at < length text.now }
     requires stands { decoded (slice_range text.now at (length text.now)) ≡ good scalar.code scalar.size }
-    ensures { IsReadAt text.now at result.code result.end }
+    ensures reads { IsReadAt text.now at result.code result.end }
+    ensures end { result.end ≡ at + scalar.size }
 {
     Scalar {
         code: scalar.code,

@@ -35,31 +35,31 @@ pub returns-then-here-out-clause-onward : goal.returns-then-here-out-clause-onwa
 returns-then-here-out-clause-onward g c =
     let i = c.scalars.invariant in
     let t = c.taken-read.ensures in
-    let r = c.read_threes-here.ensures in
+    let r = c.read_runs-here.ensures in
     let full = c.if-here-out.true in
     let some = c.requires.some in
-    let more : c.args.from.count < c.read_threes-here.result.count = omega (arith, full, some, i.len, c.taken-read.auto.out, c.read_threes-here.auto.out) in
+    let more : c.args.from.count < c.read_runs-here.result.count = omega (arith, full, some, i.len, c.taken-read.auto.out, c.read_runs-here.auto.out) in
     (more, omega (arith, more, i.onward, t.starts, r.starts))
 
 pub returns-then-here-out-clause-parts : goal.returns-then-here-out-clause-parts
 returns-then-here-out-clause-parts g c =
     let letter = g.L.Letters.letter_of c.args.letters.now in
     let read = c.taken-read.ensures.reads letter c.args.text.now c.args.from c.args.out.now c.noted_at-noted.ensures.noted c.scalars.invariant.reads in
-    (c.read_threes-here.ensures.reads letter c.noted_at-noted.ensures.met c.args.from c.args.out.now read).fills
+    (c.read_runs-here.ensures.reads letter c.noted_at-noted.ensures.met c.args.from c.args.out.now read).fills
 
 pub scalars-preserved : goal.scalars-preserved
 scalars-preserved g c =
     let letter = g.L.Letters.letter_of c.args.letters.now in
     let i = c.scalars.invariant in
     let t = c.taken-read.ensures in
-    let r = c.read_threes-here.ensures in
+    let r = c.read_runs-here.ensures in
     let read = t.reads letter c.args.text.now c.args.from c.args.out.now c.noted_at-noted.ensures.noted i.reads in
     record {
       few = r.row;
       within = (r.within.0, r.within.1);
       onward = (omega (arith, i.onward, t.count, r.onward), omega (arith, i.onward, t.starts, r.starts));
-      count = omega (arith, r.within.2, c.read_threes-here.auto.out, c.if-here-out.false);
-      len = c.read_threes-here.auto.out ∙ c.taken-read.auto.out ∙ i.len;
+      count = omega (arith, r.within.2, c.read_runs-here.auto.out, c.if-here-out.false);
+      len = c.read_runs-here.auto.out ∙ c.taken-read.auto.out ∙ i.len;
       met = c.noted_at-noted.ensures.met;
       reads = r.reads letter c.noted_at-noted.ensures.met c.args.from c.args.out.now read;
     }

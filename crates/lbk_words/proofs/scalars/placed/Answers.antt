@@ -7,5 +7,5 @@ overflow_add-result c =
     let read = coded-read c.args.text.now c.args.at c.args.scalar.code c.args.scalar.size c.requires.inside c.requires.stands in
     omega (arith, read.within)
 
-pub returns : goal.returns
-returns c = coded-read c.args.text.now c.args.at c.args.scalar.code c.args.scalar.size c.requires.inside c.requires.stands
+pub returns-clause-reads : goal.returns-clause-reads
+returns-clause-reads c = coded-read c.args.text.now c.args.at c.args.scalar.code c.args.scalar.size c.requires.inside c.requires.stands
