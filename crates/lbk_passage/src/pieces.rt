@@ -113,7 +113,7 @@ fn cut_by_steps<C: CellSource>(
         at: start,
     };
     let slots = pieces.items.as_mut_slice();
-    let filled = fill_parts(known, near, text.as_bytes(), from, slots);
+    let filled = fill_parts(known, near, text, from, slots);
     pieces.count = filled.count;
     Ok(filled.at)
 }

@@ -1,7 +1,7 @@
 //! The scalars of two to four bytes, read without a call.
 
-ghost use Rattle.std.specs.Prelude.{◌≡◌, ◌<◌, ◌≤◌, ◌⊎◌, true, length, IfSome};
-ghost use Rattle.bstr.specs.Utf8.{code_of_2, code_of_3, continues, decoded, good};
+ghost use Rattle.std.specs.Prelude.{◌≡◌, ℕ, ◌+◌, ◌*◌, ◌<◌, ◌≤◌, ◌⊎◌, true, get_or, length, IfSome};
+ghost use Rattle.bstr.specs.Utf8.{code_of_2, continues, decoded, good};
 ghost use Rattle.lbk_words.specs.Widths.{IsWidth};
 
 /// A scalar value and how many bytes it takes.
@@ -34,10 +34,30 @@ pub(crate) fn scalar_of_few(bytes: &[u8]) -> Option<Coded>
     })
 }
 
-/// The scalar of three bytes at the front of three bytes or more.
+/// The scalar of three bytes at the front of three bytes or more. The bytes are joined before they are looked at, since
+/// then the compiler widens each as it is read.
 #[inline(always)]
 pub(crate) fn scalar_of_three(bytes: &[u8]) -> Option<Coded>
     requires { 3 ≤ length bytes.now }
+    ensures reads { IfSome result (λ scalar. decoded bytes.now ≡ good scalar.code scalar.size) }
+    ensures size { IfSome result (λ scalar. scalar.size ≡ 3) }
+{
+    let (first, next, last) = (bytes[0], bytes[1], bytes[2]);
+    let spelled = joined(joined(u32::from(first), next), last);
+    if !is_continuation(next) || !is_continuation(last) || !takes_three(spelled) {
+        return None;
+    }
+    Some(Coded {
+        code: spelled - MARKS_OF_THREE,
+        size: 3,
+    })
+}
+
+/// The same of bytes that begin with a scalar, if their first one begins one of three bytes: so no other is looked at.
+#[inline(always)]
+pub(crate) fn scalar_of_led_three(bytes: &[u8]) -> Option<Coded>
+    requires enough { 3 ≤ length bytes.now }
+    requires stands { 0xE0 ≤ get_or bytes.now 0 0 → (code size : ℕ) × (decoded bytes.now ≡ good code size) }
     ensures reads { IfSome result (λ scalar. decoded bytes.now ≡ good scalar.code scalar.size) }
     ensures size { IfSome result (λ scalar. scalar.size ≡ 3) }
 {
@@ -45,16 +65,11 @@ pub(crate) fn scalar_of_three(bytes: &[u8]) -> Option<Coded>
     if !begins_three(first) {
         return None;
     }
-    let next = bytes[1];
-    let last = bytes[2];
-    if !is_continuation(next) || !is_continuation(last) {
-        return None;
-    }
-    let code = code_of_three(first, next, last);
-    if !takes_three(code) {
-        return None;
-    }
-    Some(Coded { code, size: 3 })
+    let spelled = joined(joined(u32::from(first), bytes[1]), bytes[2]);
+    Some(Coded {
+        code: spelled - MARKS_OF_THREE,
+        size: 3,
+    })
 }
 
 /// How the bytes of a scalar count in its code, by how many they are.
@@ -119,7 +134,7 @@ fn width_of(first: u8) -> &'static Width
 
 /// Whether a scalar of three bytes may begin with a byte.
 #[inline(always)]
-pub(crate) fn begins_three(byte: u8) -> bool
+fn begins_three(byte: u8) -> bool
     ensures { result ≡ true → (0xE0 ≤ byte) × (byte < 0xF0) }
 {
     0xE0 <= byte && byte < 0xF0
@@ -133,15 +148,26 @@ fn is_continuation(byte: u8) -> bool
     0x7F < byte && byte < 0xC0
 }
 
-/// Whether a scalar that three bytes spell takes three: it is of no fewer, and no surrogate.
+/// What three joined bytes that spell a scalar are more than its code: the joined E0 80 80.
+const MARKS_OF_THREE: u32 = 0xE_2080;
+
+/// A number with the bits of one byte more of a scalar behind it.
 #[inline(always)]
-fn takes_three(code: u32) -> bool
-    ensures { result ≡ true → (0x800 ≤ code) × (code < 0xD800 ⊎ 0xE000 ≤ code) }
+fn joined(before: u32, byte: u8) -> u32
+    requires { before < 0x100_0000 }
+    ensures { result ≡ before * 64 + byte }
 {
-    if code < 0x800 {
-        return false;
-    }
-    code < 0xD800 || 0xDFFF < code
+    before * 64 + u32::from(byte)
+}
+
+/// Whether three joined bytes spell a scalar that takes three: it is of no fewer and no more, and no surrogate. So the
+/// first byte need not be looked at.
+#[inline(always)]
+fn takes_three(spelled: u32) -> bool
+    ensures { result ≡ true → (0xE_2880 ≤ spelled) × (spelled < 0xF_2080)
+        × (spelled < 0xE_F880 ⊎ 0xF_0080 ≤ spelled) }
+{
+    0xE_287F < spelled && spelled < 0xF_2080 && (spelled < 0xE_F880 || 0xF_007F < spelled)
 }
 
 #[inline(always)]
@@ -151,14 +177,4 @@ fn code_of_two(first: u8, next: u8) -> u32
     ensures { result ≡ code_of_2 first next }
 {
     (u32::from(first) - 0xC0) * 64 + (u32::from(next) - 0x80)
-}
-
-#[inline(always)]
-fn code_of_three(first: u8, next: u8, last: u8) -> u32
-    requires first { (0xE0 ≤ first) × (first < 0xF0) }
-    requires next { 0x80 ≤ next }
-    requires last { continues last ≡ true }
-    ensures { result ≡ code_of_3 first next last }
-{
-    ((u32::from(first) - 0xE0) * 64 + (u32::from(next) - 0x80)) * 64 + (u32::from(last) - 0x80)
 }

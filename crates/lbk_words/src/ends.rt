@@ -57,7 +57,7 @@ pub(crate) struct Noted {
 pub fn fill_parts<L: Letters, S: PartSlot>(
     letters: &L,
     near: &mut NearScalars,
-    text: &[u8],
+    text: &str,
     from: Filled,
     out: &mut [S],
 ) -> Filled
@@ -69,7 +69,8 @@ pub fn fill_parts<L: Letters, S: PartSlot>(
     ensures within { (result.count ≤ length out.old) × (result.at ≤ length text.now) }
     ensures parts { FillsParts S.made (L.letter_of letters.now) text.now from out.old result out.new }
 {
-    let first = scalar_at(text, from.at);
+    let bytes = text.as_bytes();
+    let first = scalar_at(bytes, from.at);
     let told = near.told(letters, first.code);
     let mut here = Reading {
         count: from.count,
@@ -78,22 +79,26 @@ pub fn fill_parts<L: Letters, S: PartSlot>(
         row: first_row_of(told.kind),
         has_letter: told.is_letter,
     };
-    'scalars: while here.at < text.len() {
-        let noted = noted_at(letters, near, here.row, text, here.at);
-        let read = taken(here, noted, out);
-        if noted.next.step.cuts && may_tell(&text[here.at..]) {
-            return Filled {
-                count: read.count,
-                at: read.start,
-            };
-        }
-        here = read_runs(near, text, read, out);
+    'scalars: loop {
+        here = read_alike::<3, S>(near, text, here, out);
         if here.count == out.len() {
             return Filled {
                 count: here.count,
                 at: here.start,
             };
         }
+        if here.at == text.len() {
+            break;
+        }
+        let noted = noted_at(letters, near, here.row, bytes, here.at);
+        let read = taken(here, noted, out);
+        if noted.next.step.cuts && may_tell(&bytes[here.at..]) {
+            return Filled {
+                count: read.count,
+                at: read.start,
+            };
+        }
+        here = read_alike::<1, S>(near, text, read, out);
     }
     out[here.count].put(here.start, here.at, here.has_letter);
     Filled {
@@ -128,13 +133,12 @@ fn noted_at<L: Letters>(
     }
 }
 
-/// The same, where its first byte tells that it takes one or three (`SIZE`), it was met before, and no step depends on what
-/// follows it.
+/// The same, where it takes one or three bytes (`SIZE`), it was met before, and no step depends on what follows it.
 #[inline(always)]
 fn noted_alike<const SIZE: usize>(
     near: &NearScalars,
     row: usize,
-    text: &[u8],
+    text: &str,
     at: usize,
 ) -> Option<Noted>
     requires size { (SIZE ≡ 1) ⊎ (SIZE ≡ 3) }
@@ -161,46 +165,33 @@ fn noted_alike<const SIZE: usize>(
     })
 }
 
-/// Goes on by scalars of one byte, a few, and then by those of three, since those of one size come in runs.
-#[inline(always)]
-fn read_runs<S: PartSlot>(near: &NearScalars, text: &[u8], from: Reading, out: &mut [S]) -> Reading
-    requires few { length text.now < 2 ^ 32 }
-    requires place { (from.start < from.at) × (from.at ≤ length text.now) × (from.count ≤ length out.old) }
-    requires row { from.row < 43 }
-    requires met { (letter : ℕ → Bool) × AreMet letter near.now }
-    ensures { ReadsOn S.made near.now text.now from out.old result out.new }
-{
-    let few = SOON.min(text.len() - from.at).min(out.len() - from.count);
-    let ones = read_alike::<1, S>(near, text, few, from, out);
-    let most = ((text.len() - ones.at) / 3).min(out.len() - ones.count);
-    read_alike::<3, S>(near, text, most, ones, out)
-}
-
-/// Goes on by so many scalars of one byte or of three (`SIZE`), or by fewer where another one comes.
+/// Goes on by scalars of one byte, a few, or of three (`SIZE`), since those of one size come in runs: until another one
+/// comes, or there may be no slot for the next.
 #[inline(always)]
 fn read_alike<const SIZE: usize, S: PartSlot>(
     near: &NearScalars,
-    text: &[u8],
-    most: usize,
+    text: &str,
     from: Reading,
     out: &mut [S],
 ) -> Reading
     requires few { length text.now < 2 ^ 32 }
-    requires place { (from.start < from.at) × (from.at ≤ length text.now) × (from.count + most ≤ length out.old) }
+    requires place { (from.start < from.at) × (from.at ≤ length text.now) × (from.count ≤ length out.old) }
     requires size { (SIZE ≡ 1) ⊎ (SIZE ≡ 3) }
-    requires within { from.at + SIZE * most ≤ length text.now }
     requires row { from.row < 43 }
     requires met { (letter : ℕ → Bool) × AreMet letter near.now }
     ensures { ReadsOn S.made near.now text.now from out.old result out.new }
 {
+    let room = out.len() - from.count;
+    let most = if SIZE == 1 { SOON.min(room) } else { room };
+    // A sum that wraps is less, so the loop ends sooner.
+    let far = from.at.wrapping_add(most);
+    let stop = far.min(text.len().saturating_sub(SIZE - 1));
     let mut here = from;
-    let mut left = most;
-    'alike: while 0 < left {
+    'alike: while here.at < stop {
         let Some(noted) = noted_alike::<SIZE>(near, here.row, text, here.at) else {
             break;
         };
         here = taken(here, noted, out);
-        left -= 1;
     }
     here
 }
@@ -289,17 +280,26 @@ fn may_tell(bytes: &[u8]) -> bool {
     is_usual(*first) && (0x80 <= *first || is_usual(bytes[1])) && !is_long_soon(bytes)
 }
 
-/// Whether a scalar of three bytes or more begins soon in some bytes: in the first eight, or further on if those before it
-/// seem to be of one byte each. One that begins behind the first two of eight holds the fifth or the eighth, so most text of
-/// one byte a scalar needs one test for six bytes.
+/// Whether a scalar of three bytes or more begins soon in some bytes: in the first eight, or further on in the first 20,
+/// where there are so many, if those before it seem to be of one byte each. One that begins behind the first two of eight
+/// holds the fifth or the eighth, so most text of one byte a scalar needs one test for six bytes.
 #[inline(always)]
 fn is_long_soon(bytes: &[u8]) -> bool {
-    let mut at = 0;
-    'eights: while at + 8 <= SOON && at + 8 <= bytes.len() {
-        if 0x80 <= bytes[at + 4] | bytes[at + 7] {
-            return is_long_in(&bytes[at..]);
-        }
-        at += 6;
+    if bytes.len() < 8 {
+        return false;
+    }
+    if 0x80 <= bytes[4] | bytes[7] {
+        return is_long_in(bytes);
+    }
+    // The shorter the text, the less a look at its length is foreseen.
+    if bytes.len() < SOON {
+        return false;
+    }
+    if 0x80 <= bytes[10] | bytes[13] {
+        return is_long_in(&bytes[6..]);
+    }
+    if 0x80 <= bytes[16] | bytes[19] {
+        return is_long_in(&bytes[12..]);
     }
     false
 }

@@ -7,7 +7,6 @@ ghost use Rattle.lbk_words.specs.Places.{IsReadAt};
 ghost use Rattle.lbk_words.specs.Rows.{IsStep};
 ghost use Rattle.lbk_words.specs.Words.{scalars_on};
 
-use crate::decoding::begins_three;
 use crate::scalars::{Scalar, scalar_at, three_at, wide_at};
 use crate::steps::{Step, first_row, is_word, next_step, step_of, step_of_byte, step_unasked};
 use crate::word::{Filled, Word};
@@ -95,7 +94,7 @@ fn quick_at<const FOURS: bool>(text: &[u8], at: usize) -> Option<Scalar>
     if FOURS {
         return wide_at(text, at);
     }
-    if !begins_three(text[at]) || text.len() - at < 3 {
+    if text.len() - at < 3 {
         return None;
     }
     three_at(text, at)

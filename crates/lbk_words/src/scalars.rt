@@ -7,7 +7,7 @@ ghost use Rattle.lbk_words.specs.Places.{IsReadAt};
 ghost use Rattle.lbk_words.specs.Rows.{answer_number};
 ghost use Rattle.lbk_words.specs.Words.{scalars_on};
 
-use crate::decoding::{Coded, scalar_of_few, scalar_of_three, scalar_of_wide};
+use crate::decoding::{Coded, scalar_of_few, scalar_of_led_three, scalar_of_three, scalar_of_wide};
 use crate::kinds::kind_of;
 use crate::step_table::ANSWERS;
 use bstr::decode_lossy;
@@ -42,18 +42,30 @@ pub(crate) fn scalar_at(text: &[u8], at: usize) -> Scalar
     placed(text, at, scalar)
 }
 
-/// The scalar at a byte of a text, where its first byte alone tells that it takes one, or may take three (`SIZE`).
+/// The scalar at a byte of a text, where it takes one or three (`SIZE`), as its first byte tells.
 #[inline(always)]
-pub(crate) fn scalar_of_size<const SIZE: usize>(text: &[u8], at: usize) -> Option<Scalar>
+pub(crate) fn scalar_of_size<const SIZE: usize>(text: &str, at: usize) -> Option<Scalar>
     requires size { (SIZE ≡ 1) ⊎ (SIZE ≡ 3) }
     requires place { at + SIZE ≤ length text.now }
     ensures reads { IfSome result (λ scalar. IsReadAt text.now at scalar.code scalar.end) }
     ensures end { IfSome result (λ scalar. scalar.end ≡ at + SIZE) }
 {
     if SIZE == 1 {
-        return one_at(text, at);
+        return one_at(text.as_bytes(), at);
     }
-    three_at(text, at)
+    three_of(text, at)
+}
+
+/// The scalar at a byte of a text, where it takes three, as its first byte tells.
+#[inline(always)]
+fn three_of(text: &str, at: usize) -> Option<Scalar>
+    requires { at + 3 ≤ length text.now }
+    ensures reads { IfSome result (λ scalar. IsReadAt text.now at scalar.code scalar.end) }
+    ensures end { IfSome result (λ scalar. scalar.end ≡ at + 3) }
+{
+    let bytes = text.as_bytes();
+    let scalar = scalar_of_led_three(&bytes[at..])?;
+    Some(placed(bytes, at, scalar))
 }
 
 /// The scalar at a byte of a text, where it takes one.
@@ -73,7 +85,7 @@ fn one_at(text: &[u8], at: usize) -> Option<Scalar>
     })
 }
 
-/// The scalar at a byte of a text, where its first byte alone tells that it may take three.
+/// The scalar at a byte of a text, where it takes three.
 #[inline(always)]
 pub(crate) fn three_at(text: &[u8], at: usize) -> Option<Scalar>
     requires { at + 3 ≤ length text.now }

@@ -36,5 +36,5 @@ returns-clause-cuts g c =
     (ap (λ n. let f : Filled = record { count = n; at = start } in f) makes.count)
     (ap (take old.count) c.as_mut_slice-slots.ensures.value ∙ ap (λ n. take n made.items.items) (sym makes.count) ∙ makes.items)
     (subst (FillsParts piece_of (letter_by cell) text from slots filled.result) (sym (with_items_is made.items filled.new.out (filled.auto.out ∙ c.as_mut_slice-slots.ensures.len)))
-    (subst (λ bytes. FillsParts piece_of (letter_by cell) bytes from slots filled.result filled.new.out) c.as_bytes.ensures.value filled.ensures.parts))
+    filled.ensures.parts)
     refl makes.kept makes.most refl (omega (arith, filled.ensures.onward.0, makes.count))
