@@ -60,8 +60,8 @@ module _ (held : List ℕ) (given len : ℕ) (stop : Stop) (spent : Bool) (judge
   pub rest : AfterEach given (λ used. after_prefix (counted (used ++ held)) ≡ after_prefix (in_reach given held))
   rest used text long = ap after_prefix (counted-after used held given long judged.within) ∙ rest-after used (in_reach given held) text
 
-  pub lends : (ended : Bool) → LendsFront (record { held = held; ready = take len held; given = given; is_ended = ended; is_spent = spent })
-  lends ended = record {
+  pub lends : (behind : List ℕ) (ended : Bool) → LendsFront (record { held = held; ready = take len held; behind = behind; given = given; is_ended = ended; is_spent = spent })
+  lends behind ended = record {
     text = ready-IsUtf8;
     rest = drop len held;
     first = sym (take-append-drop len held);

@@ -1,6 +1,6 @@
 -- A part of a list that begins later, and one that ends in what was written behind it.
 use Rattle.std.proofs.Common.{◌≡◌, ℕ, ◌+◌, ◌-◌, ◌≤◌, List, ◌++◌, length, take, drop, sym, ap, ◌∙◌, arith, slice_range}
-use Rattle.std.proofs.lemmas.List.{drop-take, drop-drop, take_at, drop_at, take-append-le, length-take-le}
+use Rattle.std.proofs.lemmas.List.{take-take, drop-take, drop-drop, take_at, drop_at, take-append-le, length-take-le}
 use Rattle.std.proofs.lemmas.Slice.{between_from_start}
 use lib.Seq.{take-add}
 use borrow.Rule.Slice.PartMut.{put_mid, post_of}
@@ -10,6 +10,9 @@ drop-slice_range xs a b n within =
     let rest = b - (a + n) in
     let parts : b - a ≡ n + rest = omega arith in
     ap (λ k. drop n (take k (drop a xs))) parts ∙ drop-take n rest (drop a xs) ∙ ap (take rest) (drop-drop n a xs)
+
+pub take-slice_range : (xs : List ℕ) (a b n : ℕ) → n ≤ b - a → take n (slice_range xs a b) ≡ take n (drop a xs)
+take-slice_range xs a b n within = take-take n (b - a) (drop a xs) within
 
 -- the first n of what was written from `end` on stand behind what stood before it
 pub slice_range-put_mid : (xs written : List ℕ) (end room n : ℕ) → end ≤ length xs → n ≤ length written

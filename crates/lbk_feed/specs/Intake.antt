@@ -8,7 +8,7 @@ use Rattle.lbk_feed.specs.declared.intake.Intake.{Intake}
 use Rattle.lbk_feed.specs.declared.traits.Failed.{Failed}
 use Rattle.lbk_feed.specs.declared.traits.Source.{Ghosts as SourceMembers}
 use Rattle.lbk_feed.specs.Devices.{KeepsIfTold, Reads, failures_after}
-use Rattle.lbk_feed.specs.Block.{items}
+use Rattle.lbk_feed.specs.Block.{items, used}
 use Rattle.lbk_feed.specs.View.{View, BeginsWith, CanGoOn, IsStill, AreDue}
 
 -- the intake as callers of the feed see it
@@ -16,6 +16,7 @@ unfoldable pub view_of : Intake → View
 view_of i = record {
   held = items i.block;
   ready = take i.ready_len (items i.block);
+  behind = used i.block;
   given = i.given;
   is_ended = i.is_ended;
   is_spent = i.is_spent;

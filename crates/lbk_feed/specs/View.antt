@@ -1,5 +1,5 @@
 -- A feed as its callers see it, and what its calls promise.
-use Rattle.std.specs.Prelude.{◌≡◌, ◌⊎◌, ℕ, ◌+◌, ◌<◌, ◌≤◌, Bool, true, false, ◌||◌, List, [], ◌++◌, length, Option}
+use Rattle.std.specs.Prelude.{◌≡◌, ◌⊎◌, ℕ, ◌+◌, ◌-◌, ◌<◌, ◌≤◌, Bool, true, false, ◌||◌, List, [], ◌++◌, length, drop, Option}
 use Rattle.std.specs.Prelude.{None, Some, IfSome, IfNone, is_some, Result, Ok, Err, IfOk, MatchOption, ⊤, IsUtf8}
 use Rattle.std.specs.Borrow.{Bor}
 use Rattle.std.specs.Io.KnownBytes.{prepend_known, Keeps, IsAtEnd}
@@ -9,18 +9,23 @@ use Rattle.lbk_feed.specs.declared.faults.FeedFault.TheVariants.{Read, NotUtf8, 
 use Rattle.lbk_feed.specs.Devices.{KeepsIfTold, Reads, count_up}
 use Rattle.lbk_feed.specs.Text.{longest_text, well_formed_prefix, counted, IsCutScalar, IsNotUtf8At, IsTooLong}
 
--- the bytes that were read and not consumed, those of them that are ready, how many were consumed, whether the end was
--- reached, and whether a fault was returned
+-- the bytes that were read and not consumed, those of them that are ready, those that were consumed since the last read
+-- and are still at hand, how many were consumed, whether the end was reached, and whether a fault was returned
 pub record View : Type 0 where
   pub held : List ℕ
   pub ready : List ℕ
+  pub behind : List ℕ
   pub given : ℕ
   pub is_ended : Bool
   pub is_spent : Bool
 
 -- before any call
 abbrev pub new_view : View
-new_view = record { held = []; ready = []; given = 0; is_ended = false; is_spent = false }
+new_view = record { held = []; ready = []; behind = []; given = 0; is_ended = false; is_spent = false }
+
+-- the last n of the consumed bytes that are still at hand
+abbrev pub last_used : View → ℕ → List ℕ
+last_used f n = drop (length f.behind - n) f.behind
 
 -- P holds of every text of `given` bytes, as the consumed one
 abbrev pub AfterEach : ℕ → (List ℕ → Type 0) → Type 0

@@ -18,12 +18,13 @@ pub struct Block {
 }
 
 impl Block {
-    ghost use Rattle.std.specs.Prelude.{◌≡◌, ◌<◌, [], length, drop};
+    ghost use Rattle.std.specs.Prelude.{◌≡◌, ◌<◌, ◌-◌, ◌++◌, [], length, drop, take};
     ghost use Rattle.lbk_feed.specs.Devices.{count_up, given_by, failures_after, ended_after};
-    ghost use Rattle.lbk_feed.specs.Block.{items, Fills};
+    ghost use Rattle.lbk_feed.specs.Block.{items, used, Fills};
 
     pub fn new() -> Block
-        ensures { items result ≡ [] }
+        ensures items { items result ≡ [] }
+        ensures used { used result ≡ [] }
     {
         Block {
             bytes: [0; BLOCK],
@@ -44,10 +45,19 @@ impl Block {
         self.end - self.start
     }
 
+    /// The last n bytes before the held ones; `read_from` drops these.
+    pub fn behind(&self, n: usize) -> &[u8]
+        requires { n ≤ length (used self.now) }
+        ensures { result.now ≡ drop (length (used self.now) - n) (used self.now) }
+    {
+        &self.bytes[self.start - n..self.start]
+    }
+
     /// Drops the first n bytes.
     pub fn consume(&mut self, n: usize)
         requires { n ≤ length (items self.old) }
-        ensures { items self.new ≡ drop n (items self.old) }
+        ensures items { items self.new ≡ drop n (items self.old) }
+        ensures used { used self.new ≡ used self.old ++ take n (items self.old) }
     {
         self.start += n;
     }

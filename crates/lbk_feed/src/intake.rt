@@ -30,9 +30,10 @@ pub struct Intake {
 
 impl Intake {
     ghost use Rattle.std.specs.Prelude.{◌+◌, ◌≤◌, ◌<◌, ◌⊎◌, true, false, length, drop, IfErr, OnOk};
-    ghost use Rattle.std.specs.Prelude.{IfSome, IfNone, IsOk, is_err, []};
+    ghost use Rattle.std.specs.Prelude.{IfSome, IfNone, IsOk, IsUtf8, is_err, [], ◌++◌, take};
     ghost use Rattle.std.specs.Str.{IsCharBoundary};
     ghost use Rattle.lbk_feed.specs.View.{new_view, IsFront, LendsFront, LiesIn, AfterCall, Asks, IsOfText, fault_of};
+    ghost use Rattle.lbk_feed.specs.View.{last_used};
     ghost use Rattle.lbk_feed.specs.Intake.{view_of, WantsMore, IsDue, IsSettled, Refills};
 
     pub fn new() -> Intake
@@ -65,11 +66,24 @@ impl Intake {
         unsafe { str::from_utf8_unchecked(bytes) }
     }
 
+    /// The last n consumed bytes, where they are still in the block.
+    pub fn behind(&self, n: usize) -> &str
+        requires within { n ≤ length (view_of self.now).behind }
+        requires text { IsUtf8 (last_used (view_of self.now) n) }
+        ensures { result.now ≡ last_used (view_of self.now) n }
+    {
+        let bytes = self.block.behind(n);
+        // SAFETY: the contract asks for well-formed bytes.
+        unsafe { str::from_utf8_unchecked(bytes) }
+    }
+
     /// Consumes the first n ready bytes.
     pub fn use_up(&mut self, n: usize)
         requires { IsCharBoundary (view_of self.old).ready n }
         ensures held { (view_of self.new).held ≡ drop n (view_of self.old).held }
         ensures ready { (view_of self.new).ready ≡ drop n (view_of self.old).ready }
+        ensures behind { (view_of self.new).behind
+            ≡ (view_of self.old).behind ++ take n (view_of self.old).ready }
         ensures given { (view_of self.new).given ≡ (view_of self.old).given + n }
         ensures ended { (view_of self.new).is_ended ≡ (view_of self.old).is_ended }
         ensures spent { (view_of self.new).is_spent ≡ (view_of self.old).is_spent }

@@ -1,13 +1,14 @@
 //! Well-formed pieces of a reader's bytes.
 
 ghost use Rattle.std.specs.Prelude.{◌≡◌, ◌+◌, ◌≤◌, ◌<◌, drop, length, true, false, IfOk, IfSome, IsOkAnd, IsSomeAnd};
-ghost use Rattle.std.specs.Prelude.{IsUtf8, []};
+ghost use Rattle.std.specs.Prelude.{◌++◌, take, IsUtf8, []};
 ghost use Rattle.std.specs.Borrow.{sem};
 ghost use Rattle.std.specs.Io.BufRead.{Rests};
 ghost use Rattle.std.specs.Str.{IsCharBoundary};
 ghost use Rattle.std.specs.Bool.{OnTrue, OnFalse};
 ghost use Rattle.lbk_feed.specs.Text.{longest_text};
 ghost use Rattle.lbk_feed.specs.View.{new_view, IsFront, LendsFront, AfterCall, AfterPiece, Asks, fault_of};
+ghost use Rattle.lbk_feed.specs.View.{last_used};
 ghost use Rattle.lbk_feed.specs.contracts.pieces.Feed.{the_row};
 
 use crate::faults::FeedFault;
@@ -60,11 +61,25 @@ impl Feed {
         self.intake.ready()
     }
 
+    /// The last `n` bytes that were consumed, all of them since the last read. `advance` keeps them at
+    /// hand, and the next read drops them.
+    pub fn behind(&self, n: usize) -> &str
+        requires within { n ≤ length self.now.behind }
+        requires text { IsUtf8 (last_used self.now n) }
+        ensures { result.now ≡ last_used self.now n }
+    {
+        self.intake.behind(n)
+    }
+
     /// Consumes the first `n` bytes of `ready`. `n` must be on a character boundary.
     pub fn advance(&mut self, n: usize)
         requires { IsCharBoundary self.old.ready n }
-        ensures used { self.new ≡ record self.old
-            { held = drop n self.old.held; ready = drop n self.old.ready; given = self.old.given + n } }
+        ensures used { self.new ≡ record self.old {
+          held = drop n self.old.held;
+          ready = drop n self.old.ready;
+          behind = self.old.behind ++ take n self.old.ready;
+          given = self.old.given + n;
+        } }
         ensures front { IsFront self.new }
         ensures lends { LendsFront self.new }
     {

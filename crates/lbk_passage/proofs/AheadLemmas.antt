@@ -1,14 +1,10 @@
 -- Breaks of the bytes that are ready, found ahead of the passages that they end.
-use Rattle.std.proofs.Common.{true, ◌≡◌, ℕ, ◌+◌, ◌-◌, ◌<◌, ◌≤◌, ◌||◌, false, All, IfSome, Option, List, [], ◌∷◌, ◌++◌, length, map, drop, take, get_or, None, Some, chars, IsCharBoundary, IsUtf8, refl, sym, ap, subst, inr, ⊎_elim, ◌∙◌, arith, append_assoc}
-use Rattle.std.proofs.Math.Seq.{get_or-append_seam, take-add}
-use Rattle.std.proofs.lemmas.List.Elements.{All-append, All-cons, All-nil}
+use Rattle.std.proofs.Common.{true, ◌≡◌, ℕ, suc, zero, ◌+◌, ◌-◌, ◌<◌, ◌≤◌, ◌||◌, false, IfSome, Option, List, [], ◌∷◌, ◌++◌, length, map, drop, take, get_or, None, Some, chars, IsCharBoundary, IsUtf8, refl, sym, ap, subst, inr, ⊎_elim, ◌∙◌, arith, append_assoc}
+use Rattle.std.proofs.Math.Seq.{drop-drop, get_or-append_seam, take-add}
 use Rattle.std.specs.List.{take-map}
 use Rattle.std.proofs.lemmas.List.{append_cancel_left, drop_more, get_or-drop, get_or-map, get_or-take, length-append, length-drop, length-map, length-take-le, length_push, map-append, take-append-drop, take_at}
 use Rattle.lbk_rules.specs.declared.Break.{Break}
 use Rattle.lbk_rules.specs.declared.Cell.{Cell}
-use Rattle.lbk_rules.specs.declared.Kind.{Kind}
-use Rattle.lbk_rules.specs.declared.Kind.TheVariants.{No, May, Must}
-use Rattle.lbk_rules.specs.declared.Verdict.{Verdict}
 use Rattle.lbk_values.specs.declared.profile.Profile.{Profile}
 use Rattle.lbk_rules.specs.Breaks.{breaks, is_no}
 use Rattle.lbk_rules.specs.Joins.{moved}
@@ -17,8 +13,8 @@ use Rattle.lbk_bytes.specs.declared.raw_break.RawBreak.{RawBreak}
 use Rattle.lbk_bytes.specs.Order.{AreBreaks, IsBreak, no_break}
 use Rattle.lbk_bytes.specs.Shown.{given_in, raw_of, shown}
 use Rattle.lbk_bytes.proofs.ShownLemmas.{shown-raw}
-use Rattle.lbk_passage.specs.Ahead.{EndsFirst, GivesTold, HasAhead, HasSizes, HasTold, IsAhead, IsTold, KeepsTold, ShowBreaks, TakesBy, TakesTold, Tells, told_in}
-use Rattle.lbk_passage.specs.Cuts.{cut_at}
+use Rattle.lbk_passage.specs.Ahead.{AreWhole, EndsFirst, GivesTold, HasAhead, HasSizes, HasTold, IsAhead, IsTold, KeepsTold, ShowBreaks, TakesBy, TakesTold, Tells, by_count}
+use Rattle.lbk_passage.specs.Cuts.{cut_at, cut_on, musts}
 use Rattle.lbk_passage.specs.Found.{FindsNext}
 use Rattle.lbk_rules.specs.Marks.{ended, marks}
 use Rattle.lbk_passage.specs.Passages.{is_must}
@@ -28,8 +24,10 @@ use Rattle.lbk_passage.specs.declared.ahead.Ahead.{Ahead}
 use Rattle.lbk_passage.specs.declared.found.Progress.{Progress}
 use Rattle.lbk_passage.specs.declared.paragraph.Paragraph.{Paragraph}
 use Rattle.lbk_passage.specs.declared.paragraph.Told.{Told}
+use Rattle.lbk_passage.specs.declared.passage.Segment.{Segment}
 use Rattle.lbk_passage.specs.declared.reach.ReachEnd.TheVariants.{LineEnds}
 use Rattle.lbk_bytes.proofs.ReachedLemmas.{given-many}
+use Rattle.lbk_passage.proofs.CutLemmas.{SameHalves, SplitsAt, cut_on-first, cut_on-moved, musts-first, musts-moved, same_halves, splits_at}
 use Rattle.lbk_passage.proofs.FirstEnds.{FirstEndIn, NoneMust, first_end_in}
 use Rattle.lbk_passage.proofs.KeptLemmas.{each-behind, given-split}
 use Rattle.lbk_passage.proofs.SegmentLemmas.{length-cut}
@@ -49,34 +47,53 @@ breaks-shown block count show = λ k less. (shown (get_or block k no_break), (sh
 pub shown_by : (raw : RawBreak) (b : Break) → IsBreak raw → ((found : Break) → raw ≡ raw_of found → b ≡ found) → b ≡ shown raw
 shown_by raw b known is = is known.0 known.1 ∙ sym (ap shown known.1 ∙ shown-raw known.0)
 
--- the first breaks of a text were found into a block
-pub IsAhead-found : {profile : Profile} {cell : ℕ → Cell} {text : List ℕ} {to : Progress} {room : ℕ} {block : List RawBreak}
-    → FindsNext profile cell text (record { state = record { count = 0; row = 0; at = 0 }; ended = false }) to room block → room ≡ 256 → length block ≡ 256
-    → HasAhead (record { block = block; next = 0; left = to.state.count; told = 0; base = 0 }) (take to.state.count (breaks profile cell (chars text)))
-IsAhead-found {profile} {cell} {text} {to} {room} {block} f room_is size =
+-- the first breaks of a text stand in the front of a block
+pub first-given : {profile : Profile} {cell : ℕ → Cell} {text : List ℕ} {to : Progress} {room : ℕ} {block : List RawBreak}
+    → FindsNext profile cell text (record { state = record { count = 0; row = 0; at = 0 }; ended = false }) to room block
+    → given_in block to.state.count ≡ take to.state.count (breaks profile cell (chars text))
+first-given {profile} {cell} {text} {to} {room} {block} f =
     let whole : to.state.count - 0 ≡ to.state.count = omega arith in
+    ap (given_in block) (sym whole) ∙ f.front ∙ ap (λ n. take n (breaks profile cell (chars text))) whole
+
+-- the first breaks of a text were found into a block, and cut
+pub IsAhead-found : {profile : Profile} {cell : ℕ → Cell} {text : List ℕ} {to : Progress} {room : ℕ} {block : List RawBreak}
+    → FindsNext profile cell text (record { state = record { count = 0; row = 0; at = 0 }; ended = false }) to room block → room ≡ 256
+    → (segments : List Segment) (ends : List ℕ) (count : ℕ)
+    → AreWhole (record { block = block; segments = segments; ends = ends; ends_count = count; next_end = 0; next = 0; left = to.state.count; told = 0; base = 0 })
+    → take to.state.count segments ≡ cut_on 0 0 (given_in block to.state.count)
+    → take count ends ≡ musts 0 (given_in block to.state.count) → count ≤ to.state.count
+    → HasAhead (record { block = block; segments = segments; ends = ends; ends_count = count; next_end = 0; next = 0; left = to.state.count; told = 0; base = 0 })
+    (take to.state.count (breaks profile cell (chars text)))
+IsAhead-found {profile} {cell} {text} {to} {room} {block} f room_is segments ends count whole_is cut noted few =
+    let whole : to.state.count - 0 ≡ to.state.count = omega arith in
+    let front = first-given f in
     record {
-      size = size;
+      whole = whole_is;
       within = omega (arith, f.count, room_is);
       before = omega arith;
       each = subst (ShowBreaks block) whole (shows-breaks block (to.state.count - 0) f.breaks);
-      given = ap (given_in block) (sym whole) ∙ f.front ∙ ap (λ n. take n (breaks profile cell (chars text))) whole
-          ∙ sym (map-moved-none (take to.state.count (breaks profile cell (chars text))));
+      given = front ∙ sym (map-moved-none (take to.state.count (breaks profile cell (chars text))));
+      cut = cut ∙ ap (cut_on 0 0) front;
+      few = (omega arith, omega (arith, few, f.count, room_is));
+      ends = noted ∙ ap (musts 0) front;
     }
 
 -- none of the bytes that are ready
-pub HasAhead-none : {a : Ahead} {found : List Break} → HasAhead a found → HasAhead (record a { left = 0; told = 0 }) []
+pub HasAhead-none : {a : Ahead} {found : List Break} → HasAhead a found → HasAhead (record a { ends_count = 0; next_end = 0; left = 0; told = 0 }) []
 HasAhead-none h = record {
-  size = h.size;
+  whole = h.whole;
   within = omega (arith, h.within);
   before = omega arith;
   each = λ k less. absurd (omega (arith, less));
   given = refl;
+  cut = refl;
+  few = (omega arith, omega arith);
+  ends = refl;
 }
 
 module _ {a : Ahead} {found : List Break} (h : HasAhead a found) where
   held-many : length (given_in (drop a.next a.block) a.left) ≡ a.left
-  held-many = given-many (drop a.next a.block) a.left (omega (arith, h.within, h.size, length-drop a.next a.block))
+  held-many = given-many (drop a.next a.block) a.left (omega (arith, h.within, h.whole.0, length-drop a.next a.block))
 
   pub found-many : length found ≡ a.left
   found-many = sym (length-map found (moved a.base)) ∙ sym (ap length h.given) ∙ held-many
@@ -101,32 +118,58 @@ module _ {a : Ahead} {found : List Break} (h : HasAhead a found) where
         ∙ ap (λ l. get_or l k (shown no_break)) h.given
         ∙ get_or-map (moved a.base) found k (shown no_break) (shown no_break) (omega (arith, found-many, below))
 
-    pub is_split : found ≡ take k found ++ get_or found k (shown no_break) ∷ drop (k + 1) found
-    is_split = sym (take-append-drop k found) ∙ ap (λ l. take k found ++ l) (drop_more found k (shown no_break) (omega (arith, found-many, below)))
-
     -- what it is as a break
     module _ (b : Break) (is : (other : Break) → get_or a.block (a.next + k) no_break ≡ raw_of other → b ≡ other) where
       pub one_moved : b ≡ moved a.base (get_or found k (shown no_break))
       one_moved = shown_by (get_or a.block (a.next + k) no_break) b is_break is ∙ is_moved
 
-      pub next_quiet : is_must b.kind ≡ false → NoneMust (take k found) → NoneMust (take (k + 1) found)
-      next_quiet quiet none =
-          let one = get_or found k (shown no_break) in
-          let front : take (k + 1) found ≡ take k found ++ one ∷ [] =
-          take-add k 1 found ∙ ap (λ l. take k found ++ take 1 l) (drop_more found k (shown no_break) (omega (arith, found-many, below))) in
-          subst NoneMust (sym front)
-          (All-append (λ x. is_must x.kind ≡ false) (take k found) (one ∷ []) none
-          (All-cons (λ x. is_must x.kind ≡ false) one [] (sym (ap (λ x. is_must x.kind) one_moved) ∙ quiet) (All-nil (λ x. is_must x.kind ≡ false))))
+-- the first place that is noted is that of the first break at which a line must end
+module _ {a : Ahead} {found : List Break} (h : HasAhead a found) (some : a.next_end < a.ends_count) where
+  pub first-noted : SplitsAt a.next found (get_or a.ends a.next_end 0)
+  first-noted =
+      let noted = take a.ends_count a.ends in
+      let many : length noted ≡ a.ends_count = length-take-le a.ends_count a.ends (omega (arith, h.few.1, h.whole.2)) in
+      let there : get_or noted a.next_end 0 ≡ get_or a.ends a.next_end 0 = get_or-take a.ends_count a.ends a.next_end 0 some in
+      splits_at a.next found (get_or a.ends a.next_end 0) (drop (a.next_end + 1) noted)
+      (sym h.ends ∙ drop_more noted a.next_end 0 (omega (arith, many, some)) ∙ ap (λ k. k ∷ drop (a.next_end + 1) noted) there)
 
--- a verdict of another kind than `Must`
-pub other_kind : (k : Kind) → ¬ (k ≡ Must) → is_must k ≡ false
-other_kind No other = refl
-other_kind May other = refl
-other_kind Must other = absurd (other refl)
+  pub noted-within : get_or a.ends a.next_end 0 < a.next + a.left
+  noted-within =
+      let s = first-noted in
+      omega (arith, s.place, found-many h, ap length s.all, length-append s.front (s.last ∷ s.rest))
+
+  -- the break that stands there
+  pub noted-break : IsBreak (get_or a.block (get_or a.ends a.next_end 0) no_break)
+  noted-break =
+      let s = first-noted in
+      subst (λ n. IsBreak (get_or a.block n no_break)) (sym s.place) (is_break h (length s.front) (omega (arith, s.place, noted-within)))
+
+  pub noted-at : (get_or a.block (get_or a.ends a.next_end 0) no_break).at ≡ a.base + first-noted.last.at
+  noted-at =
+      let s = first-noted in
+      ap (λ n. (get_or a.block n no_break).at) s.place
+      ∙ ap (λ b. b.at) (is_moved h (length s.front) (omega (arith, s.place, noted-within)))
+      ∙ ap (λ l. a.base + (get_or l (length s.front) (shown no_break)).at) s.all
+      ∙ ap (λ b. a.base + b.at) (get_or-append_seam s.front s.last s.rest (shown no_break))
+
+  pub EndsFirst-noted : (len : ℕ) → (get_or a.block (get_or a.ends a.next_end 0) no_break).at - a.base < len
+      → EndsFirst found len (get_or a.ends a.next_end 0 + 1 - a.next)
+  EndsFirst-noted len near =
+      let s = first-noted in
+      record {
+        front = s.front;
+        last = s.last;
+        rest = s.rest;
+        all = s.all;
+        counted = omega (arith, s.place);
+        none = s.none;
+        must = s.must;
+        near = omega (arith, near, noted-at);
+      }
 
 -- the first of them are taken
 module _ {a : Ahead} (front : List Break) (last : Break) (rest : List Break) (h : HasAhead a (front ++ last ∷ rest)) (count : ℕ)
-    (counted : count ≡ length front + 1) where
+    (counted : count ≡ length front + 1) (none : NoneMust front) (must : is_must last.kind ≡ true) where
   many : length (front ++ last ∷ rest) ≡ count + length rest
   many = omega (arith, length-append front (last ∷ rest), counted)
 
@@ -139,7 +182,7 @@ module _ {a : Ahead} (front : List Break) (last : Break) (rest : List Break) (h 
       ∙ ap (map (moved a.base)) (sym (append_assoc front (last ∷ []) rest)) ∙ map-append (moved a.base) (front ++ last ∷ []) rest
 
   front-many : length (given_in (drop a.next a.block) count) ≡ count
-  front-many = given-many (drop a.next a.block) count (omega (arith, few, h.within, h.size, length-drop a.next a.block))
+  front-many = given-many (drop a.next a.block) count (omega (arith, few, h.within, h.whole.0, length-drop a.next a.block))
 
   moved-many : length (map (moved a.base) (front ++ last ∷ [])) ≡ count
   moved-many = length-map (front ++ last ∷ []) (moved a.base) ∙ length_push front last ∙ (omega (arith, counted))
@@ -152,26 +195,57 @@ module _ {a : Ahead} (front : List Break) (last : Break) (rest : List Break) (h 
   rest_is : given_in (drop (a.next + count) a.block) (a.left - count) ≡ map (moved a.base) rest
   rest_is = append_cancel_left (map (moved a.base) (front ++ last ∷ [])) _ _ (ap (λ l. l ++ given_in (drop (a.next + count) a.block) (a.left - count)) (sym front_is) ∙ halves)
 
-  pub TakesBy-counted : TakesBy a (record { block = a.block; next = a.next + count; left = a.left - count; told = count; base = a.base + last.at })
-      (record { len = last.at; end = record { kind = last.kind; rule = last.rule } }) front last rest
+  -- the segments
+  slice-parts : SameHalves (take count (drop a.next a.segments)) (take (a.left - count) (drop (a.next + count) a.segments))
+      (cut_at 0 (front ++ last ∷ [])) (cut_on last.at 0 rest)
+  slice-parts =
+      let whole : count + (a.left - count) ≡ a.left = omega (arith, few) in
+      let parts : take a.left (drop a.next a.segments) ≡ take count (drop a.next a.segments) ++ take (a.left - count) (drop (a.next + count) a.segments) =
+      ap (λ n. take n (drop a.next a.segments)) (sym whole) ∙ take-add count (a.left - count) (drop a.next a.segments)
+      ∙ ap (λ l. take count (drop a.next a.segments) ++ take (a.left - count) l) (drop-drop count a.next a.segments) in
+      same_halves (take count (drop a.next a.segments)) _ (cut_at 0 (front ++ last ∷ [])) _ count
+      (sym parts ∙ h.cut ∙ cut_on-first 0 front last rest none must)
+      (length-take-le count (drop a.next a.segments) (omega (arith, length-drop a.next a.segments, h.whole.1, h.within, few)))
+      (length-cut 0 (front ++ last ∷ []) ∙ length_push front last ∙ (omega (arith, counted)))
+
+  -- the places
+  places-are : drop a.next_end (take a.ends_count a.ends) ≡ (a.next + length front) ∷ musts (a.next + length front + 1) rest
+  places-are = h.ends ∙ musts-first a.next front last rest none must
+
+  pub some-noted : a.next_end < a.ends_count
+  some-noted =
+      let noted = take a.ends_count a.ends in
+      let many : length noted ≡ a.ends_count = length-take-le a.ends_count a.ends (omega (arith, h.few.1, h.whole.2)) in
+      let some = ap length places-are in
+      omega (arith, some, many, length-drop a.next_end noted)
+
+  abbrev pub taken : ℕ → Ahead
+  taken base = record a { next_end = a.next_end + 1; next = a.next + count; left = a.left - count; told = count; base = base }
+
+  pub TakesBy-counted : TakesBy a (taken (a.base + last.at)) (record { len = last.at; end = record { kind = last.kind; rule = last.rule } }) front last rest
   TakesBy-counted =
       let back : a.next + count - count ≡ a.next = omega arith in
       record {
         len = refl;
         end = refl;
         some = omega (arith, counted);
-        base = refl;
-        each = λ k less. subst (λ n. IsBreak (get_or (drop n a.block) k no_break)) (sym back)
-            (breaks-shown (drop a.next a.block) a.left h.each k (omega (arith, less, few)));
-        given = ap (λ n. given_in (drop n a.block) count) back ∙ front_is;
-        behind = λ others is. record {
-          size = h.size;
-          within = omega (arith, few, h.within);
-          before = omega arith;
-          each = shows-breaks (drop (a.next + count) a.block) (a.left - count)
-              (each-behind a.block a.next count a.left (breaks-shown (drop a.next a.block) a.left h.each));
-          given = rest_is ∙ ap (map (moved a.base)) is ∙ map-moved a.base last.at others;
-        };
+        cut = ap (λ n. take count (drop n a.segments)) back ∙ slice-parts.front;
+        behind = λ others is.
+            let origin : last.at ≡ last.at + 0 = omega arith in
+            let behind : a.next + length front + 1 ≡ a.next + count = omega (arith, counted) in
+            record {
+              whole = h.whole;
+              within = omega (arith, few, h.within);
+              before = omega arith;
+              each = shows-breaks (drop (a.next + count) a.block) (a.left - count)
+                  (each-behind a.block a.next count a.left (breaks-shown (drop a.next a.block) a.left h.each));
+              given = rest_is ∙ ap (map (moved a.base)) is ∙ map-moved a.base last.at others;
+              cut = slice-parts.rest ∙ ap (cut_on last.at 0) is ∙ ap (λ n. cut_on n 0 (map (moved last.at) others)) origin
+                  ∙ cut_on-moved last.at 0 0 others;
+              few = (omega (arith, some-noted), h.few.1);
+              ends = sym (drop-drop 1 a.next_end (take a.ends_count a.ends)) ∙ ap (drop 1) places-are
+                  ∙ ap (λ n. musts n rest) behind ∙ ap (musts (a.next + count)) is ∙ musts-moved last.at (a.next + count) others;
+            };
       }
 
   pub last_below : length front < a.left
@@ -189,31 +263,15 @@ module _ {a : Ahead} (front : List Break) (last : Break) (rest : List Break) (h 
       ∙ ap (moved a.base) (get_or-append_seam front last rest (shown no_break))
 
   pub TakesBy-shown : (b : Break) → b ≡ moved a.base last
-      → TakesBy a (record { block = a.block; next = a.next + count; left = a.left - count; told = count; base = b.at })
-      (record { len = b.at - a.base; end = record { kind = b.kind; rule = b.rule } }) front last rest
+      → TakesBy a (taken b.at) (record { len = b.at - a.base; end = record { kind = b.kind; rule = b.rule } }) front last rest
   TakesBy-shown b is =
       let len : a.base + last.at - a.base ≡ last.at = omega arith in
       subst
-      (λ b. TakesBy a (record { block = a.block; next = a.next + count; left = a.left - count; told = count; base = b.at })
-      (record { len = b.at - a.base; end = record { kind = b.kind; rule = b.rule } }) front last rest)
+      (λ b. TakesBy a (taken b.at) (record { len = b.at - a.base; end = record { kind = b.kind; rule = b.rule } }) front last rest)
       (sym is)
       (subst
-      (λ n. TakesBy a (record { block = a.block; next = a.next + count; left = a.left - count; told = count; base = a.base + last.at })
-      (record { len = n; end = record { kind = last.kind; rule = last.rule } }) front last rest)
+      (λ n. TakesBy a (taken (a.base + last.at)) (record { len = n; end = record { kind = last.kind; rule = last.rule } }) front last rest)
       (sym len) TakesBy-counted)
-
--- breaks that stand so many bytes further on, moved back
-moved-back : (n : ℕ) (bs : List Break) → map (λ b. record { at = b.at - n; kind = b.kind; rule = b.rule }) (map (moved n) bs) ≡ bs
-moved-back n [] = refl
-moved-back n (b ∷ bs) =
-    let at : n + b.at - n ≡ b.at = omega arith in
-    ap (λ k. record { at = k; kind = b.kind; rule = b.rule } ∷ map (λ b. record { at = b.at - n; kind = b.kind; rule = b.rule }) (map (moved n) bs)) at
-    ∙ ap (λ l. b ∷ l) (moved-back n bs)
-
-told_in-moved : (a : Ahead) (len : ℕ) (found : List Break) → given_in (drop (a.next - a.told) a.block) a.told ≡ map (moved (a.base - len)) found
-    → told_in a len ≡ found
-told_in-moved a len found given =
-    ap (map (λ b. record { at = b.at - (a.base - len); kind = b.kind; rule = b.rule })) given ∙ moved-back (a.base - len) found
 
 -- a passage was taken by breaks, or none was
 module _ (profile : Profile) (cell : ℕ → Cell) (p : Paragraph) (a new : Ahead) (count : ℕ) (utf8 : IsUtf8 p.feed.ready) (fresh : (p.is_held || p.is_spent) ≡ false)
@@ -230,7 +288,7 @@ module _ (profile : Profile) (cell : ℕ → Cell) (p : Paragraph) (a new : Ahea
 
   module _ (told : Told) (takes : TakesTold a new count p.limit (Some told)) where
     by : TakesBy a new told e.front e.last e.rest
-    by = takes.1 e.front e.last e.rest has e.counted
+    by = takes.1 (take a.left (breaks profile cell (chars p.feed.ready))) (length p.feed.ready) h e
 
     abbrev others : List Break
     others = take (length e.rest) (breaks profile cell (first.cut.next ∷ first.cut.more))
@@ -281,57 +339,26 @@ module _ (profile : Profile) (cell : ℕ → Cell) (p : Paragraph) (a new : Ahea
         after
 
     has_told : HasTold profile cell (take told.len p.feed.ready) told.end new
-    has_told =
-        let found = e.front ++ e.last ∷ [] in
-        let base : a.base ≡ new.base - length (take told.len p.feed.ready) = omega (arith, by.base, text_len) in
-        let given = by.given ∙ ap (λ n. map (moved n) found) base in
-        let same : told_in new (length (take told.len p.feed.ready)) ≡ found = told_in-moved new (length (take told.len p.feed.ready)) found given in
-        record {
-          some = by.some;
-          each = shows-breaks (drop (new.next - new.told) new.block) new.told by.each;
-          before = omega (arith, by.base, text_len);
-          given = given ∙ ap (map (moved (new.base - length (take told.len p.feed.ready)))) (sym same);
-          within = subst (All (λ b. b.at < length (take told.len p.feed.ready) + 1)) (sym same)
-              (subst (λ n. All (λ b. b.at < n + 1) found) (sym text_len) first.cut.within);
-          cut = ap (cut_at 0) same ∙ first.cut.segments ∙ ap (λ v. segments_of (ended v (marks profile cell first.cut.taken))) (sym by.end)
-              ∙ ap (λ cs. segments_of (ended told.end (marks profile cell cs))) (sym text_chars);
-        }
+    has_told = record {
+      some = by.some;
+      cut = by.cut ∙ first.cut.segments ∙ ap (λ v. segments_of (ended v (marks profile cell first.cut.taken))) (sym by.end)
+          ∙ ap (λ cs. segments_of (ended told.end (marks profile cell cs))) (sym text_chars);
+    }
 
   pub Tells-taken : (r : Option Told) (old : Ahead) → TakesTold a new count p.limit r → Tells profile cell p old new r
   Tells-taken None old is = inr (fresh, λ ready. subst (λ n. IsAhead profile cell ready n) (sym is) (HasAhead-none h), ap (λ n. n.told) is)
   Tells-taken (Some told) old takes = (tells_paragraph told takes, keeps_ahead told takes, has_told told takes)
 
--- the breaks of the passage taken last
-pub slice-many : (a : Ahead) → HasSizes a → length (take a.told (drop (a.next - a.told) a.block)) ≡ a.told
-slice-many a sizes =
-    length-take-le a.told (drop (a.next - a.told) a.block)
-    (omega (arith, length-drop (a.next - a.told) a.block, sizes.0, sizes.1, sizes.2))
+-- the segments of the passage taken last
+pub by_count-none : {X : Type 0} (n : ℕ) (none some : X) → n ≡ 0 → by_count n none some ≡ none
+by_count-none n none some is = ap (λ k. by_count k none some) is
 
-module _ {profile : Profile} {cell : ℕ → Cell} {text : List ℕ} {end : Verdict} {a : Ahead} (h : HasTold profile cell text end a)
-    (sizes : HasSizes a) where
-  pub slice-breaks : AreBreaks (take a.told (drop (a.next - a.told) a.block)) (length (take a.told (drop (a.next - a.told) a.block)))
-  slice-breaks k less =
-      let below : k < a.told = omega (arith, less, slice-many a sizes) in
-      subst IsBreak (sym (get_or-take a.told (drop (a.next - a.told) a.block) k no_break below)) (breaks-shown (drop (a.next - a.told) a.block) a.told h.each k below)
+pub by_count-some : {X : Type 0} (n : ℕ) (none some : X) → 0 < n → by_count n none some ≡ some
+by_count-some zero none some less = absurd (omega (arith, less))
+by_count-some (suc n) none some less = refl
 
-  found-told : length (told_in a (length text)) ≡ a.told
-  found-told = sym (length-map (told_in a (length text)) (moved (a.base - length text))) ∙ sym (ap length h.given)
-      ∙ length-map (take a.told (drop (a.next - a.told) a.block)) shown ∙ slice-many a sizes
-
-  pub slice-near : length text < 4294967296
-      → All (λ one. (a.base - length text ≤ one.at) × (one.at < a.base - length text + 4294967296)) (take a.told (drop (a.next - a.told) a.block))
-  slice-near few k d less =
-      let slice = take a.told (drop (a.next - a.told) a.block) in
-      let there : k < length (told_in a (length text)) = omega (arith, less, slice-many a sizes, found-told) in
-      let same : shown (get_or slice k d) ≡ moved (a.base - length text) (get_or (told_in a (length text)) k (shown d)) =
-      sym (get_or-map shown slice k d (shown d) less) ∙ ap (λ bs. get_or bs k (shown d)) h.given
-      ∙ get_or-map (moved (a.base - length text)) (told_in a (length text)) k (shown d) (shown d) there in
-      let at = ap (λ b. b.at) same in
-      let near = h.within k (shown d) there in
-      (omega (arith, at), omega (arith, at, near, few))
-
-  pub lines-many : length (segments_of (ended end (marks profile cell (chars text)))) ≡ length (take a.told (drop (a.next - a.told) a.block))
-  lines-many = sym (ap length h.cut) ∙ length-cut 0 (told_in a (length text)) ∙ found-told ∙ sym (slice-many a sizes)
+pub HasSizes-ahead : {a : Ahead} {found : List Break} → HasAhead a found → HasSizes a
+HasSizes-ahead h = (h.before, omega (arith, h.within), h.whole.1)
 
 -- what was found ahead is so still after the call that filled a paragraph, or looked for one
 pub ahead-kept : (profile : Profile) (cell : ℕ → Cell) (p q : Paragraph) (old a : Ahead) (r : Option Told)
@@ -349,11 +376,15 @@ ahead-kept profile cell p q old a (Some told) tells gives same was found = (
 )
 
 -- nothing was found yet
-pub HasAhead-nothing : (block : List RawBreak) → length block ≡ 256 → HasAhead (record { block = block; next = 0; left = 0; told = 0; base = 0 }) []
-HasAhead-nothing block size = record {
-  size = size;
+pub HasAhead-nothing : (block : List RawBreak) (segments : List Segment) (ends : List ℕ) → length block ≡ 256 → length segments ≡ 256 → length ends ≡ 256
+    → HasAhead (record { block = block; segments = segments; ends = ends; ends_count = 0; next_end = 0; next = 0; left = 0; told = 0; base = 0 }) []
+HasAhead-nothing block segments ends blocks cuts places = record {
+  whole = (blocks, cuts, places);
   within = omega arith;
   before = omega arith;
   each = λ k less. absurd (omega (arith, less));
   given = refl;
+  cut = refl;
+  few = (omega arith, omega arith);
+  ends = refl;
 }

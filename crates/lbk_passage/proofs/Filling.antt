@@ -1,5 +1,5 @@
 -- What filling a paragraph leaves, as its callers see it.
-use Rattle.std.proofs.Common.{◌≡◌, ℕ, ◌+◌, Bool, true, false, ◌||◌, not, List, [], ◌++◌, length, Option, None, Some, Result, Ok, Err, string_bytes, encode_utf8_all, chars, IsUtf8, if◌then◌else◌, refl, sym, ap, subst, ◌∙◌, arith, inl, inr, ⊎_elim, append-nil}
+use Rattle.std.proofs.Common.{◌≡◌, ℕ, ◌+◌, Bool, true, false, ◌||◌, not, List, [], ◌++◌, length, Option, None, Some, Result, Ok, Err, encode_utf8_all, chars, IsUtf8, if◌then◌else◌, refl, sym, ap, subst, ◌∙◌, arith, inl, inr, ⊎_elim, append-nil}
 use Rattle.std.specs.Io.KnownBytes.{prepend_known}
 use Rattle.std.proofs.lemmas.Str.{chars-nil, encodes-chars}
 use Rattle.std.proofs.lemmas.Bool.{false≢true}
@@ -8,7 +8,7 @@ use Rattle.lbk_feed.specs.View.{BeginsWith, CanGoOn}
 use Rattle.lbk_rules.specs.declared.Cell.{Cell}
 use Rattle.lbk_values.specs.declared.profile.Profile.{Profile}
 use Rattle.lbk_rules.specs.declared.Verdict.{Verdict}
-use Rattle.lbk_passage.specs.State.{State, state_with, text_held}
+use Rattle.lbk_passage.specs.State.{bytes_in, State, state_with, text_held}
 use Rattle.lbk_passage.specs.Stays.{IsWhole, IsWholeText, end_before, is_nil, last_class}
 use Rattle.lbk_passage.specs.Next.{fault_in, ends_run, IsDone, KeepsAhead, Stops, WereDue}
 use Rattle.lbk_passage.specs.Gathering.{HasRead, WasOpen, Gathers, Fills, FillAnswers}
@@ -24,12 +24,12 @@ use Rattle.lbk_passage.proofs.Booleans.{or-false, or-true}
 -- where nothing is left, a paragraph that is held has no end, and the feed holds nothing
 module _ (cell : ℕ → Cell) (profile : Profile) (p : Paragraph) where
   pub held_done : (p.is_held || p.is_spent) ≡ false → IsDone (state_with cell profile p) → p.feed.held ≡ []
-  held_done fresh done = ap (λ b. (if b then string_bytes p.text else []) ++ p.feed.held) (sym fresh) ∙ done.none
+  held_done fresh done = ap (λ b. (if b then bytes_in p else []) ++ p.feed.held) (sym fresh) ∙ done.none
 
   pub whole_done : (p.is_held || p.is_spent) ≡ true → IsWhole cell p → IsDone (state_with cell profile p) → p.end ≡ None
   whole_done in_hand whole done =
-      let none : string_bytes p.text ≡ [] =
-      ready_nil (string_bytes p.text) p.feed.held (ap (λ b. (if b then string_bytes p.text else []) ++ p.feed.held) (sym in_hand) ∙ done.none) in
+      let none : bytes_in p ≡ [] =
+      ready_nil (bytes_in p) p.feed.held (ap (λ b. (if b then bytes_in p else []) ++ p.feed.held) (sym in_hand) ∙ done.none) in
       whole.end_is ∙ ap (λ k. end_before k (not (is_nil (chars p.feed.ready)))) (ap (last_class cell None) (ap chars none ∙ chars-nil))
 
 module _ (cell : ℕ → Cell) (profile : Profile) (old : Paragraph) (u : Option (List ℕ)) (e : Bool) (reads : Reads) where
@@ -79,27 +79,27 @@ module _ (cell : ℕ → Cell) (profile : Profile) (old : Paragraph) (u : Option
   -- a paragraph that was gathered
   module _ (mid new p : Paragraph) (v : Option (List ℕ)) (e' : Bool) (reads' : Reads) (r : Result (Option Verdict) PassageFault)
       (fresh : (old.is_held || old.is_spent) ≡ false) (feed_is : mid.feed ≡ old.feed) (limit_is : mid.limit ≡ old.limit)
-      (g : Gathers cell mid new u v e e' reads reads' r) (feed_same : p.feed ≡ new.feed) (text_same : string_bytes p.text ≡ string_bytes new.text)
+      (g : Gathers cell mid new u v e e' reads reads' r) (feed_same : p.feed ≡ new.feed) (text_same : bytes_in p ≡ bytes_in new)
       (limit_same : p.limit ≡ new.limit) (spent_same : p.is_spent ≡ new.is_spent) (in_hand : (p.is_held || p.is_spent) ≡ true) where
     none_held : text_held old ≡ []
-    none_held = ap (λ b. if b then string_bytes old.text else []) fresh
+    none_held = ap (λ b. if b then bytes_in old else []) fresh
 
-    text_is : text_held p ≡ string_bytes new.text
-    text_is = ap (λ b. if b then string_bytes p.text else []) in_hand ∙ text_same
+    text_is : text_held p ≡ bytes_in new
+    text_is = ap (λ b. if b then bytes_in p else []) in_hand ∙ text_same
 
     old_held : (state_with cell profile old).held ≡ mid.feed.held
     old_held = ap (λ l. l ++ old.feed.held) none_held ∙ ap (λ f. f.held) (sym feed_is)
 
-    new_held : (state_with cell profile p).held ≡ string_bytes new.text ++ new.feed.held
-    new_held = ap (λ l. l ++ p.feed.held) text_is ∙ ap (λ f. string_bytes new.text ++ f.held) feed_same
+    new_held : (state_with cell profile p).held ≡ bytes_in new ++ new.feed.held
+    new_held = ap (λ l. l ++ p.feed.held) text_is ∙ ap (λ f. bytes_in new ++ f.held) feed_same
 
-    read : HasRead cell mid.limit mid.feed (string_bytes new.text ++ new.feed.held) u v reads reads' (fault_in r)
+    read : HasRead cell mid.limit mid.feed (bytes_in new ++ new.feed.held) u v reads reads' (fault_in r)
     read = g.read
 
     before : (state_with cell profile old).start ≡ mid.feed.given
     before = omega (arith, ap length none_held, ap (λ f. f.given) feed_is)
 
-    due : WasOpen cell mid.limit mid.feed (string_bytes new.text ++ new.feed.held) reads reads'
+    due : WasOpen cell mid.limit mid.feed (bytes_in new ++ new.feed.held) reads reads'
         → WereDue (state_with cell profile old) (state_with cell profile p).held reads reads'
     due o =
         let spelt : encode_utf8_all (chars o.text) ≡ o.text = encodes-chars o.text o.utf8 in
@@ -167,12 +167,12 @@ ends_by_fault s Spent stops = refl
 pub Fills-ok : (cell : ℕ → Cell) (profile : Profile) (old : Paragraph) (u : Option (List ℕ)) (e : Bool) (reads : Reads)
     (mid new p : Paragraph) (v : Option (List ℕ)) (e' : Bool) (reads' : Reads) (end : Option Verdict)
     → (old.is_held || old.is_spent) ≡ false → mid.feed ≡ old.feed → mid.limit ≡ old.limit
-    → Gathers cell mid new u v e e' reads reads' (Ok end) → p.feed ≡ new.feed → string_bytes p.text ≡ string_bytes new.text
+    → Gathers cell mid new u v e e' reads reads' (Ok end) → p.feed ≡ new.feed → bytes_in p ≡ bytes_in new
     → p.limit ≡ new.limit → p.is_spent ≡ new.is_spent → p.is_held ≡ true → old.is_spent ≡ false → Fills cell profile old p u v e e' reads reads' (Ok end)
 Fills-ok cell profile old u e reads mid new p v e' reads' end fresh feed_is limit_is g feed_same text_same limit_same spent_same held unspent =
     let in_hand = ap (λ b. b || p.is_spent) held in
-    let whole : IsWholeText cell (string_bytes p.text) p.feed end =
-    subst (λ f. IsWholeText cell (string_bytes p.text) f end) (sym feed_same)
+    let whole : IsWholeText cell (bytes_in p) p.feed end =
+    subst (λ f. IsWholeText cell (bytes_in p) f end) (sym feed_same)
     (subst (λ l. IsWholeText cell l new.feed end) (sym text_same) g.whole) in
     Fills-gathered cell profile old u e reads mid new p v e' reads' (Ok end) fresh feed_is limit_is g feed_same text_same limit_same spent_same in_hand unspent
     (found (state_with cell profile p) p (Shows-of cell profile p in_hand) end old.is_spent whole)

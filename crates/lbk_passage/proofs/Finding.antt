@@ -1,5 +1,5 @@
 -- A paragraph that is held whole is the first passage of the text still to come.
-use Rattle.std.proofs.Common.{◌≡◌, ℕ, ◌+◌, ◌≤◌, Bool, true, false, ◌&&◌, not, List, [], ◌∷◌, ◌++◌, length, drop, Option, None, Some, Ok, encode_utf8, encode_utf8_all, string_bytes, IsUtf8, chars, refl, sym, ap, subst, ◌∙◌, arith, inl, inr, length-append, append_assoc, append-nil}
+use Rattle.std.proofs.Common.{◌≡◌, ℕ, ◌+◌, ◌≤◌, Bool, true, false, ◌&&◌, not, List, [], ◌∷◌, ◌++◌, length, drop, Option, None, Some, Ok, encode_utf8, encode_utf8_all, IsUtf8, chars, refl, sym, ap, subst, ◌∙◌, arith, inl, inr, length-append, append_assoc, append-nil}
 use Rattle.std.proofs.Math.Utf8.{scalar, scalars}
 use Rattle.std.proofs.lemmas.Str.{scalars-chars, encodes-chars, encode_same, length-encode, len_utf8_bounds, IsUtf8-from_is_utf8}
 use Rattle.lbk_feed.specs.Text.{longest_text}
@@ -8,7 +8,7 @@ use Rattle.lbk_rules.specs.Ends.{ends_between, end_after, end_of_text}
 use Rattle.lbk_passage.specs.Marks.{marks, scalars_of, text_of, ended}
 use Rattle.lbk_passage.specs.Passages.{passages}
 use Rattle.lbk_passage.specs.Stays.{ends_at, stays, last_class, end_before, finds_end, is_nil, IsWholeText}
-use Rattle.lbk_passage.specs.State.{State}
+use Rattle.lbk_passage.specs.State.{bytes_in, State}
 use Rattle.lbk_passage.specs.Next.{IsDone}
 use Rattle.lbk_passage.specs.Gathering.{IsFirst, FillAnswers}
 use Rattle.lbk_passage.specs.declared.paragraph.Paragraph.{Paragraph}
@@ -26,11 +26,11 @@ IsUtf8-scalar c is = (c ∷ [], (ap (λ b. b && true) is, append-nil (encode_utf
 -- how a state shows a paragraph that is held
 pub record Shows (s : State) (p : Paragraph) : Type 0 where
   pub limit : s.limit ≡ p.limit
-  pub start : s.start + length (string_bytes p.text) ≡ p.feed.given
-  pub held : s.held ≡ string_bytes p.text ++ p.feed.held
+  pub start : s.start + length (bytes_in p) ≡ p.feed.given
+  pub held : s.held ≡ bytes_in p ++ p.feed.held
   pub is_ended : s.is_ended ≡ p.feed.is_ended
-  pub text : IsUtf8 (string_bytes p.text)
-  pub within : length (string_bytes p.text) ≤ s.limit
+  pub text : IsUtf8 (bytes_in p)
+  pub within : length (bytes_in p) ≤ s.limit
 
 some_bytes : (c : ℕ) → 1 ≤ length (encode_utf8 c)
 some_bytes c = let bounds = len_utf8_bounds c in omega (arith, length-encode c, bounds.0)
@@ -39,29 +39,29 @@ module _ (s : State) (p : Paragraph) (shows : Shows s p) where
   scalars_are : (end : Verdict) (cs : List ℕ) → scalars_of (ended end (marks s.profile s.cell cs)) ≡ cs
   scalars_are end cs = scalars-ended end (marks s.profile s.cell cs) ∙ scalars-behind s.profile s.cell [] cs
 
-  within : (end : Verdict) → length (text_of (ended end (marks s.profile s.cell (chars (string_bytes p.text))))) ≤ s.limit
+  within : (end : Verdict) → length (text_of (ended end (marks s.profile s.cell (chars (bytes_in p))))) ≤ s.limit
   within end =
-      let same = ap (λ l. length (encode_utf8_all l)) (scalars_are end (chars (string_bytes p.text)))
-      ∙ ap length (encodes-chars (string_bytes p.text) shows.text) in
+      let same = ap (λ l. length (encode_utf8_all l)) (scalars_are end (chars (bytes_in p)))
+      ∙ ap length (encodes-chars (bytes_in p) shows.text) in
       omega (arith, same, shows.within)
 
-  module _ (end : Option Verdict) (whole : IsWholeText s.cell (string_bytes p.text) p.feed end) where
+  module _ (end : Option Verdict) (whole : IsWholeText s.cell (bytes_in p) p.feed end) where
     ready_utf8 : IsUtf8 p.feed.ready
     ready_utf8 = IsUtf8-from_is_utf8 p.feed.ready whole.utf8
 
     -- no text is left
-    done : chars (string_bytes p.text) ≡ [] → chars p.feed.ready ≡ [] → (is_nil p.feed.held && p.feed.is_ended) ≡ true → IsDone s
+    done : chars (bytes_in p) ≡ [] → chars p.feed.ready ≡ [] → (is_nil p.feed.held && p.feed.is_ended) ≡ true → IsDone s
     done none ready found = record {
-      none = shows.held ∙ ap (λ l. l ++ p.feed.held) (sym (encodes-chars (string_bytes p.text) shows.text) ∙ ap encode_utf8_all none)
+      none = shows.held ∙ ap (λ l. l ++ p.feed.held) (sym (encodes-chars (bytes_in p) shows.text) ∙ ap encode_utf8_all none)
           ∙ is_nil-nil p.feed.held (both-left _ _ found);
       at_end = shows.is_ended ∙ both-right _ _ found;
     }
 
-    counted : s.start + length (string_bytes p.text) ≤ longest_text
+    counted : s.start + length (bytes_in p) ≤ longest_text
     counted = omega (arith, shows.start, whole.few)
 
     -- the text ends behind the paragraph
-    last : (c : ℕ) (cs : List ℕ) → chars (string_bytes p.text) ≡ c ∷ cs → stays s.cell (Some (s.cell c).class) cs ≡ true
+    last : (c : ℕ) (cs : List ℕ) → chars (bytes_in p) ≡ c ∷ cs → stays s.cell (Some (s.cell c).class) cs ≡ true
         → (is_nil p.feed.held && p.feed.is_ended) ≡ true → IsFirst s p end_of_text
     last c cs is none found = record {
       some = omega (arith, ap length is);
@@ -71,7 +71,7 @@ module _ (s : State) (p : Paragraph) (shows : Shows s p) where
         follows = inr (record {
           none = is_nil-nil p.feed.held (both-left _ _ found);
           at_end = shows.is_ended ∙ both-right _ _ found;
-          first = ap (passages s.profile s.cell) (scalars_are end_of_text (chars (string_bytes p.text)) ∙ is) ∙ only_passage s.profile s.cell c cs none
+          first = ap (passages s.profile s.cell) (scalars_are end_of_text (chars (bytes_in p)) ∙ is) ∙ only_passage s.profile s.cell c cs none
               ∙ ap (λ l. ended end_of_text (marks s.profile s.cell l) ∷ []) (sym is);
         });
       };
@@ -83,7 +83,7 @@ module _ (s : State) (p : Paragraph) (shows : Shows s p) where
     }
 
     -- text follows it
-    followed : (c : ℕ) (cs : List ℕ) (y : ℕ) (ys : List ℕ) → chars (string_bytes p.text) ≡ c ∷ cs → chars p.feed.ready ≡ y ∷ ys
+    followed : (c : ℕ) (cs : List ℕ) (y : ℕ) (ys : List ℕ) → chars (bytes_in p) ≡ c ∷ cs → chars p.feed.ready ≡ y ∷ ys
         → stays s.cell (Some (s.cell c).class) cs ≡ true → ends_between (last_in s.profile s.cell c cs) (s.cell y).class ≡ true
         → IsFirst s p (end_after (last_in s.profile s.cell c cs))
     followed c cs y ys is next none ends =
@@ -101,7 +101,7 @@ module _ (s : State) (p : Paragraph) (shows : Shows s p) where
               rest = encode_utf8_all ys ++ behind;
               bytes = sym whole.first ∙ ap (λ l. l ++ behind) ready ∙ append_assoc (encode_utf8 y) (encode_utf8_all ys) behind;
               scalar = IsUtf8-scalar y (both-left _ (scalars ys) all);
-              first = λ more. ap (λ l. passages s.profile s.cell (l ++ y ∷ more)) (scalars_are end (chars (string_bytes p.text)) ∙ is)
+              first = λ more. ap (λ l. passages s.profile s.cell (l ++ y ∷ more)) (scalars_are end (chars (bytes_in p)) ∙ is)
                   ∙ first_passage s.profile s.cell c cs y more none ends
                   ∙ ap (λ l. ended end (marks s.profile s.cell l) ∷ passages s.profile s.cell (y ∷ more)) (sym is);
             });
@@ -118,8 +118,8 @@ module _ (s : State) (p : Paragraph) (shows : Shows s p) where
   Answered None = IsDone s
   Answered (Some end) = IsFirst s p end
 
-  found_by : (end : Option Verdict) → IsWholeText s.cell (string_bytes p.text) p.feed end → (cs ys : List ℕ)
-      → chars (string_bytes p.text) ≡ cs → chars p.feed.ready ≡ ys
+  found_by : (end : Option Verdict) → IsWholeText s.cell (bytes_in p) p.feed end → (cs ys : List ℕ)
+      → chars (bytes_in p) ≡ cs → chars p.feed.ready ≡ ys
       → stays s.cell None cs ≡ true → finds_end s.cell (last_class s.cell None cs) p.feed ys ≡ true
       → (o : Option Verdict) → o ≡ end_before (last_class s.cell None cs) (not (is_nil ys)) → Answered o
   unfolding Answered
@@ -131,9 +131,9 @@ module _ (s : State) (p : Paragraph) (shows : Shows s p) where
       subst Answered (sym (end_is ∙ ap (λ k. end_before k true) (last_class-in s.profile s.cell c cs)))
       (followed end whole c cs y ys is next none (ap (λ k. ends_at k (s.cell y).class) (sym (last_class-in s.profile s.cell c cs)) ∙ found))
 
-  pub found : (end : Option Verdict) (was : Bool) → IsWholeText s.cell (string_bytes p.text) p.feed end → FillAnswers s p was (Ok end)
+  pub found : (end : Option Verdict) (was : Bool) → IsWholeText s.cell (bytes_in p) p.feed end → FillAnswers s p was (Ok end)
   unfolding Answered
   found None was whole =
-      found_by None whole (chars (string_bytes p.text)) (chars p.feed.ready) refl refl whole.none_ends whole.found None whole.end_is
+      found_by None whole (chars (bytes_in p)) (chars p.feed.ready) refl refl whole.none_ends whole.found None whole.end_is
   found (Some end) was whole =
-      found_by (Some end) whole (chars (string_bytes p.text)) (chars p.feed.ready) refl refl whole.none_ends whole.found (Some end) whole.end_is
+      found_by (Some end) whole (chars (bytes_in p)) (chars p.feed.ready) refl refl whole.none_ends whole.found (Some end) whole.end_is

@@ -1,7 +1,7 @@
 -- What a call of `next` leaves, by the answer of the call that fills a paragraph.
-use Rattle.std.proofs.Common.{◌≡◌, ◌⊎◌, ℕ, ◌-◌, ◌*◌, ◌<◌, ◌≤◌, Bool, true, false, ◌||◌, List, [], ◌∷◌, ◌++◌, length, Option, None, Some, Result, Ok, Err, is_ok, max, OnOk, OnErr, string_bytes, string_len, encode_utf8_all, chars, IsUtf8, if◌then◌else◌, refl, sym, ap, subst, ◌∙◌, arith, inl, inr, ⊎_elim}
+use Rattle.std.proofs.Common.{◌≡◌, ◌⊎◌, ℕ, ◌-◌, ◌*◌, ◌<◌, ◌≤◌, Bool, true, false, ◌||◌, List, [], ◌∷◌, ◌++◌, length, Option, None, Some, Result, Ok, Err, is_ok, max, OnOk, OnErr, encode_utf8_all, chars, IsUtf8, if◌then◌else◌, refl, sym, ap, subst, ◌∙◌, arith, inl, inr, ⊎_elim}
 use Rattle.std.proofs.Math.Nat.{le-max_left}
-use Rattle.std.proofs.lemmas.Str.{chars-nil, encodes-chars, IsUtf8-string_bytes}
+use Rattle.std.proofs.lemmas.Str.{chars-nil, encodes-chars}
 use Rattle.std.specs.Io.KnownBytes.{prepend_known}
 use Rattle.lbk_feed.specs.Devices.{Reads}
 use Rattle.lbk_feed.specs.View.{BeginsWith, IsStill}
@@ -12,7 +12,7 @@ use Rattle.lbk_passage.specs.Marks.{Marked, marks, ended, scalars_of, text_of}
 use Rattle.lbk_passage.specs.Segments.{segments_of}
 use Rattle.lbk_passage.specs.Pieces.{pieces_of}
 use Rattle.lbk_passage.specs.Shown.{Found, KeepsRoom, LacksRoom}
-use Rattle.lbk_passage.specs.State.{State, state_with, text_held}
+use Rattle.lbk_passage.specs.State.{bytes_in, State, state_with, text_held}
 use Rattle.lbk_passage.specs.Next.{fault_in, lends as is_lent, lent_text, Answers, AfterNext, IsPlaced, Lends, ComesFirst, GoesOn, GoesOnce, IsDone, IsLast, Stops, KeepsAhead, WereDue}
 use Rattle.lbk_passage.specs.Gathering.{Asks, Fills, FillAnswers, IsFirst, IsSame}
 use Rattle.lbk_passage.specs.declared.faults.PassageFault.{PassageFault}
@@ -23,7 +23,7 @@ use Rattle.lbk_passage.proofs.Finding.{Shows}
 use Rattle.lbk_rules.proofs.MarkLemmas.{scalars-behind, scalars-ended}
 use Rattle.lbk_passage.proofs.Gathered.{Shows-of}
 use Rattle.lbk_passage.proofs.Settling.{ok_err, some_none}
-use Rattle.lbk_passage.proofs.Taking.{string_len-is}
+use Rattle.lbk_passage.proofs.Texts.{IsUtf8-bytes_in}
 
 pub or-cases : (a b : Bool) → (a || b) ≡ true → (a ≡ true) ⊎ (b ≡ true)
 or-cases true b h = inl refl
@@ -123,7 +123,7 @@ module _ {cell : ℕ → Cell} {profile : Profile} {old p : Paragraph} {u v : Op
     shows = Shows-of cell profile p f.in_hand
 
     abbrev text : List ℕ
-    text = string_bytes p.text
+    text = bytes_in p
 
     abbrev ms : List Marked
     ms = ended end (marks profile cell (chars text))
@@ -132,7 +132,7 @@ module _ {cell : ℕ → Cell} {profile : Profile} {old p : Paragraph} {u v : Op
     scalars_are = scalars-ended end (marks profile cell (chars text)) ∙ scalars-behind profile cell [] (chars text)
 
     text_is : text_of ms ≡ text
-    text_is = ap encode_utf8_all scalars_are ∙ encodes-chars (string_bytes p.text) (IsUtf8-string_bytes p.text)
+    text_is = ap encode_utf8_all scalars_are ∙ encodes-chars (bytes_in p) (IsUtf8-bytes_in p)
 
     first_is : IsFirst (state_with cell profile p) p end
     first_is = f.answer
@@ -189,10 +189,10 @@ module _ {cell : ℕ → Cell} {profile : Profile} {old p : Paragraph} {u v : Op
 
     -- what a passage says of the paragraph
     pub record IsOf (pg : Passage) : Type 0 where
-      pub start : pg.start ≡ p.feed.given - string_len p.text
-      pub bytes : pg.text.now ≡ string_bytes p.text
-      pub segments : pg.segments.now ≡ segments_of (ended end (marks profile cell (chars (string_bytes p.text))))
-      pub pieces : pg.pieces.now ≡ pieces_of cell (string_bytes p.text)
+      pub start : pg.start ≡ p.feed.given - length (bytes_in p)
+      pub bytes : pg.text.now ≡ bytes_in p
+      pub segments : pg.segments.now ≡ segments_of (ended end (marks profile cell (chars (bytes_in p))))
+      pub pieces : pg.pieces.now ≡ pieces_of cell (bytes_in p)
       pub ends : pg.end ≡ end
 
     module _ (q : Paragraph) (pg : Passage) (same : IsSame p q false p.is_spent) (of : IsOf pg) where
@@ -203,16 +203,16 @@ module _ {cell : ℕ → Cell} {profile : Profile} {old p : Paragraph} {u v : Op
       out = ap (λ b. b || q.is_spent) same.held ∙ unspent
 
       none_held : text_held q ≡ []
-      none_held = ap (λ b. if b then string_bytes q.text else []) out
+      none_held = ap (λ b. if b then bytes_in q else []) out
 
       held_is : (state_with cell profile q).held ≡ p.feed.held
       held_is = ap (λ l. l ++ q.feed.held) none_held ∙ ap (λ g. g.held) same.feed
 
       all_is : pg.text.now ++ (state_with cell profile q).held ≡ (state_with cell profile p).held
-      all_is = ap (λ l. l ++ (state_with cell profile q).held) of.bytes ∙ ap (λ l. string_bytes p.text ++ l) held_is ∙ sym shows.held
+      all_is = ap (λ l. l ++ (state_with cell profile q).held) of.bytes ∙ ap (λ l. bytes_in p ++ l) held_is ∙ sym shows.held
 
-      start_is : (state_with cell profile old).start ≡ p.feed.given - string_len p.text
-      start_is = let begins = shows.start in omega (arith, f.start, begins, string_len-is p.text)
+      start_is : (state_with cell profile old).start ≡ p.feed.given - length (bytes_in p)
+      start_is = let begins = shows.start in omega (arith, f.start, begins)
 
       ended_is : (state_with cell profile q).is_ended ≡ (state_with cell profile p).is_ended
       ended_is = ap (λ g. g.is_ended) same.feed
@@ -234,7 +234,7 @@ module _ {cell : ℕ → Cell} {profile : Profile} {old p : Paragraph} {u v : Op
         passage = record {
           some = some;
           text = of.bytes ∙ sym text_is;
-          utf8 = subst IsUtf8 (sym of.bytes) (IsUtf8-string_bytes p.text);
+          utf8 = subst IsUtf8 (sym of.bytes) (IsUtf8-bytes_in p);
           segments = of.segments;
           pieces = of.pieces ∙ ap (pieces_of cell) (sym text_is);
           alone = ap (λ x. ended x (marks profile cell (chars text))) (sym of.ends) ∙ ap (λ l. ended pg.end (marks profile cell l)) (sym scalars_are);
@@ -282,7 +282,7 @@ module _ {cell : ℕ → Cell} {profile : Profile} {old p : Paragraph} {u v : Op
       pub lent_placed : IsPlaced pg
       lent_placed =
           let first = first_is in
-          let text_in = some_text (string_bytes p.text) first.some in
+          let text_in = some_text (bytes_in p) first.some in
           (omega (arith, text_in, ap length of.bytes), omega (arith, lends.start, lends.counted))
 
       pub After-lent : AfterNext (state_with cell profile old) (state_with cell profile q) u v e e' reads reads' (Ok (Some pg)) × IsPlaced pg

@@ -17,6 +17,7 @@ pub mod Running
 pub mod Finding
 pub mod Staying
 pub mod Taking
+pub mod Texts
 pub mod FlagLemmas
 pub mod Passing
 pub mod SegmentLemmas
@@ -30,3 +31,4 @@ pub mod FoundLemmas
 pub mod KeptLemmas
 pub mod Pairs
 pub mod Places
+pub mod CutLemmas

@@ -1,5 +1,5 @@
 -- A paragraph that the bytes ready settle, before any read.
-use Rattle.std.proofs.Common.{◌≡◌, ◌⊎◌, ℕ, ◌-◌, ◌<◌, ◌≤◌, Bool, true, false, ◌||◌, List, [], ◌∷◌, ◌++◌, length, Option, None, string_bytes, chars, if◌then◌else◌, encode_utf8_all, refl, sym, ap, subst, ◌∙◌, arith, inl, inr, ⊎_elim, append_assoc, append-nil}
+use Rattle.std.proofs.Common.{◌≡◌, ◌⊎◌, ℕ, ◌-◌, ◌<◌, ◌≤◌, Bool, true, false, ◌||◌, List, [], ◌∷◌, ◌++◌, length, Option, None, chars, if◌then◌else◌, encode_utf8_all, refl, sym, ap, subst, ◌∙◌, arith, inl, inr, ⊎_elim, append_assoc, append-nil}
 use Rattle.std.proofs.Math.Utf8.{scalars}
 use Rattle.std.proofs.lemmas.Str.{chars-nil, encodes-append, encodes-chars, scalars-chars}
 use Rattle.lbk_feed.specs.Text.{well_formed_prefix, counted}
@@ -9,7 +9,7 @@ use Rattle.lbk_values.specs.declared.profile.Profile.{Profile}
 use Rattle.lbk_rules.specs.declared.Verdict.{Verdict}
 use Rattle.lbk_passage.specs.Gathering.{Reaches, StopsBefore, Takes}
 use Rattle.lbk_passage.specs.Next.{IsOpen}
-use Rattle.lbk_passage.specs.State.{State, state_with, text_held}
+use Rattle.lbk_passage.specs.State.{bytes_in, State, state_with, text_held}
 use Rattle.lbk_passage.specs.Stays.{IsWholeText, end_before, ends_at, last_class, stays}
 use Rattle.lbk_passage.specs.declared.paragraph.Paragraph.{Paragraph}
 use Rattle.lbk_passage.specs.declared.reach.Reach.{Reach}
@@ -29,13 +29,13 @@ same_state s limit start held is_ended settled is_spent b limit_is start_is held
     rw (limit_is, start_is, held_is, ended_is, spent_is, settled_is) refl
 
 module _ (cell : ℕ → Cell) (profile : Profile) (old : Paragraph) where
-  module _ (fresh : (old.is_held || old.is_spent) ≡ false) (mid : Paragraph) (none : string_bytes mid.text ≡ []) (feed_is : mid.feed ≡ old.feed)
+  module _ (fresh : (old.is_held || old.is_spent) ≡ false) (mid : Paragraph) (none : bytes_in mid ≡ []) (feed_is : mid.feed ≡ old.feed)
       (limit_is : mid.limit ≡ old.limit) (spent_is : mid.is_spent ≡ old.is_spent) where
     none_held : text_held old ≡ []
-    none_held = ap (λ b. if b then string_bytes old.text else []) fresh
+    none_held = ap (λ b. if b then bytes_in old else []) fresh
 
     module _ (by : ℕ → Cell) (n : Paragraph) (r : Reach) (t : Takes by None mid n r) where
-      text_is : string_bytes n.text ≡ encode_utf8_all t.taken
+      text_is : bytes_in n ≡ encode_utf8_all t.taken
       text_is = t.text ∙ ap (λ l. l ++ encode_utf8_all t.taken) none
 
       -- they settle it
@@ -43,22 +43,22 @@ module _ (cell : ℕ → Cell) (profile : Profile) (old : Paragraph) where
         cell = cell;
         profile = profile;
         limit = n.limit;
-        start = n.feed.given - length (string_bytes n.text);
-        held = string_bytes n.text ++ n.feed.held;
+        start = n.feed.given - length (bytes_in n);
+        held = bytes_in n ++ n.feed.held;
         is_ended = n.feed.is_ended;
         is_settled = true;
         is_spent = n.is_spent;
       } ≡ record (state_with cell profile old) { is_settled = true }
-      looked_line = same_state (state_with cell profile old) n.limit (n.feed.given - length (string_bytes n.text)) (string_bytes n.text ++ n.feed.held)
+      looked_line = same_state (state_with cell profile old) n.limit (n.feed.given - length (bytes_in n)) (bytes_in n ++ n.feed.held)
           n.feed.is_ended true n.is_spent true (t.limit ∙ limit_is)
           (omega (arith, ap length text_is, ap length none_held, t.given, ap (λ f. f.given) feed_is))
           (ap (λ l. l ++ n.feed.held) text_is ∙ sym t.was_held ∙ ap (λ f. f.held) feed_is ∙ sym (ap (λ l. l ++ old.feed.held) none_held))
           (t.ended ∙ ap (λ f. f.is_ended) feed_is) (t.same_spent ∙ spent_is) refl
 
-      scalars_are : chars (string_bytes n.text) ≡ t.taken
+      scalars_are : chars (bytes_in n) ≡ t.taken
       scalars_are = t.scalars ∙ ap (λ l. l ++ t.taken) (ap chars none ∙ chars-nil)
 
-      pub whole_line : (end : Option Verdict) → r.stop ≡ LineEnds → end ≡ end_before r.last true → IsWholeText by (string_bytes n.text) n.feed end
+      pub whole_line : (end : Option Verdict) → r.stop ≡ LineEnds → end ≡ end_before r.last true → IsWholeText by (bytes_in n) n.feed end
       whole_line end is end_is =
           whole-line by None mid n r t (ap (stays by None) scalars_are ∙ t.none_ends) (t.last_is ∙ ap (last_class by None) (sym scalars_are)) end is end_is
 
@@ -66,7 +66,7 @@ module _ (cell : ℕ → Cell) (profile : Profile) (old : Paragraph) where
 module _ (cell : ℕ → Cell) (profile : Profile) (old : Paragraph) (fresh : (old.is_held || old.is_spent) ≡ false) (room : ℕ)
     (room_is : old.limit ≤ room) (r : Reach) (lends : LendsFront old.feed) (front : IsFront old.feed) (reaches : Reaches cell None old.feed.ready room r) where
   nothing_held : text_held old ≡ []
-  nothing_held = ap (λ b. if b then string_bytes old.text else []) fresh
+  nothing_held = ap (λ b. if b then bytes_in old else []) fresh
 
   all_held : (state_with cell profile old).held ≡ old.feed.held
   all_held = ap (λ l. l ++ old.feed.held) nothing_held

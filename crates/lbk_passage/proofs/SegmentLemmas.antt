@@ -10,9 +10,7 @@ use Rattle.lbk_rules.specs.declared.Cell.{Cell}
 use Rattle.lbk_values.specs.declared.profile.Profile.{Profile}
 use Rattle.lbk_rules.specs.declared.Verdict.{Verdict}
 use Rattle.lbk_rules.specs.Verdict.{verdict_between_in}
-use Rattle.lbk_rules.specs.Joins.{moved}
 use Rattle.lbk_rules.proofs.EndLemmas.{must_at_end}
-use Rattle.lbk_rules.proofs.JoinLemmas.{map-moved-none}
 use Rattle.lbk_bytes.specs.declared.raw_break.RawBreak.{RawBreak}
 use Rattle.lbk_bytes.specs.Shown.{given_in, shown}
 use Rattle.lbk_passage.specs.declared.found.Progress.{Progress}
@@ -38,12 +36,6 @@ pub cut-on : {profile : Profile} {cell : ℕ → Cell} {text : List ℕ} {from t
     → after ++ cut_at next (left_after profile cell text to) ≡ before ++ cut_at start (left_after profile cell text from)
 cut-on {profile} {cell} {text} {from} {to} f before after start next cut =
     cut (left_after profile cell text to) ∙ ap (λ bs. before ++ cut_at start bs) (rest-on f)
-
--- breaks that count from where the segments do
-pub cut-alone : (block : List RawBreak) (before after : List Segment) (start next : ℕ)
-    → ((found more : List Break) → map shown block ≡ map (moved 0) found → after ++ cut_at next more ≡ before ++ cut_at start (found ++ more))
-    → (more : List Break) → after ++ cut_at next more ≡ before ++ cut_at start (map shown block ++ more)
-cut-alone block before after start next cut more = cut (map shown block) more (sym (map-moved-none (map shown block)))
 
 pub segments-cut : (start at : ℕ) (ms : List Marked) → segments_from start at ms ≡ cut_at start (breaks_from at ms)
 segments-cut start at [] = refl

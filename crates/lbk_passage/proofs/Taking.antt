@@ -1,24 +1,22 @@
 -- What the text and the feed are once scalars went from the one to the other.
-use Rattle.std.proofs.Common.{◌≡◌, ℕ, ◌+◌, ◌-◌, ◌<◌, true, ◌&&◌, List, [], ◌∷◌, ◌++◌, length, take, drop, None, Option, Result, is_ok, if◌then◌else◌, encode_utf8, encode_utf8_all, string_bytes, string_len, String, IsUtf8, IsCharBoundary, chars, refl, sym, ap, subst, ◌∙◌, arith, length-append, append_assoc}
+use Rattle.std.proofs.Common.{◌≡◌, ℕ, ◌+◌, ◌-◌, ◌<◌, true, ◌&&◌, List, [], ◌∷◌, ◌++◌, length, take, drop, None, Option, Result, is_ok, if◌then◌else◌, encode_utf8, encode_utf8_all, string_len, IsUtf8, IsCharBoundary, chars, refl, sym, ap, subst, ◌∙◌, arith, length-append, append_assoc}
 use Rattle.std.specs.List.{slice_range}
 use Rattle.std.proofs.Math.Utf8.{scalars}
 use Rattle.std.proofs.Math.Seq.{take-append_seam, drop-append_seam}
-use Rattle.std.proofs.lemmas.Str.{scalars-chars, chars-encodes, encodes-chars, encodes-append, chars-append, IsUtf8-string_bytes, IsCharBoundary-at_seam}
+use Rattle.std.proofs.lemmas.Str.{scalars-chars, chars-encodes, encodes-chars, encodes-append, chars-append, IsCharBoundary-at_seam}
 use Rattle.lbk_feed.specs.View.{LendsFront}
 use Rattle.lbk_rules.specs.declared.Class.{Class}
 use Rattle.lbk_rules.specs.declared.Cell.{Cell}
 use Rattle.lbk_passage.specs.Ahead.{IsTold}
 use Rattle.lbk_passage.specs.Gathering.{Reaches, Moves, Takes, StopsBefore}
+use Rattle.lbk_passage.specs.State.{bytes_in}
 use Rattle.lbk_passage.specs.declared.paragraph.Paragraph.{Paragraph}
 use Rattle.lbk_passage.specs.declared.paragraph.Told.{Told}
 use Rattle.lbk_passage.specs.declared.reach.Reach.{Reach}
 use Rattle.lbk_passage.specs.declared.reach.ReachEnd.{ReachEnd}
 use Rattle.lbk_passage.specs.declared.reach.ReachEnd.TheVariants.{PieceEnds, LineEnds, NoRoom}
 use Rattle.lbk_passage.proofs.Booleans.{both-left, both-right}
-
--- the length that a string keeps is that of its bytes
-pub string_len-is : {Z : Type 0} (s : String Z) → string_len s ≡ length (string_bytes s)
-string_len-is s = s.bytes.ok.0
+use Rattle.lbk_passage.proofs.Texts.{IsUtf8-bytes_in, bytes-within, len-gathered}
 
 -- the scalars of a list, and of its two parts
 pub scalars-left : (xs ys : List ℕ) → scalars (xs ++ ys) ≡ true → scalars xs ≡ true
@@ -67,19 +65,17 @@ StopsBefore-room cell last len room len' room' PieceEnds rest more stops = stops
 StopsBefore-room cell last len room len' room' LineEnds rest more stops = stops
 StopsBefore-room cell last len room len' room' NoRoom rest more stops = (stops.0, stops.1, stops.2, stops.3, more (length (encode_utf8 stops.0)) stops.4)
 
-pub Takes-moves : (cell : ℕ → Cell) (last : Option Class) (old new : Paragraph) (r : Reach) → LendsFront old.feed
-    → Reaches cell last old.feed.ready (old.limit - string_len old.text) r → Moves old new r.len → Takes cell last old new r
-Takes-moves cell last old new r lends reaches moves =
-    let room = old.limit - string_len old.text in
+Takes-by : (cell : ℕ → Cell) (last : Option Class) (old new : Paragraph) (r : Reach) → LendsFront old.feed
+    → Reaches cell last old.feed.ready (old.limit - length (bytes_in old)) r → Moves old new r.len → Takes cell last old new r
+Takes-by cell last old new r lends reaches moves =
+    let room = old.limit - length (bytes_in old) in
     let all = all_scalars cell last old.feed.ready room r lends.text reaches in
-    let text_is : string_bytes new.text ≡ string_bytes old.text ++ encode_utf8_all reaches.taken =
-    moves.text ∙ ap (λ l. string_bytes old.text ++ l) (front cell last old.feed.ready room r lends.text reaches) in
+    let text_is : bytes_in new ≡ bytes_in old ++ encode_utf8_all reaches.taken =
+    moves.text ∙ ap (λ l. bytes_in old ++ l) (front cell last old.feed.ready room r lends.text reaches) in
     let held_is : new.feed.held ≡ encode_utf8_all reaches.rest ++ lends.rest =
     ap (λ f. f.held) moves.feed ∙ ap (drop r.len) lends.first ∙ back cell last old.feed.ready room r lends.text reaches lends.rest in
-    let long = ap length text_is ∙ length-append (string_bytes old.text) (encode_utf8_all reaches.taken) in
-    let old_len = string_len-is old.text in
-    let new_len = string_len-is new.text in
-    let kept = old.within in
+    let long = ap length text_is ∙ length-append (bytes_in old) (encode_utf8_all reaches.taken) in
+    let kept = bytes-within old in
     record {
       taken = reaches.taken;
       rest = reaches.rest;
@@ -103,8 +99,8 @@ Takes-moves cell last old new r lends reaches moves =
           ∙ append_assoc (encode_utf8_all reaches.taken) (encode_utf8_all reaches.rest) lends.rest ∙ ap (λ l. encode_utf8_all reaches.taken ++ l) (sym held_is);
       is_held = held_is;
       text = text_is;
-      scalars = ap chars text_is ∙ chars-append (string_bytes old.text) (encode_utf8_all reaches.taken) (IsUtf8-string_bytes old.text)
-          ∙ ap (λ l. chars (string_bytes old.text) ++ l) (chars-encodes reaches.taken (scalars-left reaches.taken reaches.rest all));
+      scalars = ap chars text_is ∙ chars-append (bytes_in old) (encode_utf8_all reaches.taken) (IsUtf8-bytes_in old)
+          ∙ ap (λ l. chars (bytes_in old) ++ l) (chars-encodes reaches.taken (scalars-left reaches.taken reaches.rest all));
       given = ap (λ f. f.given) moves.feed ∙ ap (λ n. old.feed.given + n) reaches.len;
       ended = ap (λ f. f.is_ended) moves.feed;
       feed_spent = ap (λ f. f.is_spent) moves.feed;
@@ -113,17 +109,24 @@ Takes-moves cell last old new r lends reaches moves =
       same_spent = moves.spent;
       none_ends = reaches.none_ends;
       last_is = reaches.last_is;
-      stop = StopsBefore-room cell r.last r.len room (string_len new.text) old.limit r.stop reaches.rest
-          (λ n h. omega (arith, old_len, new_len, long, reaches.len, kept, reaches.within)) reaches.stop;
+      stop = StopsBefore-room cell r.last r.len room (length (bytes_in new)) old.limit r.stop reaches.rest
+          (λ n h. omega (arith, long, reaches.len, kept, reaches.within)) reaches.stop;
     }
+
+-- the same where what was gathered is a string
+pub Takes-moves : (cell : ℕ → Cell) (last : Option Class) (old new : Paragraph) (r : Reach) → old.lent ≡ 0 → LendsFront old.feed
+    → Reaches cell last old.feed.ready (old.limit - string_len old.text) r → Moves old new r.len → Takes cell last old new r
+Takes-moves cell last old new r gathered lends reaches moves =
+    Takes-by cell last old new r lends
+    (subst (λ n. Reaches cell last old.feed.ready (old.limit - n) r) (sym (len-gathered old gathered)) reaches) moves
 
 -- the paragraph that was told went to the text, of which nothing was gathered
 pub Takes-told : (cell : ℕ → Cell) (old mid new : Paragraph) (told : Told) (is : IsTold cell old told) → mid.feed ≡ old.feed → mid.limit ≡ old.limit
-    → string_len mid.text ≡ 0 → LendsFront mid.feed → Moves mid new told.len → Takes cell None mid new is.reach
+    → length (bytes_in mid) ≡ 0 → LendsFront mid.feed → Moves mid new told.len → Takes cell None mid new is.reach
 Takes-told cell old mid new told is feed_is limit_is none lends moves =
-    let room : old.limit ≡ mid.limit - string_len mid.text = omega (arith, limit_is, none) in
-    Takes-moves cell None mid new is.reach lends
-    (subst (λ f. Reaches cell None f.ready (mid.limit - string_len mid.text) is.reach) (sym feed_is)
+    let room : old.limit ≡ mid.limit - length (bytes_in mid) = omega (arith, limit_is, none) in
+    Takes-by cell None mid new is.reach lends
+    (subst (λ f. Reaches cell None f.ready (mid.limit - length (bytes_in mid)) is.reach) (sym feed_is)
     (subst (λ n. Reaches cell None old.feed.ready n is.reach) room is.reaches))
     (subst (Moves mid new) is.len moves)
 

@@ -1,5 +1,5 @@
 -- Breaks of the bytes that are ready, found ahead of the passages that they end.
-use Rattle.std.specs.Prelude.{◌≡◌, ◌⊎◌, ℕ, ◌+◌, ◌-◌, ◌<◌, ◌≤◌, ◌||◌, false, true, Some, None, Option, string_bytes, IsCharBoundary, All, List, [], ◌∷◌, ◌++◌, length, map, drop, take, slice_index_or}
+use Rattle.std.specs.Prelude.{◌≡◌, ◌⊎◌, ℕ, suc, zero, ◌+◌, ◌-◌, ◌<◌, ◌≤◌, ◌||◌, false, true, Some, None, Option, IsCharBoundary, All, List, [], ◌∷◌, ◌++◌, length, map, drop, take, slice_index_or}
 use Rattle.std.specs.Str.{chars}
 use Rattle.lbk_rules.specs.declared.Break.{Break}
 use Rattle.lbk_rules.specs.declared.Cell.{Cell}
@@ -8,17 +8,21 @@ use Rattle.lbk_values.specs.declared.profile.Profile.{Profile}
 use Rattle.lbk_rules.specs.Breaks.{breaks, is_no}
 use Rattle.lbk_rules.specs.Joins.{moved}
 use Rattle.lbk_rules.specs.Marks.{marks, ended}
-use Rattle.lbk_bytes.specs.Order.{AreBreaks, no_break}
+use Rattle.lbk_bytes.specs.Order.{no_break}
 use Rattle.lbk_bytes.specs.Shown.{given_in, raw_of, shown}
 use Rattle.lbk_bytes.specs.declared.raw_break.RawBreak.{RawBreak}
-use Rattle.lbk_passage.specs.Cuts.{cut_at}
+use Rattle.lbk_passage.specs.Cuts.{cut_at, cut_on, musts}
+use Rattle.lbk_passage.specs.Front.{items_of}
 use Rattle.lbk_passage.specs.Gathering.{Reaches}
 use Rattle.lbk_passage.specs.Passages.{is_must}
 use Rattle.lbk_passage.specs.Segments.{segments_of}
+use Rattle.lbk_passage.specs.State.{bytes_in}
 use Rattle.lbk_passage.specs.Stays.{end_before}
 use Rattle.lbk_passage.specs.declared.ahead.Ahead.{Ahead}
+use Rattle.lbk_passage.specs.declared.front.Front.{Front}
 use Rattle.lbk_passage.specs.declared.paragraph.Paragraph.{Paragraph}
 use Rattle.lbk_passage.specs.declared.paragraph.Told.{Told}
+use Rattle.lbk_passage.specs.declared.passage.Segment.{Segment}
 use Rattle.lbk_passage.specs.declared.reach.Reach.{Reach}
 use Rattle.lbk_passage.specs.declared.reach.ReachEnd.TheVariants.{LineEnds}
 
@@ -27,17 +31,25 @@ abbrev pub ShowBreaks : List RawBreak → ℕ → Type 0
 ShowBreaks block count = (k : ℕ) → k < count → (slice_index_or block k no_break ≡ raw_of (shown (slice_index_or block k no_break)))
     × (is_no (shown (slice_index_or block k no_break)).kind ≡ false)
 
--- a block has 256 entries, and the breaks of the passage taken last stand before those of the bytes that are ready
-abbrev pub HasSizes : Ahead → Type 0
-HasSizes a = (a.told ≤ a.next) × (a.next ≤ 256) × (length a.block ≡ 256)
+-- there are places for 256 breaks, and as many for the segments that end at them and for the places of some
+abbrev pub AreWhole : Ahead → Type 0
+AreWhole a = (length a.block ≡ 256) × (length a.segments ≡ 256) × (length a.ends ≡ 256)
 
--- a block has these breaks of the bytes that are ready, each `base` bytes further on
+-- the segments of the passage taken last stand before those of the bytes that are ready
+abbrev pub HasSizes : Ahead → Type 0
+HasSizes a = (a.told ≤ a.next) × (a.next ≤ 256) × (length a.segments ≡ 256)
+
+-- a block has these breaks of the bytes that are ready, each `base` bytes further on. The segments that end at them stand
+-- at the same places, and the places of those at which a line must end are the next ones that were noted
 pub record HasAhead (a : Ahead) (found : List Break) : Type 0 where
-  pub size : length a.block ≡ 256
+  pub whole : AreWhole a
   pub within : a.next + a.left ≤ 256
   pub before : a.told ≤ a.next
   pub each : ShowBreaks (drop a.next a.block) a.left
   pub given : given_in (drop a.next a.block) a.left ≡ map (moved a.base) found
+  pub cut : take a.left (drop a.next a.segments) ≡ cut_on 0 0 found
+  pub few : (a.next_end ≤ a.ends_count) × (a.ends_count ≤ 256)
+  pub ends : drop a.next_end (take a.ends_count a.ends) ≡ musts a.next found
 
 -- they are the first breaks of these bytes
 abbrev pub IsAhead : Profile → (ℕ → Cell) → List ℕ → Ahead → Type 0
@@ -68,44 +80,46 @@ pub record IsTold (cell : ℕ → Cell) (p : Paragraph) (told : Told) : Type 0 w
 -- the paragraph that was told is held
 pub record GivesTold (old new : Paragraph) (told : Told) : Type 0 where
   pub end : new.end ≡ Some told.end
-  pub text : string_bytes new.text ≡ take told.len old.feed.ready
+  pub text : bytes_in new ≡ take told.len old.feed.ready
   pub ready : new.feed.ready ≡ drop told.len old.feed.ready
 
--- the breaks that a block has of the passage taken last, as its text of so many bytes counts
-abbrev pub told_in : Ahead → ℕ → List Break
-told_in a len = map (λ b. record { at = b.at - (a.base - len); kind = b.kind; rule = b.rule })
-    (given_in (drop (a.next - a.told) a.block) a.told)
+-- the segments of the passage taken last
+abbrev pub segments_told : Ahead → List Segment
+segments_told a = take a.told (drop (a.next - a.told) a.segments)
 
--- they are those of a passage of this text, and stand before those of the bytes that are ready
+-- the first of two where a number is 0, else the second
+abbrev pub by_count : {X : Type 0} → ℕ → X → X → X
+by_count zero none some = none
+by_count (suc n) none some = some
+
+-- these, where the passage was taken by breaks, else those in a list
+abbrev pub segments_in : Ahead → Front Segment → List Segment
+segments_in a list = by_count a.told (items_of list) (segments_told a)
+
+-- they are those of a passage of this text
 pub record HasTold (profile : Profile) (cell : ℕ → Cell) (text : List ℕ) (end : Verdict) (a : Ahead) : Type 0 where
   pub some : 0 < a.told
-  pub each : ShowBreaks (drop (a.next - a.told) a.block) a.told
-  pub before : length text ≤ a.base
-  pub given : given_in (drop (a.next - a.told) a.block) a.told ≡ map (moved (a.base - length text)) (told_in a (length text))
-  pub within : All (λ b. b.at < length text + 1) (told_in a (length text))
-  pub cut : cut_at 0 (told_in a (length text)) ≡ segments_of (ended end (marks profile cell (chars text)))
+  pub cut : segments_told a ≡ segments_of (ended end (marks profile cell (chars text)))
 
 -- so they are where the paragraph is held, if there are any
 abbrev pub KeepsTold : Profile → (ℕ → Cell) → Paragraph → Ahead → Type 0
 KeepsTold profile cell p a = p.is_held ≡ true → 0 < a.told → (end : Verdict) → p.end ≡ Some end
-    → HasTold profile cell (string_bytes p.text) end a
+    → HasTold profile cell (bytes_in p) end a
 
 -- the passage of these breaks was taken
 pub record TakesBy (old new : Ahead) (told : Told) (front : List Break) (last : Break) (rest : List Break) : Type 0 where
   pub len : told.len ≡ last.at
   pub end : told.end ≡ record { kind = last.kind; rule = last.rule }
   pub some : 0 < new.told
-  pub base : new.base ≡ old.base + last.at
-  pub each : AreBreaks (drop (new.next - new.told) new.block) new.told
-  pub given : given_in (drop (new.next - new.told) new.block) new.told ≡ map (moved old.base) (front ++ last ∷ [])
+  pub cut : segments_told new ≡ cut_at 0 (front ++ last ∷ [])
   pub behind : (others : List Break) → rest ≡ map (moved last.at) others → HasAhead new others
 
 -- the passage of the first `count` breaks was taken, unless it has more than `limit` bytes
 abbrev pub TakesTold : Ahead → Ahead → ℕ → ℕ → Option Told → Type 0
-TakesTold old new count limit None = new ≡ record old { left = 0; told = 0 }
+TakesTold old new count limit None = new ≡ record old { ends_count = 0; next_end = 0; left = 0; told = 0 }
 TakesTold old new count limit (Some told) = (told.len ≤ limit)
-    × ((front : List Break) (last : Break) (rest : List Break) → HasAhead old (front ++ last ∷ rest)
-    → count ≡ length front + 1 → TakesBy old new told front last rest)
+    × ((found : List Break) (len : ℕ) → HasAhead old found → (e : EndsFirst found len count)
+    → TakesBy old new told e.front e.last e.rest)
 
 -- breaks told of a passage at the front of the bytes that are ready. Else none is held, but where a paragraph is in hand
 -- already, which leaves all as it was

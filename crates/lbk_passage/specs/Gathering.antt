@@ -1,7 +1,7 @@
 -- How far a paragraph reaches, and what the steps of gathering it leave.
 use Rattle.std.specs.Prelude.{◌≡◌, ◌⊎◌, ℕ, ◌+◌, ◌<◌, ◌≤◌, Bool, true, false, ◌||◌, List, [], ◌∷◌, ◌++◌, length, take}
 use Rattle.std.specs.Prelude.{drop, Option, None, Some, Result, Ok, Err, IfOk, IfErr, is_ok, is_some, option_map}
-use Rattle.std.specs.Prelude.{encode_utf8, encode_utf8_all, string_bytes, string_len, IsUtf8}
+use Rattle.std.specs.Prelude.{encode_utf8, encode_utf8_all, IsUtf8}
 use Rattle.std.specs.Str.{chars}
 use Rattle.std.specs.Bool.{OnTrue, OnFalse}
 use Rattle.std.specs.Io.KnownBytes.{prepend_known}
@@ -19,7 +19,7 @@ use Rattle.lbk_passage.specs.Faults.{passage_fault}
 use Rattle.lbk_rules.specs.Breaks.{is_no}
 use Rattle.lbk_rules.specs.Marks.{marks, ended}
 use Rattle.lbk_passage.specs.Stays.{ends_at, stays, last_class, IsWholeText}
-use Rattle.lbk_passage.specs.State.{State, state_with}
+use Rattle.lbk_passage.specs.State.{bytes_in, State, state_with}
 use Rattle.lbk_passage.specs.Next.{failures_with, fault_in, ends_run, KeepsAhead, IsDone, ComesFirst, Stops, Costs}
 use Rattle.lbk_passage.specs.declared.faults.PassageFault.{PassageFault}
 use Rattle.lbk_passage.specs.declared.faults.PassageFault.TheVariants.{Read, Spent}
@@ -49,19 +49,20 @@ pub record Reaches (cell : ℕ → Cell) (last : Option Class) (piece : List ℕ
   pub last_is : r.last ≡ last_class cell last taken
   pub stop : StopsBefore cell r.last r.len room r.stop rest
 
--- the first bytes that the feed has ready went to the text
+-- the first bytes that the feed has ready went to the end of the paragraph
 pub record Moves (old new : Paragraph) (len : ℕ) : Type 0 where
   pub feed : new.feed ≡ record old.feed {
     held = drop len old.feed.held;
     ready = drop len old.feed.ready;
+    behind = old.feed.behind ++ take len old.feed.ready;
     given = old.feed.given + len;
   }
-  pub text : string_bytes new.text ≡ string_bytes old.text ++ take len old.feed.ready
+  pub text : bytes_in new ≡ bytes_in old ++ take len old.feed.ready
   pub limit : new.limit ≡ old.limit
   pub held : new.is_held ≡ old.is_held
   pub spent : new.is_spent ≡ old.is_spent
 
--- the first bytes that the feed has ready went to the text, which is then held
+-- the first bytes that the feed has ready went to the end of the paragraph, which is then held
 pub record Holds (old new : Paragraph) (len : ℕ) (end : Option Verdict) : Type 0 where
   pub lends : LendsFront old.feed
   pub moves : Moves old (record new { is_held = old.is_held }) len
@@ -80,8 +81,8 @@ pub record Takes (cell : ℕ → Cell) (last : Option Class) (old new : Paragrap
   pub few : new.feed.given + length new.feed.ready ≤ longest_text
   pub was_held : old.feed.held ≡ encode_utf8_all taken ++ new.feed.held
   pub is_held : new.feed.held ≡ encode_utf8_all rest ++ behind
-  pub text : string_bytes new.text ≡ string_bytes old.text ++ encode_utf8_all taken
-  pub scalars : chars (string_bytes new.text) ≡ chars (string_bytes old.text) ++ taken
+  pub text : bytes_in new ≡ bytes_in old ++ encode_utf8_all taken
+  pub scalars : chars (bytes_in new) ≡ chars (bytes_in old) ++ taken
   pub given : new.feed.given ≡ old.feed.given + length (encode_utf8_all taken)
   pub ended : new.feed.is_ended ≡ old.feed.is_ended
   pub feed_spent : new.feed.is_spent ≡ old.feed.is_spent
@@ -90,12 +91,12 @@ pub record Takes (cell : ℕ → Cell) (last : Option Class) (old new : Paragrap
   pub same_spent : new.is_spent ≡ old.is_spent
   pub none_ends : stays cell last taken ≡ true
   pub last_is : r.last ≡ last_class cell last taken
-  pub stop : StopsBefore cell r.last (string_len new.text) old.limit r.stop rest
+  pub stop : StopsBefore cell r.last (length (bytes_in new)) old.limit r.stop rest
 
 -- a step of the feed; the text stays
 pub record Settles (old new : Paragraph) (unread unread' : Option (List ℕ)) (ended ended' : Bool) (reads reads' : Reads)
     (r : Result Bool PassageFault) : Type 0 where
-  pub text : string_bytes new.text ≡ string_bytes old.text
+  pub text : bytes_in new ≡ bytes_in old
   pub limit : new.limit ≡ old.limit
   pub same_held : new.is_held ≡ old.is_held
   pub fault : Option FeedFault
@@ -152,16 +153,16 @@ pub record Gathering (cell : ℕ → Cell) (old now : Paragraph) (last : Option 
   pub limit : now.limit ≡ old.limit
   pub open_end : now.is_held ≡ false
   pub unspent : now.is_spent ≡ false
-  pub given : now.feed.given ≡ old.feed.given + length (string_bytes now.text)
-  pub read : HasRead cell old.limit old.feed (string_bytes now.text ++ now.feed.held) unread unread' reads reads' None
-  pub each_gave : reads'.count + length old.feed.held ≤ reads.count + length (string_bytes now.text ++ now.feed.held)
-  pub few : reads'.count ≤ reads.count + (length (string_bytes now.text) + 4)
+  pub given : now.feed.given ≡ old.feed.given + length (bytes_in now)
+  pub read : HasRead cell old.limit old.feed (bytes_in now ++ now.feed.held) unread unread' reads reads' None
+  pub each_gave : reads'.count + length old.feed.held ≤ reads.count + length (bytes_in now ++ now.feed.held)
+  pub few : reads'.count ≤ reads.count + (length (bytes_in now) + 4)
   pub agrees : feed.Agrees old.feed ended unread → feed.Agrees now.feed ended' unread'
   pub notices : now.feed.is_ended ≡ false → ended' ≡ ended
-  pub quiet : old.feed.is_ended ≡ true → (string_bytes now.text ++ now.feed.held ≡ old.feed.held)
+  pub quiet : old.feed.is_ended ≡ true → (bytes_in now ++ now.feed.held ≡ old.feed.held)
       × (now.feed.is_ended ≡ true) × (reads' ≡ reads)
-  pub none_ends : stays cell None (chars (string_bytes now.text)) ≡ true
-  pub last_is : last ≡ last_class cell None (chars (string_bytes now.text))
+  pub none_ends : stays cell None (chars (bytes_in now)) ≡ true
+  pub last_is : last ≡ last_class cell None (chars (bytes_in now))
 
 -- what gathering leaves, from nothing gathered; `unread`, `ended` and `reads` are the reader's before it, and those
 -- with a prime after it
@@ -170,26 +171,26 @@ pub record Gathers (cell : ℕ → Cell) (old new : Paragraph) (unread unread' :
   pub limit : new.limit ≡ old.limit
   pub open_end : new.is_held ≡ false
   pub spent : new.is_spent ≡ ends_run (fault_in r)
-  pub given : new.feed.given ≡ old.feed.given + length (string_bytes new.text)
-  pub read : HasRead cell old.limit old.feed (string_bytes new.text ++ new.feed.held) unread unread' reads reads'
+  pub given : new.feed.given ≡ old.feed.given + length (bytes_in new)
+  pub read : HasRead cell old.limit old.feed (bytes_in new ++ new.feed.held) unread unread' reads reads'
       (fault_in r)
   pub each_gave : (ends_run (fault_in r) || new.feed.is_ended) ≡ false
-      → reads'.count + length old.feed.held ≤ reads.count + length (string_bytes new.text ++ new.feed.held)
+      → reads'.count + length old.feed.held ≤ reads.count + length (bytes_in new ++ new.feed.held)
   pub few : reads'.count ≤ reads.count + (old.limit + 4)
   pub agrees : feed.Agrees old.feed ended unread → feed.Agrees new.feed ended' unread'
   pub notices : new.feed.is_ended ≡ false → ended' ≡ ended
   pub quiet : old.feed.is_ended ≡ true
-      → (string_bytes new.text ++ new.feed.held ≡ old.feed.held) × (new.feed.is_ended ≡ true) × (reads' ≡ reads)
+      → (bytes_in new ++ new.feed.held ≡ old.feed.held) × (new.feed.is_ended ≡ true) × (reads' ≡ reads)
       × (¬ (fault_in r ≡ Some Read))
-  pub whole : IfOk r (λ end. IsWholeText cell (string_bytes new.text) new.feed end)
+  pub whole : IfOk r (λ end. IsWholeText cell (bytes_in new) new.feed end)
   pub stops : IfErr r (λ fault. (profile : Profile) → Stops (state_with cell profile new) fault)
 
 -- a paragraph that is held whole, with the verdict at its end, comes first in the text still to come
 pub record IsFirst (s : State) (p : Paragraph) (end : Verdict) : Type 0 where
-  pub some : 0 < length (chars (string_bytes p.text))
+  pub some : 0 < length (chars (bytes_in p))
   pub broken : is_no end.kind ≡ false
-  pub comes : ComesFirst s (ended end (marks s.profile s.cell (chars (string_bytes p.text)))) p.feed.held
-  pub counted : s.start + length (string_bytes p.text) ≤ longest_text
+  pub comes : ComesFirst s (ended end (marks s.profile s.cell (chars (bytes_in p)))) p.feed.held
+  pub counted : s.start + length (bytes_in p) ≤ longest_text
   pub near : (next : ℕ) (rest : List ℕ) → p.feed.held ≡ encode_utf8 next ++ rest
       → p.feed.given + length (encode_utf8 next) ≤ longest_text
 
@@ -238,7 +239,7 @@ pub record Asks {R : Type 0} (failure_count : R → ℕ) (p : Paragraph) (reader
 -- the same paragraph, but for whether it is held, and whether it is spent
 pub record IsSame (old new : Paragraph) (is_held is_spent : Bool) : Type 0 where
   pub feed : new.feed ≡ old.feed
-  pub text : string_bytes new.text ≡ string_bytes old.text
+  pub text : bytes_in new ≡ bytes_in old
   pub limit : new.limit ≡ old.limit
   pub held : new.is_held ≡ is_held
   pub spent : new.is_spent ≡ is_spent

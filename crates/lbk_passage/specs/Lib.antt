@@ -23,6 +23,7 @@ pub mod Stays
 pub mod Flags
 pub mod Room
 pub mod Gathering
+pub mod Lent
 pub mod Cuts
 pub mod Found
 pub mod NearKinds

@@ -24,7 +24,8 @@ pub record HasRoom {C : Type 0} {bound : _} (s : Segmenter C bound) (limit : ℕ
   pub segments : vec_capacity s.segments.items ≡ 0
   pub pieces : vec_capacity s.pieces.items ≡ 0
 
--- the segments and the pieces that were found last, and for how many there is room
+-- the segments and the pieces in the lists, and for how many there is room: those that were found last, but segments that
+-- were found ahead of their passage stand in a block of their own, and leave the list as it is
 pub record Found : Type 0 where
   pub segments : List Segment
   pub room_for_segments : ℕ

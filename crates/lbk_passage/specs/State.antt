@@ -1,6 +1,7 @@
 -- A segmenter as its callers see it.
-use Rattle.std.specs.Prelude.{ℕ, ◌-◌, ◌≤◌, Bool, false, ◌||◌, List, [], ◌++◌, length, string_bytes, if◌then◌else◌}
+use Rattle.std.specs.Prelude.{ℕ, ◌-◌, ◌≤◌, ◌==◌, Bool, false, ◌||◌, List, [], ◌++◌, length, string_bytes, if◌then◌else◌}
 use Rattle.lbk_feed.specs.Text.{greatest_limit}
+use Rattle.lbk_feed.specs.View.{last_used}
 use Rattle.lbk_rules.specs.declared.Cell.{Cell}
 use Rattle.lbk_values.specs.declared.profile.Profile.{Profile}
 use Rattle.lbk_passage.specs.declared.paragraph.Paragraph.{Paragraph}
@@ -35,9 +36,13 @@ new_state cell profile limit = record {
   is_spent = false;
 }
 
+-- the bytes of a paragraph: those that were gathered, or, where it is lent of its feed, the last that were consumed
+abbrev pub bytes_in : Paragraph → List ℕ
+bytes_in p = if p.lent == 0 then string_bytes p.text else last_used p.feed p.lent
+
 -- the text of the paragraph in progress: none, once it was given
 abbrev pub text_held : Paragraph → List ℕ
-text_held p = if p.is_held || p.is_spent then string_bytes p.text else []
+text_held p = if p.is_held || p.is_spent then bytes_in p else []
 
 -- what a paragraph shows
 abbrev pub state_with : (ℕ → Cell) → Profile → Paragraph → State

@@ -1,6 +1,6 @@
 -- Where paragraphs end, told by two classes: no machine is asked.
 use Rattle.std.specs.Prelude.{◌≡◌, ℕ, ◌+◌, Bool, true, false, ◌&&◌, not, ◌≤◌, List, [], ◌∷◌, ◌++◌, length, drop}
-use Rattle.std.specs.Prelude.{Option, Some, None, string_bytes}
+use Rattle.std.specs.Prelude.{Option, Some, None}
 use Rattle.std.specs.Str.{chars, is_utf8}
 use Rattle.lbk_feed.specs.Text.{longest_text}
 use Rattle.lbk_rules.specs.declared.Class.{Class}
@@ -8,6 +8,7 @@ use Rattle.lbk_rules.specs.declared.Cell.{Cell}
 use Rattle.lbk_rules.specs.declared.Verdict.{Verdict}
 use Rattle.lbk_rules.specs.Ends.{ends_between, end_after, end_of_text}
 use Rattle.lbk_feed.specs.View.{View}
+use Rattle.lbk_passage.specs.State.{bytes_in}
 use Rattle.lbk_passage.specs.declared.paragraph.Paragraph.{Paragraph}
 
 -- a line must end between a cell of class `last`, if one stands there, and one of class `next`
@@ -51,4 +52,4 @@ pub record IsWholeText (cell : ℕ → Cell) (text : List ℕ) (feed : View) (en
   pub end_is : end ≡ end_before (last_class cell None (chars text)) (not (is_nil (chars feed.ready)))
 
 abbrev pub IsWhole : (ℕ → Cell) → Paragraph → Type 0
-IsWhole cell p = IsWholeText cell (string_bytes p.text) p.feed p.end
+IsWhole cell p = IsWholeText cell (bytes_in p) p.feed p.end

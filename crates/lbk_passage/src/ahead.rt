@@ -1,28 +1,42 @@
-//! Breaks of the bytes that are ready, found ahead of the passages that they end.
+//! Breaks of the bytes that are ready, found ahead of the passages that they end, and the segments between them.
 
-ghost use Rattle.std.specs.Prelude.{◌≡◌, ◌-◌, ◌≤◌, ◌<◌, length, drop, take};
-ghost use Rattle.lbk_passage.specs.Ahead.{EndsFirst, HasAhead, IsAhead, TakesTold, Tells};
+ghost use Rattle.std.specs.Prelude.{◌≡◌, ◌<◌, ◌^◌, ◌↔◌, false, length};
+ghost use Rattle.lbk_passage.specs.Ahead.{AreWhole, EndsFirst, HasAhead, HasSizes, IsAhead, TakesTold, Tells};
+ghost use Rattle.lbk_passage.specs.Ahead.{segments_told};
 
 use crate::found::{NO_BREAK, START, break_of, find};
 use crate::known::KnownCells;
 use crate::paragraph::{Paragraph, Told};
+use crate::passage::Segment;
+use crate::segments::{NO_SEGMENT, cut_passages};
 use lbk_bytes::RawBreak;
-use lbk_rules::{CellSource, Kind, Profile, Verdict};
+use lbk_rules::{CellSource, Profile, Verdict};
 
 /// How many breaks are found at a time.
-const BLOCK: usize = 256;
+pub(crate) const AHEAD: usize = 256;
 
 /// Where fewer bytes are ready, most belong to a passage that does not end among them.
 const FEW: usize = 64;
 
+/// Where more bytes are ready, nothing is found ahead: a segment's offsets have 32 bits.
+const MOST: usize = 1 << 24;
+
 /// After a passage of so many segments the next one is likely to have more than the block.
 const MANY: usize = 96;
 
-/// Breaks of the bytes that are ready, as many as were found.
+/// Breaks of the bytes that are ready, as many as were found, and the segments that end at them.
 #[derive(Drop)]
 pub(crate) struct Ahead {
     /// Where breaks are found into.
-    block: [RawBreak; BLOCK],
+    block: [RawBreak; AHEAD],
+    /// The segments that end at these breaks. Their offsets count from the first byte of their passage.
+    segments: [Segment; AHEAD],
+    /// The places in the block of the breaks at which a line must end.
+    ends: [u16; AHEAD],
+    /// How many these are.
+    ends_count: usize,
+    /// Which of these is the first of the bytes that are ready.
+    next_end: usize,
     /// The place in the block of the first break of the bytes that are ready.
     next: usize,
     /// How many there are from there on.
@@ -35,7 +49,11 @@ pub(crate) struct Ahead {
 
 /// No break was found.
 pub(crate) const NOTHING: Ahead = Ahead {
-    block: [NO_BREAK; BLOCK],
+    block: [NO_BREAK; AHEAD],
+    segments: [NO_SEGMENT; AHEAD],
+    ends: [0; AHEAD],
+    ends_count: 0,
+    next_end: 0,
     next: 0,
     left: 0,
     told: 0,
@@ -50,10 +68,12 @@ impl Ahead {
 
     /// Forgets the breaks of the bytes that are ready.
     pub(crate) fn forget(&mut self)
-        ensures { self.new ≡ record self.old { left = 0; told = 0 } }
+        ensures { self.new ≡ record self.old { ends_count = 0; next_end = 0; left = 0; told = 0 } }
     {
         self.left = 0;
         self.told = 0;
+        self.next_end = 0;
+        self.ends_count = 0;
     }
 
     /// The passage at the front of the bytes that are ready, where breaks tell that a line must end behind it, before
@@ -78,7 +98,7 @@ impl Ahead {
         if 0 < count {
             return self.take(count, paragraph.limit());
         }
-        if MANY < segments || ready.len() < FEW {
+        if MANY < segments || ready.len() < FEW || MOST < ready.len() {
             self.forget();
             return None;
         }
@@ -91,14 +111,18 @@ impl Ahead {
         self.take(count, paragraph.limit())
     }
 
-    /// Finds the first breaks of the bytes that are ready.
+    /// Finds the first breaks of the bytes that are ready, and the segments that end at them.
     fn find<C: CellSource>(&mut self, cells: &C, profile: Profile, ready: &str)
-        requires { length self.old.block ≡ 256 }
+        requires { AreWhole self.old × (length ready.now < 2 ^ 32) }
         ensures { IsAhead profile (C.cell_of cells.now) ready.now self.new }
     {
         let found = find(cells, profile, ready, START, &mut self.block);
+        let count = found.state.count;
+        let (segments, ends) = (&mut self.segments, &mut self.ends);
+        self.ends_count = cut_passages(&self.block, count, segments, ends);
+        self.next_end = 0;
         self.next = 0;
-        self.left = found.state.count;
+        self.left = count;
         self.told = 0;
         self.base = 0;
     }
@@ -110,14 +134,12 @@ impl Ahead {
         requires { (found : List Break) × HasAhead self.now found }
         ensures { (found : List Break) → HasAhead self.now found → 0 < result → EndsFirst found len result }
     {
-        for k in 0..self.left {
-            let one = break_of(self.block[self.next + k]);
-            if matches!(one.kind, Kind::Must) {
-                if one.at - self.base < len {
-                    return k + 1;
-                }
-                return 0;
-            }
+        if self.next_end == self.ends_count {
+            return 0;
+        }
+        let k = usize::from(self.ends[self.next_end]);
+        if self.block[k].at - self.base < len {
+            return k + 1 - self.next;
         }
         0
     }
@@ -137,6 +159,7 @@ impl Ahead {
         self.next += count;
         self.left -= count;
         self.told = count;
+        self.next_end += 1;
         self.base = last.at;
         Some(Told {
             len,
@@ -147,21 +170,20 @@ impl Ahead {
         })
     }
 
-    /// The breaks of the passage taken last, if it was taken by them.
+    /// The segments of the passage taken last, if it was taken by breaks, else none.
     #[inline(always)]
-    pub(crate) fn found(&self) -> &[RawBreak]
-        requires { self.now.told ≤ self.now.next × (self.now.next ≤ length self.now.block) }
-        ensures { result.now ≡ take self.now.told (drop (self.now.next - self.now.told) self.now.block) }
+    pub(crate) fn found(&self) -> &[Segment]
+        requires { HasSizes self.now }
+        ensures { result.now ≡ segments_told self.now }
     {
-        &self.block[self.next - self.told..self.next]
+        &self.segments[self.next - self.told..self.next]
     }
 
-    /// Where a passage of `len` bytes begins that was taken last, as its breaks count.
+    /// Whether a passage was taken last by breaks.
     #[inline(always)]
-    pub(crate) fn start(&self, len: usize) -> usize
-        requires { len ≤ self.now.base }
-        ensures { result ≡ self.now.base - len }
+    pub(crate) fn has_told(&self) -> bool
+        ensures { result ≡ false ↔ (self.now.told ≡ 0) }
     {
-        self.base - len
+        self.told != 0
     }
 }

@@ -8,6 +8,7 @@ ghost use Rattle.lbk_bytes.specs.Order.{AreBreaks};
 ghost use Rattle.lbk_bytes.specs.Shown.{given_in, raw_of};
 ghost use Rattle.lbk_bytes.specs.Steps.{Fills, IsInText};
 ghost use Rattle.lbk_passage.specs.Found.{FindsNext, IsFound};
+ghost use Rattle.lbk_passage.specs.Passages.{is_must};
 
 use crate::near_kinds::NearKinds;
 use lbk_bytes::{FillState, RawBreak, fill, put_end};
@@ -15,6 +16,9 @@ use lbk_rules::{Break, CellSource, CellTable, KindSource, Profile, verdict_of};
 
 /// The first byte value with which a scalar of three bytes or more begins.
 const LONG: u8 = 0xE0;
+
+/// The number of `Kind::Must`.
+const MUST: u8 = 2;
 
 /// How far the breaks of a text were found.
 #[derive(Clone, Copy)]
@@ -133,6 +137,14 @@ pub(crate) fn break_of(raw: RawBreak) -> Break
         kind: verdict.kind,
         rule: verdict.rule,
     }
+}
+
+/// Whether a line must end at a break, by its numbers.
+#[inline(always)]
+pub(crate) fn must_end_at(raw: RawBreak) -> bool
+    ensures { (found : Break) → raw ≡ raw_of found → result ≡ is_must found.kind }
+{
+    raw.kind == MUST
 }
 
 /// Writes the breaks in the front of a block of numbers after those in the front of another block.

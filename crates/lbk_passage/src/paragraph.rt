@@ -2,6 +2,7 @@
 
 ghost use Rattle.std.specs.Prelude.{◌≤◌, ◌≡◌, ◌&&◌, not, false, string_len, string_capacity};
 ghost use Rattle.lbk_feed.specs.Text.{greatest_limit};
+ghost use Rattle.lbk_passage.specs.Lent.{IsLent};
 
 use crate::ends::end_before;
 use crate::faults::{PassageFault, from_feed};
@@ -15,7 +16,10 @@ use std::alloc::{AllocError, Global};
 #[derive(Drop)]
 pub struct Paragraph {
     feed: Feed,
+    /// What was gathered, where none of it is lent.
     text: String,
+    /// How many bytes of it are lent of the feed, the last that were consumed: all, or none.
+    lent: usize,
     limit: u32,
     /// The verdict at the end of the paragraph, where it is held; `None` where no text was left.
     end: Option<Verdict>,
@@ -26,6 +30,7 @@ pub struct Paragraph {
     ghost room: { limit ≤ string_capacity text },
     ghost within: { string_len text ≤ limit },
     ghost given: { string_len text ≤ feed.given },
+    ghost behind: { IsLent lent limit feed },
     ghost spent: { (feed.is_spent && not is_spent) ≡ false },
 }
 
@@ -40,9 +45,8 @@ pub struct Told {
 
 impl Paragraph {
     ghost use Rattle.std.specs.Prelude.{ℕ, ◌-◌, ◌+◌, ◌<◌, ◌∷◌, true, [], drop, length, OnOk, IfOk, IsCharBoundary};
-    ghost use Rattle.std.specs.Prelude.{string_bytes};
     ghost use Rattle.lbk_feed.specs.View.{IsFront, LendsFront};
-    ghost use Rattle.lbk_passage.specs.State.{state_with, new_state};
+    ghost use Rattle.lbk_passage.specs.State.{bytes_in, state_with, new_state};
     ghost use Rattle.lbk_passage.specs.Stays.{IsWhole};
     ghost use Rattle.lbk_passage.specs.Gathering.{Asks, Reaches, Takes, Moves, ReadsOn, Settles, Gathering, Gathers, Fills};
     ghost use Rattle.lbk_passage.specs.Gathering.{Holds, IsSame};
@@ -62,6 +66,7 @@ impl Paragraph {
         Ok(Paragraph {
             feed: Feed::new(),
             text: String::with_capacity(alloc, limit as usize)?,
+            lent: 0,
             limit,
             end: None,
             is_held: false,
@@ -71,18 +76,32 @@ impl Paragraph {
 
     /// The bytes of the paragraph.
     pub fn text(&self) -> &str
-        ensures text { result.now ≡ string_bytes self.now.text }
+        ensures text { result.now ≡ bytes_in self.now }
         ensures few { length result.now ≤ self.now.limit }
         ensures limit { self.now.limit ≤ greatest_limit }
     {
+        if self.lent != 0 {
+            return self.feed.behind(self.lent);
+        }
         self.text.as_str()
+    }
+
+    /// How many bytes the paragraph has.
+    fn len(&self) -> usize
+        ensures len { result ≡ length (bytes_in self.now) }
+        ensures within { result ≤ self.now.feed.given }
+    {
+        if self.lent != 0 {
+            return self.lent;
+        }
+        self.text.len()
     }
 
     /// The number of bytes of the whole text before the paragraph.
     pub fn start(&self) -> u64
-        ensures start { result ≡ self.now.feed.given - string_len self.now.text }
+        ensures start { result ≡ self.now.feed.given - length (bytes_in self.now) }
     {
-        self.feed.given() - self.text.len() as u64
+        self.feed.given() - self.len() as u64
     }
 
     /// How many bytes of the whole text were gathered, up to the end of the paragraph.
@@ -154,8 +173,9 @@ impl Paragraph {
             return Ok(self.end);
         }
         self.text.clear();
+        self.lent = 0;
         if let Some(told) = told {
-            self.hold(told.len, Some(told.end));
+            self.lend(told.len, told.end);
             return Ok(self.end);
         }
         let end = self.gather(reader, known)?;
@@ -186,8 +206,9 @@ impl Paragraph {
             return true;
         }
         self.text.clear();
+        self.lent = 0;
         if let Some(told) = told {
-            self.hold(told.len, Some(told.end));
+            self.lend(told.len, told.end);
             return true;
         }
         let reach = self.reach(known, None);
@@ -198,9 +219,27 @@ impl Paragraph {
         true
     }
 
+    /// Holds the first `len` bytes that are ready as the paragraph, with this verdict at its end.
+    /// They are not copied: until the next read they stay in the feed.
+    fn lend(&mut self, len: usize, end: Verdict)
+        requires place { IsCharBoundary self.old.feed.ready len }
+        requires few { len ≤ self.old.limit }
+        requires fresh { bytes_in self.old ≡ [] }
+        requires gathered { self.old.lent ≡ 0 }
+        ensures { Holds self.old self.new len (Some end) }
+    {
+        // What is ready is a text.
+        let _ready = self.feed.ready();
+        self.feed.advance(len);
+        self.lent = len;
+        self.end = Some(end);
+        self.is_held = true;
+    }
+
     /// Moves the first `len` bytes that are ready to the end of the text, which is then held, with this verdict at its
     /// end.
     fn hold(&mut self, len: usize, end: Option<Verdict>)
+        requires gathered { self.old.lent ≡ 0 }
         requires place { IsCharBoundary self.old.feed.ready len }
         requires room { string_len self.old.text + len ≤ self.old.limit }
         ensures { Holds self.old self.new len end }
@@ -216,7 +255,8 @@ impl Paragraph {
         reader: &mut R,
         known: &KnownCells<'_, C>,
     ) -> Result<Option<Verdict>, PassageFault>
-        requires fresh { string_bytes self.old.text ≡ [] }
+        requires fresh { bytes_in self.old ≡ [] }
+        requires gathered { self.old.lent ≡ 0 }
         requires open_end { self.old.is_held ≡ false }
         requires unspent { self.old.is_spent ≡ false }
         ensures gathers { Gathers (C.cell_of known.now.cells.now) self.old self.new
@@ -240,10 +280,12 @@ impl Paragraph {
     /// Makes sure that a piece is ready, by reads where they are due, and returns whether one is.
     fn settle<R: Source>(&mut self, reader: &mut R) -> Result<bool, PassageFault>
         requires unspent { self.old.is_spent ≡ false }
+        requires gathered { self.old.lent ≡ 0 }
         ensures settles { Settles self.old self.new
             (R.unread reader.old) (R.unread reader.new) (R.has_ended reader.old) (R.has_ended reader.new)
             (R.reads_made reader.old) (R.reads_made reader.new) result }
         ensures reads_on { ReadsOn R.failure_count self.old.feed reader.old reader.new false result }
+        ensures gathered { self.new.lent ≡ 0 }
     {
         let outcome = self.feed.settle(reader);
         self.is_spent = outcome.is_err();
@@ -255,7 +297,9 @@ impl Paragraph {
 
     /// Takes of the piece that is ready what belongs to the paragraph, after a scalar of class `last`.
     fn take<C: CellSource>(&mut self, known: &KnownCells<'_, C>, last: Option<Class>) -> Reach
-        ensures { Takes (C.cell_of known.now.cells.now) last self.old self.new result }
+        requires gathered { self.old.lent ≡ 0 }
+        ensures takes { Takes (C.cell_of known.now.cells.now) last self.old self.new result }
+        ensures gathered { self.new.lent ≡ 0 }
     {
         let reach = self.reach(known, last);
         self.move_up(reach.len);
@@ -264,6 +308,7 @@ impl Paragraph {
 
     /// How far the paragraph reaches into the piece that is ready, after a scalar of class `last`.
     fn reach<C: CellSource>(&self, known: &KnownCells<'_, C>, last: Option<Class>) -> Reach
+        requires gathered { self.now.lent ≡ 0 }
         ensures reaches { Reaches (C.cell_of known.now.cells.now) last self.now.feed.ready
             (self.now.limit - string_len self.now.text) result }
         ensures place { IsCharBoundary self.now.feed.ready result.len }
@@ -276,9 +321,11 @@ impl Paragraph {
 
     /// Moves the first `len` bytes that are ready to the end of the text.
     fn move_up(&mut self, len: usize)
+        requires gathered { self.old.lent ≡ 0 }
         requires place { IsCharBoundary self.old.feed.ready len }
         requires room { string_len self.old.text + len ≤ self.old.limit }
         ensures moves { Moves self.old self.new len }
+        ensures gathered { self.new.lent ≡ 0 }
         ensures lends { LendsFront self.old.feed }
     {
         let ready = self.feed.ready();
@@ -291,7 +338,7 @@ impl Paragraph {
     /// The fault of a paragraph that is too long.
     fn refuse(&mut self) -> PassageFault
         ensures same { IsSame self.old self.new self.old.is_held true }
-        ensures fault { result ≡ PassageFault.ParagraphTooLong (self.old.feed.given - string_len self.old.text) }
+        ensures fault { result ≡ PassageFault.ParagraphTooLong (self.old.feed.given - length (bytes_in self.old)) }
     {
         self.is_spent = true;
         PassageFault::ParagraphTooLong {

@@ -1,7 +1,7 @@
 //! The passages of a text, one after another.
 
-ghost use Rattle.std.specs.Prelude.{◌≡◌, [], ◌≤◌, ◌<◌, ◌+◌, ◌^◌, ◌↔◌, ◌⊎◌, ◌-◌, true, false, length, string_len};
-ghost use Rattle.std.specs.Prelude.{string_bytes, IfOk, IfErr, IfSome, OnOk, IsErrOf};
+ghost use Rattle.std.specs.Prelude.{◌≡◌, [], ◌≤◌, ◌<◌, ◌+◌, ◌^◌, ◌↔◌, ◌⊎◌, ◌-◌, true, false, length};
+ghost use Rattle.std.specs.Prelude.{IfOk, IfErr, IfSome, OnOk, IsErrOf};
 ghost use Rattle.std.specs.Borrow.{sem};
 ghost use Rattle.std.specs.Io.BufRead.{Rests};
 ghost use Rattle.std.specs.Str.{chars};
@@ -41,14 +41,15 @@ pub struct Segmenter<'a, C: CellSource> {
     known: KnownCells<'a, C>,
     profile: Profile,
     paragraph: Paragraph,
-    /// Breaks that are found ahead of the passages that they end.
+    /// Breaks that are found ahead of the passages that they end, with the segments of these.
     ahead: Ahead,
     /// Whether the last passage was given with its segments, so that those of the next are likely to be asked for.
     gave_segments: bool,
-    /// Where those of a passage are found into that none was found ahead of.
+    /// Where the breaks of a passage are found into that none was found ahead of.
     block: [RawBreak; BLOCK],
     /// The scalars that were met where pieces were found.
     near: NearScalars,
+    /// The segments of a passage that none was found ahead of.
     segments: Front<Segment>,
     pieces: Front<Piece>,
     ghost told: { KeepsTold profile (C.cell_of known.cells.now) paragraph ahead },
@@ -58,10 +59,11 @@ pub struct Segmenter<'a, C: CellSource> {
 }
 
 impl<'a, C: CellSource> Segmenter<'a, C> {
-    ghost use Rattle.lbk_passage.specs.State.{IsLimit, new_state};
+    ghost use Rattle.lbk_passage.specs.State.{IsLimit, bytes_in, new_state};
     ghost use Rattle.lbk_passage.specs.Shown.{HasRoom, KeepsRoom, found_by, state_of};
     ghost use Rattle.lbk_passage.specs.Next.{AfterNext, GoesOnce, IsOpen, IsPlaced, fault_in, failures_with};
     ghost use Rattle.lbk_passage.specs.Passing.{LendsText, PassesOver};
+    ghost use Rattle.lbk_passage.specs.Ahead.{segments_in};
     ghost use Rattle.lbk_passage.specs.Front.{items_of};
     ghost use Rattle.lbk_passage.specs.contracts.segmenter.Segmenter.{the_row};
     ghost use mir.Syntax.{named};
@@ -120,7 +122,7 @@ impl<'a, C: CellSource> Segmenter<'a, C> {
         ensures failures { R.failure_count reader.new ≡ failures_with (R.failure_count reader.old) (fault_in result) }
     {
         self.gave_segments = true;
-        let count = self.segments.count;
+        let count = self.found().len();
         let told = (self.ahead).tell(&self.known, self.profile, &self.paragraph, count);
         let Some(end) = self.paragraph.fill(reader, &self.known, told)? else {
             return Ok(None);
@@ -205,23 +207,34 @@ impl<'a, C: CellSource> Segmenter<'a, C> {
             self.ahead.forget();
             return self.paragraph.look_ahead(&self.known, None);
         }
-        let count = self.segments.count;
+        let count = self.found().len();
         let told = (self.ahead).tell(&self.known, self.profile, &self.paragraph, count);
         self.paragraph.look_ahead(&self.known, told)
     }
 
+    /// The segments of the passage that was taken last: those that were found ahead, if any were, else the list.
+    #[inline(always)]
+    fn found(&self) -> &[Segment]
+        ensures { result.now ≡ segments_in self.now.ahead self.now.segments }
+    {
+        if self.ahead.has_told() {
+            return self.ahead.found();
+        }
+        self.segments.as_slice()
+    }
+
     /// The paragraph as a passage.
     fn lend(&self, end: Verdict) -> Passage<'_>
-        ensures start { result.start ≡ self.now.paragraph.feed.given - string_len self.now.paragraph.text }
-        ensures text { result.text.now ≡ string_bytes self.now.paragraph.text }
-        ensures segments { result.segments.now ≡ items_of self.now.segments }
+        ensures start { result.start ≡ self.now.paragraph.feed.given - length (bytes_in self.now.paragraph) }
+        ensures text { result.text.now ≡ bytes_in self.now.paragraph }
+        ensures segments { result.segments.now ≡ segments_in self.now.ahead self.now.segments }
         ensures pieces { result.pieces.now ≡ items_of self.now.pieces }
         ensures end { result.end ≡ end }
     {
         Passage {
             start: self.paragraph.start(),
             text: self.paragraph.text(),
-            segments: self.segments.as_slice(),
+            segments: self.found(),
             pieces: self.pieces.as_slice(),
             end,
         }

@@ -6,7 +6,7 @@ use Rattle.lbk_passage.specs.Cuts.{cut_at}
 use Rattle.lbk_passage.specs.Found.{left_after}
 use Rattle.lbk_passage.specs.Front.{items_of}
 use Rattle.lbk_passage.proofs.FoundLemmas.{IsFound-start, left-many, left-on, taken-breaks, taken-many}
-use Rattle.lbk_passage.proofs.SegmentLemmas.{breaks-within, cut-alone, cut-on, raw-within}
+use Rattle.lbk_passage.proofs.SegmentLemmas.{breaks-within, cut-on, raw-within}
 use Rattle.lbk_passage.proofs.RoomLemmas.{Grows-none, Grows-on}
 use Rattle.lbk_passage.proofs.segments.cut_alone.Goals as goal
 
@@ -29,7 +29,7 @@ loop-start-preserved g c =
     let left = left_after c.args.profile cell c.args.text.now l.here in
     record {
       found = c.find-next.ensures.found;
-      cut = cut-on c.find-next.ensures (items_of c.loop-start.segments) (items_of c.cut_block.new.segments) c.loop-start.start c.in_ok-start.start (cut-alone (take n c.find-next.new.out) _ _ _ _ c.in_ok-start.ensures.cut) ∙ l.invariant.cut;
+      cut = cut-on c.find-next.ensures (items_of c.loop-start.segments) (items_of c.cut_block.new.segments) c.loop-start.start c.in_ok-start.start c.in_ok-start.ensures.cut ∙ l.invariant.cut;
       within = subst (All (λ (one : Break). one.at < 4294967296)) (sym (left-on c.find-next.ensures)) (All-drop (λ (one : Break). one.at < 4294967296) n left l.invariant.within);
       count = omega (
         arith,
@@ -55,10 +55,9 @@ cut_block-requires-clause-few g c =
     let l = c.loop-start in
     let n = c.find-next.result.state.count - l.here.state.count in
     let left = left_after c.args.profile cell c.args.text.now l.here in
-    let below = raw-within 4294967296 (take n c.find-next.new.out)
+    raw-within 4294967296 (take n c.find-next.new.out)
     (subst (All (λ (one : Break). one.at < 4294967296)) (sym c.find-next.ensures.front)
-    (All-take (λ (one : Break). one.at < 4294967296) n left l.invariant.within)) in
-    λ k d less. (omega arith, below k d less)
+    (All-take (λ (one : Break). one.at < 4294967296) n left l.invariant.within))
 
 pub returns-in_err-start-clause-grows : goal.returns-in_err-start-clause-grows
 returns-in_err-start-clause-grows g c =
@@ -83,7 +82,7 @@ returns-then-next-clause-cut g c =
     let held = items_of c.cut_block.new.segments in
     sym (append-nil held)
     ∙ ap (λ bs. held ++ cut_at c.in_ok-start.start bs) (sym (c.find-next.ensures.found.none_left c.if-next.true))
-    ∙ cut-on c.find-next.ensures (items_of c.loop-start.segments) (items_of c.cut_block.new.segments) c.loop-start.start c.in_ok-start.start (cut-alone (take (c.find-next.result.state.count - c.loop-start.here.state.count) c.find-next.new.out) _ _ _ _ c.in_ok-start.ensures.cut) ∙ c.loop-start.invariant.cut
+    ∙ cut-on c.find-next.ensures (items_of c.loop-start.segments) (items_of c.cut_block.new.segments) c.loop-start.start c.in_ok-start.start c.in_ok-start.ensures.cut ∙ c.loop-start.invariant.cut
 
 pub returns-then-next-clause-count : goal.returns-then-next-clause-count
 returns-then-next-clause-count g c =

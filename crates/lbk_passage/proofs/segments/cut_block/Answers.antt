@@ -1,7 +1,6 @@
-use Rattle.std.proofs.Common.{◌≡◌, ℕ, ◌+◌, ◌-◌, ◌<◌, [], ◌∷◌, ◌++◌, append_assoc, get_or, drop, length, take, sym, ap, ◌∙◌, arith}
+use Rattle.std.proofs.Common.{◌≡◌, ◌+◌, ◌<◌, [], ◌∷◌, ◌++◌, append_assoc, get_or, drop, length, map, take, sym, ap, ◌∙◌, arith}
 use Rattle.std.proofs.lemmas.List.{drop_more, get_or-map, length-map, take_more_set}
 use Rattle.lbk_rules.specs.declared.Break.{Break}
-use Rattle.lbk_rules.specs.Joins.{moved}
 use Rattle.lbk_bytes.specs.Order.{no_break}
 use Rattle.lbk_bytes.specs.Shown.{shown}
 use Rattle.lbk_bytes.proofs.ShownLemmas.{shown-raw}
@@ -19,21 +18,17 @@ loop-one-preserved c =
     let shows : c.break_of-found.result ≡ shown raw = c.break_of-found.ensures known.0 known.1 ∙ sym (ap shown known.1 ∙ shown-raw known.0) in
     let there : l.count < length l.slots = omega (arith, l.invariant.count, c.in_ok-make_room.ensures.makes.room, c.as_mut_slice-slots.ensures.len, l.auto.slots) in
     record {
-      cut = λ found more is.
-          let one = get_or found i (shown no_break) in
+      cut = λ more.
+          let found = map shown block in
           let rest = drop (i + 1) found ++ more in
-          let many : length block ≡ length found = sym (length-map block shown) ∙ ap length is ∙ length-map found (moved c.args.base) in
-          let same : shown raw ≡ moved c.args.base one =
-          sym (get_or-map shown block i no_break (shown no_break) (omega arith)) ∙ ap (λ bs. get_or bs i (shown no_break)) is
-          ∙ get_or-map (moved c.args.base) found i (shown no_break) (shown no_break) (omega (arith, many)) in
-          let at : raw.at - c.args.base ≡ one.at = omega (arith, ap (λ b. b.at) same) in
-          let piece : ℕ → Break → Segment = λ end b. record { start = l.start; end = end; kind = b.kind; rule = b.rule } in
+          let one : get_or found i (shown no_break) ≡ shown raw = get_or-map shown block i no_break (shown no_break) (omega arith) in
+          let piece : Break → Segment = λ b. record { start = l.start; end = raw.at; kind = b.kind; rule = b.rule } in
           let before = take l.count l.slots in
-          ap (λ items. items ++ cut_at (raw.at - c.args.base) rest) (take_more_set l.slots l.count (piece (raw.at - c.args.base) c.break_of-found.result) there)
-          ∙ append_assoc before (piece (raw.at - c.args.base) c.break_of-found.result ∷ []) (cut_at (raw.at - c.args.base) rest)
-          ∙ ap (λ n. before ++ piece n c.break_of-found.result ∷ cut_at n rest) at
-          ∙ ap (λ b. before ++ piece one.at b ∷ cut_at one.at rest) (shows ∙ same)
-          ∙ ap (λ bs. before ++ cut_at l.start (bs ++ more)) (sym (drop_more found i (shown no_break) (omega (arith, many))))
-          ∙ l.invariant.cut found more is;
+          ap (λ items. items ++ cut_at raw.at rest) (take_more_set l.slots l.count (piece c.break_of-found.result) there)
+          ∙ append_assoc before (piece c.break_of-found.result ∷ []) (cut_at raw.at rest)
+          ∙ ap (λ b. before ++ piece b ∷ cut_at raw.at rest) shows
+          ∙ ap (λ b. before ++ cut_at l.start (b ∷ rest)) (sym one)
+          ∙ ap (λ bs. before ++ cut_at l.start (bs ++ more)) (sym (drop_more found i (shown no_break) (omega (arith, length-map block shown))))
+          ∙ l.invariant.cut more;
       count = omega (arith, l.invariant.count);
     }

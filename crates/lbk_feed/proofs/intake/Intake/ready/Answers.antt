@@ -1,4 +1,5 @@
 use Rattle.std.proofs.Common.{◌≤◌, length, take, sym, subst, IsUtf8, length-take-le}
+use Rattle.lbk_feed.specs.Block.{used}
 use Rattle.lbk_feed.specs.Intake.{view_of}
 use Rattle.lbk_feed.proofs.Judged.{ready_held, ready-IsUtf8, front, lends}
 use Rattle.lbk_feed.proofs.intake.Intake.ready.Goals as goal
@@ -22,4 +23,4 @@ returns-clause-front c = let i = c.args.self.now in front _ _ _ _ _ i.judged
 
 pub returns-clause-lends : goal.returns-clause-lends
 unfolding view_of
-returns-clause-lends c = let i = c.args.self.now in lends _ _ _ _ _ i.judged i.is_ended
+returns-clause-lends c = let i = c.args.self.now in lends _ _ _ _ _ i.judged (used i.block) i.is_ended

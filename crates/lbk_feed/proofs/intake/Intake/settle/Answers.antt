@@ -1,7 +1,7 @@
 use Rattle.std.proofs.Common.{◌≡◌, ◌⊎◌, ◌<◌, [], length, take, Bool, true, false, is_some, refl, sym, ap, subst, ◌∙◌, ⊎_elim, arith}
 use Rattle.std.proofs.lemmas.List.{length-take}
 use Rattle.lbk_feed.specs.declared.intake.Intake.{Intake}
-use Rattle.lbk_feed.specs.Block.{items}
+use Rattle.lbk_feed.specs.Block.{items, used}
 use Rattle.lbk_feed.specs.View.{View, IsFront, LendsFront, CanGoOn, IsIdle, fault_of, AfterCall}
 use Rattle.lbk_feed.specs.Intake.{view_of, WantsMore}
 use Rattle.lbk_feed.proofs.Judged.{front, lends, judged-spent}
@@ -17,7 +17,7 @@ front_of i = front _ _ _ _ _ i.judged
 
 lends_of : (i : Intake) → LendsFront (view_of i)
 unfolding view_of
-lends_of i = lends _ _ _ _ _ i.judged i.is_ended
+lends_of i = lends _ _ _ _ _ i.judged (used i.block) i.is_ended
 
 not_idle : (i : Intake) → WantsMore i → i.is_spent ≡ false → ¬ (IsIdle (view_of i))
 unfolding view_of

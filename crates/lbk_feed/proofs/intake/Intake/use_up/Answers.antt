@@ -19,7 +19,7 @@ unfolding view_of
 after c =
     let i = c.args.self.now in
     let text = IsUtf8-take (take i.ready_len (items i.block)) c.args.n (ready-IsUtf8 _ _ _ _ _ i.judged) c.requires in
-    subst (λ l. IsJudged l (i.given + c.args.n) (i.ready_len - c.args.n) i.stop i.is_spent) (sym c.consume.ensures)
+    subst (λ l. IsJudged l (i.given + c.args.n) (i.ready_len - c.args.n) i.stop i.is_spent) (sym c.consume.ensures.items)
     (judged-drop _ _ _ _ _ i.judged c.args.n (within c) text)
 
 pub invariant_of-self : goal.invariant_of-self
@@ -30,7 +30,7 @@ pub returns-clause-ready : goal.returns-clause-ready
 unfolding view_of
 returns-clause-ready c =
     let i = c.args.self.now in
-    ap (λ l. take (i.ready_len - c.args.n) l) c.consume.ensures ∙ ready-drop _ _ _ _ _ i.judged c.args.n (within (goal.at.returns-clause-ready c).After-consume)
+    ap (λ l. take (i.ready_len - c.args.n) l) c.consume.ensures.items ∙ ready-drop _ _ _ _ _ i.judged c.args.n (within (goal.at.returns-clause-ready c).After-consume)
 
 pub returns-clause-front : goal.returns-clause-front
 unfolding view_of
@@ -38,4 +38,4 @@ returns-clause-front c = front _ _ _ _ _ (after (goal.at.returns-clause-front c)
 
 pub returns-clause-lends : goal.returns-clause-lends
 unfolding view_of
-returns-clause-lends c = lends _ _ _ _ _ (after (goal.at.returns-clause-lends c).After-consume) c.args.self.now.is_ended
+returns-clause-lends c = lends _ _ _ _ _ (after (goal.at.returns-clause-lends c).After-consume) _ c.args.self.now.is_ended

@@ -1,38 +1,29 @@
-use Rattle.std.proofs.Common.{◌≡◌, ◌+◌, true, drop, get_or, take, sym, ap, ◌∙◌, arith}
-use Rattle.std.proofs.lemmas.List.{length-take-le}
+use Rattle.std.proofs.Common.{◌+◌, ◌-◌, ◌<◌, ◌≤◌, get_or, sym, subst, arith}
 use Rattle.lbk_bytes.specs.Order.{no_break}
-use Rattle.lbk_bytes.specs.Shown.{shown}
-use Rattle.lbk_passage.specs.Passages.{is_must}
-use Rattle.lbk_passage.proofs.AheadLemmas.{found-many, is_split, next_quiet, one_moved, other_kind}
+use Rattle.lbk_passage.specs.Ahead.{EndsFirst}
+use Rattle.lbk_passage.proofs.AheadLemmas.{EndsFirst-noted, first-noted, noted-at, noted-within}
 use Rattle.lbk_passage.proofs.ahead.Ahead.first_end.Goals as goal
-use Rattle.lbk_passage.proofs.ahead.Ahead.first_end.Goals.{in-Must, in_default}
 
-pub overflow_sub-one : goal.overflow_sub-one
-overflow_sub-one c =
-    let is = one_moved c.requires.1 c.loop-k.k c.loop-k-test.true c.break_of-one.result c.break_of-one.ensures in
-    omega (arith, ap (λ b. b.at) is)
+pub bounds-self-k : goal.bounds-self-k
+bounds-self-k c =
+    let h = c.requires.1 in
+    omega (arith, noted-within h (omega (arith, h.few.0, c.if-self.false)), h.within, c.from-k.ensures)
 
-pub returns-then-one-self : goal.returns-then-one-self
-returns-then-one-self c = λ found has some.
-    let k = c.loop-k.k in
-    let is = one_moved has k c.loop-k-test.true c.break_of-one.result c.break_of-one.ensures in
-    let must : is_must c.break_of-one.result.kind ≡ true =
-    elim c.match-matches.branch [ in-Must w ↦ ap is_must w.in-Must.is | in_default w ↦ absurd (let no = sym w.matches-is ∙ c.if-matches.true in cc) ] in
-    record {
-      front = take k found;
-      last = get_or found k (shown no_break);
-      rest = drop (k + 1) found;
-      all = is_split has k c.loop-k-test.true;
-      counted = ap (λ n. n + 1) (sym (length-take-le k found (omega (arith, found-many has, c.loop-k-test.true))));
-      none = c.loop-k.invariant.quiet found has;
-      must = sym (ap (λ b. is_must b.kind) is) ∙ must;
-      near = omega (arith, ap (λ b. b.at) is, c.if-one-self.true);
-    }
+pub overflow_sub-self : goal.overflow_sub-self
+overflow_sub-self c =
+    let a = c.args.self.now in
+    let h = c.requires.1 in
+    subst (λ n. a.base ≤ (get_or a.block n no_break).at) (sym c.from-k.ensures) (omega (arith, noted-at h (omega (arith, h.few.0, c.if-self.false))))
 
-pub loop-k-preserved : goal.loop-k-preserved
-loop-k-preserved c = record {
-  quiet = λ found has.
-      next_quiet has c.loop-k.k c.loop-k-test.true c.break_of-one.result c.break_of-one.ensures
-      (elim c.match-matches.branch [ in-Must w ↦ absurd (let no = sym w.matches-is ∙ c.if-matches.false in cc) | in_default w ↦ other_kind c.break_of-one.result.kind w.in_default.not-Must ])
-      (c.loop-k.invariant.quiet found has);
-}
+pub overflow_sub-result : goal.overflow_sub-result
+overflow_sub-result c =
+    let h = c.requires.1 in
+    omega (arith, (first-noted h (omega (arith, h.few.0, c.if-self.false))).place, c.from-k.ensures)
+
+pub returns-then-self-k : goal.returns-then-self-k
+returns-then-self-k c = λ found h some.
+    let a = c.args.self.now in
+    let noted : a.next_end < a.ends_count = omega (arith, h.few.0, c.if-self.false) in
+    subst (λ n. EndsFirst found c.args.len (n + 1 - a.next)) (sym c.from-k.ensures)
+    (EndsFirst-noted h noted c.args.len
+    (subst (λ n. (get_or a.block n no_break).at - a.base < c.args.len) c.from-k.ensures c.if-self-k.true))

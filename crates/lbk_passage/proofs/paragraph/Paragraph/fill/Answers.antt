@@ -9,7 +9,11 @@ use Rattle.lbk_passage.proofs.Settling.{ok_err}
 use Rattle.lbk_passage.proofs.Taking.{Takes-told}
 use Rattle.lbk_passage.proofs.Filling.{held_done, whole_done, Fills-spent, Fills-held, Fills-gathered, Fills-ok, ends_by_fault}
 use Rattle.lbk_passage.proofs.Booleans.{or-true}
+use Rattle.lbk_passage.proofs.Texts.{IsLent-none}
 use Rattle.lbk_passage.proofs.paragraph.Paragraph.fill.Goals as goal
+
+pub invariant_of-self-clause-behind : goal.invariant_of-self-clause-behind
+invariant_of-self-clause-behind g c = IsLent-none c.args.self.now.limit c.args.self.now.feed
 
 pub returns-then-self-clause-fills : goal.returns-then-self-clause-fills
 returns-then-self-clause-fills g c = λ profile. Fills-spent (g.C.CellSource.cell_of c.args.known.now.cells.now) profile c.args.self.now _ _ _ c.if-self.true
@@ -58,31 +62,31 @@ returns-clause-again g c = λ profile done unspent.
     let fresh = ap (λ b. b || c.args.self.now.is_spent) c.if-self-2.false ∙ c.if-self.false in
     sym c.in_ok-end.was ∙ c.gather.ensures.reads_on.again done.at_end (held_done (g.C.CellSource.cell_of c.args.known.now.cells.now) profile c.args.self.now fresh done)
 
-pub hold-requires-clause-place : goal.hold-requires-clause-place
-hold-requires-clause-place g c = (rw c.in-Some.is at c.requires.told).boundary
+pub lend-requires-clause-place : goal.lend-requires-clause-place
+lend-requires-clause-place g c = (rw c.in-Some.is at c.requires.told).boundary
 
 pub returns-in-Some-clause-fills : goal.returns-in-Some-clause-fills
 returns-in-Some-clause-fills g c = λ profile.
     let cell = g.C.CellSource.cell_of c.args.known.now.cells.now in
     let old = c.args.self.now in
     let told = rw c.in-Some.is at c.requires.told in
-    let takes = Takes-told cell old _ _ c.in-Some.told told refl refl c.clear.ensures.len c.hold.ensures.lends c.hold.ensures.moves in
+    let takes = Takes-told cell old _ _ c.in-Some.told told refl refl (ap length c.clear.ensures.bytes) c.lend.ensures.lends c.lend.ensures.moves in
     let gathers = Gathers-told cell _ _ _ _ _ told.reach takes c.clear.ensures.bytes c.if-self-2.false c.if-self.false told.some
-    c.hold.new.self.end told.stop (c.hold.ensures.end_is ∙ told.end) in
-    Fills-ok cell profile old _ _ _ _ _ c.hold.new.self _ _ _ c.hold.new.self.end told.fresh refl refl
-    gathers refl refl refl refl c.hold.ensures.is_held c.if-self.false
+    c.lend.new.self.end told.stop (c.lend.ensures.end_is ∙ told.end) in
+    Fills-ok cell profile old _ _ _ _ _ c.lend.new.self _ _ _ c.lend.new.self.end told.fresh refl refl
+    gathers refl refl refl refl c.lend.ensures.is_held c.if-self.false
 
 pub returns-in-Some-clause-whole : goal.returns-in-Some-clause-whole
 returns-in-Some-clause-whole g c = λ held.
     let cell = g.C.CellSource.cell_of c.args.known.now.cells.now in
     let told = rw c.in-Some.is at c.requires.told in
-    let takes = Takes-told cell c.args.self.now _ _ c.in-Some.told told refl refl c.clear.ensures.len c.hold.ensures.lends c.hold.ensures.moves in
+    let takes = Takes-told cell c.args.self.now _ _ c.in-Some.told told refl refl (ap length c.clear.ensures.bytes) c.lend.ensures.lends c.lend.ensures.moves in
     whole_line cell First c.args.self.now told.fresh _ c.clear.ensures.bytes refl refl refl cell _ told.reach takes
-    c.hold.new.self.end told.stop (c.hold.ensures.end_is ∙ told.end)
+    c.lend.new.self.end told.stop (c.lend.ensures.end_is ∙ told.end)
 
 pub returns-in-Some-clause-again : goal.returns-in-Some-clause-again
 returns-in-Some-clause-again g c = λ profile done unspent.
     let told = rw c.in-Some.is at c.requires.told in
     let none = held_done (g.C.CellSource.cell_of c.args.known.now.cells.now) profile c.args.self.now told.fresh done in
-    let empty = ready_nil c.args.self.now.feed.ready _ (sym c.hold.ensures.lends.first ∙ none) in
+    let empty = ready_nil c.args.self.now.feed.ready _ (sym c.lend.ensures.lends.first ∙ none) in
     absurd (omega (arith, ap length empty, told.some))

@@ -9,6 +9,7 @@ use Rattle.lbk_passage.proofs.paragraph.Paragraph.gather.Goals as goal
 pub loop-self-init : goal.loop-self-init
 loop-self-init g c = record {
   gathering = Gathering-none (g.C.CellSource.cell_of c.args.known.now.cells.now) c.args.self.now _ _ _ c.requires.fresh c.requires.open_end c.requires.unspent;
+  gathered = c.requires.gathered;
   failures = refl;
   quiet = λ h. (refl, h);
 }
@@ -23,29 +24,30 @@ pub loop-self-smaller : goal.loop-self-smaller
 loop-self-smaller g c =
     turn-less (g.C.CellSource.cell_of c.args.known.now.cells.now) c.args.self.now _ _ _ c.loop-self.self c.settle.new.self c.loop-self.last _ _ _ _ _ _ c.settle.result
     c.loop-self.invariant.gathering c.settle.ensures.settles c.in_ok-settle.field-0 c.in_ok-settle.was c.if-branch.true
-    c.take-reach.new.self c.take-reach.result c.take-reach.ensures c.in-PieceEnds.is
+    c.take-reach.new.self c.take-reach.result c.take-reach.ensures.takes c.in-PieceEnds.is
 
 pub loop-self-preserved : goal.loop-self-preserved
 loop-self-preserved g c = record {
   gathering = turn-more (g.C.CellSource.cell_of c.args.known.now.cells.now) c.args.self.now _ _ _ c.loop-self.self c.settle.new.self c.loop-self.last _ _ _ _ _ _ c.settle.result
       c.loop-self.invariant.gathering c.settle.ensures.settles c.in_ok-settle.field-0 c.in_ok-settle.was c.if-branch.true
-      c.take-reach.new.self c.take-reach.result c.take-reach.ensures;
+      c.take-reach.new.self c.take-reach.result c.take-reach.ensures.takes;
+  gathered = c.take-reach.ensures.gathered;
   failures = c.settle.ensures.reads_on.failures ∙ ap (λ r. failures_with (g.R.Source.failure_count c.loop-self.reader) (fault_in r)) c.in_ok-settle.was ∙ c.loop-self.invariant.failures;
   quiet = λ h. let q = c.loop-self.invariant.quiet h in
-      (c.settle.ensures.reads_on.quiet q.1 ∙ q.0, c.take-reach.ensures.ended ∙ (c.settle.ensures.settles.steps.same (inr (inl q.1))).2 ∙ q.1);
+      (c.settle.ensures.reads_on.quiet q.1 ∙ q.0, c.take-reach.ensures.takes.ended ∙ (c.settle.ensures.settles.steps.same (inr (inl q.1))).2 ∙ q.1);
 }
 
 pub returns-in-LineEnds-clause-gathers : goal.returns-in-LineEnds-clause-gathers
 returns-in-LineEnds-clause-gathers g c =
     turn-line (g.C.CellSource.cell_of c.args.known.now.cells.now) c.args.self.now _ _ _ c.loop-self.self c.settle.new.self c.loop-self.last _ _ _ _ _ _ c.settle.result
     c.loop-self.invariant.gathering c.settle.ensures.settles c.in_ok-settle.field-0 c.in_ok-settle.was c.if-branch.true
-    c.take-reach.new.self c.take-reach.result c.take-reach.ensures c.end_before.result c.in-LineEnds.is c.end_before.ensures
+    c.take-reach.new.self c.take-reach.result c.take-reach.ensures.takes c.end_before.result c.in-LineEnds.is c.end_before.ensures
 
 pub returns-in-NoRoom-clause-gathers : goal.returns-in-NoRoom-clause-gathers
 returns-in-NoRoom-clause-gathers g c =
     turn-long (g.C.CellSource.cell_of c.args.known.now.cells.now) c.args.self.now _ _ _ c.loop-self.self c.settle.new.self c.loop-self.last _ _ _ _ _ _ c.settle.result
     c.loop-self.invariant.gathering c.settle.ensures.settles c.in_ok-settle.field-0 c.in_ok-settle.was c.if-branch.true
-    c.take-reach.new.self c.take-reach.result c.take-reach.ensures c.refuse.new.self c.refuse.result c.refuse.ensures.same c.in-NoRoom.is c.refuse.ensures.fault
+    c.take-reach.new.self c.take-reach.result c.take-reach.ensures.takes c.refuse.new.self c.refuse.result c.refuse.ensures.same c.in-NoRoom.is c.refuse.ensures.fault
 
 pub returns-clause-gathers : goal.returns-clause-gathers
 returns-clause-gathers g c =

@@ -1,9 +1,11 @@
-use Rattle.std.proofs.Common.{◌≡◌, false, None, Some, Ok, ◌&&◌, not, is_err, inl, inr, refl, sym, ap, ◌∙◌}
+use Rattle.std.proofs.Common.{◌≡◌, false, None, Some, Ok, ◌&&◌, not, is_err, inl, inr, refl, sym, ap, subst, ◌∙◌}
 use Rattle.lbk_feed.specs.declared.faults.FeedFault.TheVariants.{Read, Spent}
 use Rattle.lbk_feed.specs.View.{fault_of}
 use Rattle.lbk_feed.specs.View as feed
 use Rattle.lbk_passage.specs.Next.{failures_with}
 use Rattle.lbk_passage.proofs.Settling.{ok_err, one_value, feed_unspent, spent_together, failures_alike}
+use Rattle.lbk_passage.specs.Lent.{IsLent}
+use Rattle.lbk_passage.proofs.Texts.{IsLent-none, bytes-gathered, gathered-bytes}
 use Rattle.lbk_passage.proofs.paragraph.Paragraph.settle.Goals as goal
 
 pub invariant_of-self-clause-spent : goal.invariant_of-self-clause-spent
@@ -13,9 +15,13 @@ invariant_of-self-clause-spent g c =
     (feed_unspent c.args.self.now.feed.is_spent c.args.self.now.is_spent c.args.self.now.spent c.requires.unspent)
     c.settle-outcome.ensures.call.steps.spent
 
+pub invariant_of-self-clause-behind : goal.invariant_of-self-clause-behind
+invariant_of-self-clause-behind g c =
+    subst (λ n. IsLent n c.args.self.now.limit c.settle-outcome.new.self) (sym c.requires.gathered) (IsLent-none c.args.self.now.limit c.settle-outcome.new.self)
+
 pub returns-in-Ok-clause-settles : goal.returns-in-Ok-clause-settles
 returns-in-Ok-clause-settles g c = record {
-  text = refl;
+  text = gathered-bytes _ _ _ c.requires.gathered ∙ sym (bytes-gathered c.args.self.now c.requires.gathered);
   limit = refl;
   same_held = refl;
   fault = None;
@@ -34,7 +40,7 @@ returns-in-Ok-clause-settles g c = record {
 
 pub returns-in-Err-clause-settles : goal.returns-in-Err-clause-settles
 returns-in-Err-clause-settles g c = record {
-  text = refl;
+  text = gathered-bytes _ _ _ c.requires.gathered ∙ sym (bytes-gathered c.args.self.now c.requires.gathered);
   limit = refl;
   same_held = refl;
   fault = Some c.in-Err.fault;

@@ -8,7 +8,7 @@ use Rattle.lbk_passage.proofs.segmenter.Segmenter.new.Goals as goal
 pub invariant_of-result : goal.invariant_of-result
 invariant_of-result g c = record {
   told = λ held some. absurd (omega (arith, some));
-  found = HasAhead-nothing _ refl;
+  found = HasAhead-nothing _ _ _ refl refl refl;
   whole = λ held. absurd (false≢true (
       sym (ap (λ s. s.is_settled) (c.in-Ok.ensures.state (g.C.CellSource.cell_of c.args.cells.now) c.args.profile))
       ∙ ap (λ b. b || c.in-Ok.paragraph.is_spent) held

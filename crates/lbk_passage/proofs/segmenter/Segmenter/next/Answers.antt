@@ -1,4 +1,4 @@
-use Rattle.std.proofs.Common.{◌≡◌, true, ℕ, ◌*◌, ◌<◌, not, List, length, chars, Ok, Err, string_bytes, vec_capacity, inl, inr, refl, sym, ap, subst, ◌∙◌, arith}
+use Rattle.std.proofs.Common.{◌≡◌, true, ℕ, ◌*◌, ◌<◌, not, List, length, chars, Ok, Err, vec_capacity, inl, inr, refl, sym, ap, subst, ◌∙◌, arith}
 use Rattle.std.proofs.Math.Nat.{le-max_left}
 use Rattle.std.proofs.lemmas.Result.{err_from_is_err_and}
 use Rattle.lbk_passage.specs.Marks.{marks, ended}
@@ -8,14 +8,13 @@ use Rattle.lbk_passage.specs.declared.faults.PassageFault.TheVariants.{Memory}
 use Rattle.lbk_passage.specs.Next.{failures_with, fault_in}
 use Rattle.lbk_passage.specs.Front.{items_of}
 use Rattle.lbk_passage.specs.Shown.{found_by}
-use Rattle.lbk_passage.specs.State.{state_with}
+use Rattle.lbk_passage.specs.State.{bytes_in, state_with}
 use Rattle.lbk_passage.specs.Gathering.{IsFirst}
 use Rattle.lbk_passage.specs.Stays.{IsWhole}
 use Rattle.lbk_passage.proofs.Giving.{After-fault, After-lent, After-memory, After-none, Goes-fault, Goes-lent, Goes-none, Goes-some, Keeps-same, lacks_room, most_of, never_memory, no_fault, on_err, on_ok}
-use Rattle.lbk_passage.specs.Ahead.{HasTold, IsAhead, KeepsTold}
+use Rattle.lbk_passage.specs.Ahead.{HasTold, IsAhead, KeepsTold, segments_in}
 use Rattle.lbk_passage.proofs.AheadLemmas.{ahead-kept}
 use Rattle.lbk_passage.proofs.RoomLemmas.{items-many}
-use Rattle.lbk_passage.proofs.Taking.{string_len-is}
 use Rattle.lbk_passage.proofs.segmenter.Segmenter.next.Given.{Over}
 use Rattle.lbk_passage.proofs.segmenter.Segmenter.next.Goals as goal
 use Rattle.lbk_passage.proofs.segmenter.Segmenter.next.Goals.{After-fill}
@@ -78,7 +77,7 @@ returns-then-is_err g c =
     let fills = rw was at filled in
     let first : IsFirst (state_with (g.C.CellSource.cell_of c.args.self.now.known.cells.now) c.args.self.now.profile c.fill.new.self) c.fill.new.self c.in-Some.end = fills.answer in
     let many = λ (l : List ℕ). length (segments_of (ended c.in-Some.end (marks c.args.self.now.profile (g.C.CellSource.cell_of c.args.self.now.known.cells.now) (chars l)))) in
-    let lines : vec_capacity c.args.self.now.segments.items < many (string_bytes c.fill.new.self.text) =
+    let lines : vec_capacity c.args.self.now.segments.items < many (bytes_in c.fill.new.self) =
     subst (λ l. vec_capacity c.args.self.now.segments.items < many l) c.text-text.ensures.text
     (on_err (vec_capacity c.args.self.now.segments.items < many c.text-text.result.now) c.cut_lines.result
     (c.is_err.ensures.negation ∙ ap not c.if-is_err.true) (c.cut_lines.ensures.full first.broken)) in (
@@ -111,7 +110,7 @@ returns-then-is_err-2 g c =
     let fills = rw was at filled in
     let first : IsFirst (state_with (g.C.CellSource.cell_of c.args.self.now.known.cells.now) c.args.self.now.profile c.fill.new.self) c.fill.new.self c.in-Some.end = fills.answer in
     let many = λ (l : List ℕ). length (pieces_of (g.C.CellSource.cell_of c.args.self.now.known.cells.now) l) in
-    let words : vec_capacity c.args.self.now.pieces.items < many (string_bytes c.fill.new.self.text) =
+    let words : vec_capacity c.args.self.now.pieces.items < many (bytes_in c.fill.new.self) =
     subst (λ l. vec_capacity c.args.self.now.pieces.items < many l) c.text-text.ensures.text
     (on_err (vec_capacity c.args.self.now.pieces.items < many c.text-text.result.now) c.cut_words.result
     (c.is_err-2.ensures.negation ∙ ap not c.if-is_err-2.true) c.cut_words.ensures.full) in (
@@ -145,8 +144,8 @@ returns g c =
     let was = c.in_ok-end.was ∙ ap Ok c.in-Some.is in
     let fills = rw was at filled in
     let first : IsFirst (state_with cell profile c.fill.new.self) c.fill.new.self c.in-Some.end = fills.answer in
-    let lines : items_of c.cut_lines.new.segments ≡ segments_of (ended c.in-Some.end (marks profile cell (chars c.text-text.result.now))) =
-    on_ok (items_of c.cut_lines.new.segments ≡ segments_of (ended c.in-Some.end (marks profile cell (chars c.text-text.result.now))))
+    let lines : segments_in c.tell-told.new.self c.cut_lines.new.segments ≡ segments_of (ended c.in-Some.end (marks profile cell (chars c.text-text.result.now))) =
+    on_ok (segments_in c.tell-told.new.self c.cut_lines.new.segments ≡ segments_of (ended c.in-Some.end (marks profile cell (chars c.text-text.result.now))))
     c.cut_lines.result (c.is_err.ensures.negation ∙ ap not c.if-is_err.false) c.cut_lines.ensures.cut in
     let words : items_of c.cut_words.new.pieces ≡ pieces_of cell c.text-text.result.now =
     on_ok (items_of c.cut_words.new.pieces ≡ pieces_of cell c.text-text.result.now)
@@ -157,8 +156,6 @@ returns g c =
         c.lend.ensures.start,
         ap (λ f. f.given) c.release.ensures.feed,
         ap length c.release.ensures.text,
-        string_len-is c.release.new.self.text,
-        string_len-is c.fill.new.self.text,
       );
       bytes = c.lend.ensures.text ∙ c.release.ensures.text;
       segments = c.lend.ensures.segments ∙ lines ∙ ap (λ l. segments_of (ended c.in-Some.end (marks profile cell (chars l)))) c.text-text.ensures.text;
@@ -194,11 +191,6 @@ cut_lines-requires-clause-told g c = λ some.
     let kept = (filled g (goal.at.cut_lines-requires-clause-told g c).After-fill).told in
     subst (λ l. HasTold s.profile cell l c.in-Some.end c.tell-told.new.self) (sym c.text-text.ensures.text)
     (kept c.in_ok-end.ensures.held some c.in-Some.end (sym c.in_ok-end.ensures.end ∙ c.in-Some.is))
-
-pub invariant_of-self : goal.invariant_of-self
-invariant_of-self g c =
-    let kept = filled g (goal.at.invariant_of-self g c).After-fill in
-    record { told = kept.told; found = kept.found; whole = kept.whole; met = c.args.self.now.met }
 
 pub invariant_of-self-then-is_err : goal.invariant_of-self-then-is_err
 invariant_of-self-then-is_err g c =

@@ -11,7 +11,6 @@ use Rattle.lbk_passage.specs.declared.passage.Passage.{Passage}
 use Rattle.lbk_passage.specs.declared.passage.PassageText.{PassageText}
 use Rattle.lbk_passage.proofs.Giving.{After-fault, After-lent, After-none, Goes-fault, Goes-lent, Goes-none, never_memory}
 use Rattle.lbk_passage.proofs.Settling.{ok_err}
-use Rattle.lbk_passage.proofs.Taking.{string_len-is}
 use Rattle.lbk_passage.proofs.segmenter.Segmenter.next_text.Goals as goal
 
 -- the passage of this text
@@ -78,8 +77,6 @@ returns g c =
         c.start.ensures,
         ap (λ f. f.given) c.release.ensures.feed,
         ap length c.release.ensures.text,
-        string_len-is c.release.new.self.text,
-        string_len-is c.fill.new.self.text,
       );
       bytes = bytes;
       segments = ap (λ l. segments_of (ended c.in-Some.end (marks profile cell (chars l)))) bytes;

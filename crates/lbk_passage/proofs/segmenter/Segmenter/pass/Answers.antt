@@ -1,4 +1,4 @@
-use Rattle.std.proofs.Common.{◌≡◌, ℕ, ◌-◌, [], length, chars, Bool, Ok, Err, None, Some, refl, sym, ap, ◌∙◌, arith, string_bytes, string_len}
+use Rattle.std.proofs.Common.{◌≡◌, ℕ, ◌-◌, [], length, chars, Bool, Ok, Err, None, Some, refl, sym, ap, ◌∙◌, arith}
 use Rattle.std.specs.Prelude.{if◌then◌else◌}
 use Rattle.std.proofs.lemmas.Result.{err_from_is_err_and}
 use Rattle.lbk_rules.specs.declared.Cell.{Cell}
@@ -8,7 +8,7 @@ use Rattle.lbk_passage.specs.Marks.{marks, ended}
 use Rattle.lbk_passage.specs.Segments.{segments_of}
 use Rattle.lbk_passage.specs.Pieces.{pieces_of}
 use Rattle.lbk_passage.specs.Next.{failures_with, fault_in}
-use Rattle.lbk_passage.specs.State.{text_held}
+use Rattle.lbk_passage.specs.State.{bytes_in, text_held}
 use Rattle.lbk_passage.specs.declared.faults.PassageFault.TheVariants.{Memory}
 use Rattle.lbk_passage.specs.declared.paragraph.Paragraph.{Paragraph}
 use Rattle.lbk_passage.specs.declared.passage.Passage.{Passage}
@@ -19,10 +19,10 @@ use Rattle.lbk_passage.proofs.segmenter.Segmenter.pass.Goals as goal
 -- the passage that is passed over
 abbrev passed : (ℕ → Cell) → Profile → Paragraph → Verdict → Passage
 passed cell profile p end = record {
-  start = p.feed.given - string_len p.text;
-  text = record { ref_ptr = (0, 0); now = string_bytes p.text };
-  segments = record { ref_ptr = (0, 0); now = segments_of (ended end (marks profile cell (chars (string_bytes p.text)))) };
-  pieces = record { ref_ptr = (0, 0); now = pieces_of cell (string_bytes p.text) };
+  start = p.feed.given - length (bytes_in p);
+  text = record { ref_ptr = (0, 0); now = bytes_in p };
+  segments = record { ref_ptr = (0, 0); now = segments_of (ended end (marks profile cell (chars (bytes_in p)))) };
+  pieces = record { ref_ptr = (0, 0); now = pieces_of cell (bytes_in p) };
   end = end;
 }
 
@@ -64,7 +64,7 @@ returns g c =
     let pg = passed cell profile c.fill.new.self c.in-Some.field-0 in
     let lent = After-lent fills q pg c.release.ensures (record { start = refl; bytes = refl; segments = refl; pieces = refl; ends = refl }) in
     let after = lent.0 in
-    let none : length (text_held q) ≡ 0 = ap (λ (b : Bool). length (if b then string_bytes q.text else [])) after.settled in record {
+    let none : length (text_held q) ≡ 0 = ap (λ (b : Bool). length (if b then bytes_in q else [])) after.settled in record {
       passes = record {
         lent = Ok (Some pg);
         after = after;
