@@ -191,7 +191,12 @@ fn read_alike<const SIZE: usize, S: PartSlot>(
         let Some(noted) = noted_alike::<SIZE>(near, here.row, text, here.at) else {
             break;
         };
-        here = taken(here, noted, out);
+        let next = taken(here, noted, out);
+        here.count = next.count;
+        here.start = next.start;
+        here.at = next.at;
+        here.row = next.row;
+        here.has_letter = next.has_letter;
     }
     here
 }
