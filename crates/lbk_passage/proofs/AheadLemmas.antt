@@ -1,19 +1,16 @@
 -- Breaks of the bytes that are ready, found ahead of the passages that they end.
 use Rattle.std.proofs.Common.{true, ◌≡◌, ℕ, suc, zero, ◌+◌, ◌-◌, ◌<◌, ◌≤◌, ◌||◌, false, IfSome, Option, List, [], ◌∷◌, ◌++◌, length, map, drop, take, get_or, None, Some, chars, IsCharBoundary, IsUtf8, refl, sym, ap, subst, inr, ⊎_elim, ◌∙◌, arith, append_assoc}
-use Rattle.std.proofs.Math.Seq.{drop-drop, get_or-append_seam, take-add}
+use Rattle.std.proofs.Math.Seq.{drop-drop, take-add}
 use Rattle.std.specs.List.{take-map}
-use Rattle.std.proofs.lemmas.List.{append_cancel_left, drop_more, get_or-drop, get_or-map, get_or-take, length-append, length-drop, length-map, length-take-le, length_push, map-append, take-append-drop, take_at}
+use Rattle.std.proofs.lemmas.List.{drop_more, get_or-drop, get_or-take, length-append, length-drop, length-map, length-take-le, length_push, take-append-drop, take_at}
 use Rattle.lbk_rules.specs.declared.Break.{Break}
 use Rattle.lbk_rules.specs.declared.Cell.{Cell}
 use Rattle.lbk_values.specs.declared.profile.Profile.{Profile}
-use Rattle.lbk_rules.specs.Breaks.{breaks, is_no}
+use Rattle.lbk_rules.specs.Breaks.{breaks}
 use Rattle.lbk_rules.specs.Joins.{moved}
-use Rattle.lbk_rules.proofs.JoinLemmas.{map-moved, map-moved-none}
 use Rattle.lbk_bytes.specs.declared.raw_break.RawBreak.{RawBreak}
-use Rattle.lbk_bytes.specs.Order.{AreBreaks, IsBreak, no_break}
-use Rattle.lbk_bytes.specs.Shown.{given_in, raw_of, shown}
-use Rattle.lbk_bytes.proofs.ShownLemmas.{shown-raw}
-use Rattle.lbk_passage.specs.Ahead.{AreWhole, EndsFirst, GivesTold, HasAhead, HasSizes, HasTold, IsAhead, IsTold, KeepsTold, ShowBreaks, TakesBy, TakesTold, Tells, by_count}
+use Rattle.lbk_bytes.specs.Shown.{given_in}
+use Rattle.lbk_passage.specs.Ahead.{AreWhole, EndsFirst, GivesTold, HasAhead, HasSizes, HasTold, IsAhead, IsTold, KeepsTold, TakesBy, TakesTold, Tells, by_count}
 use Rattle.lbk_passage.specs.Cuts.{cut_at, cut_on, musts}
 use Rattle.lbk_passage.specs.Found.{FindsNext}
 use Rattle.lbk_rules.specs.Marks.{ended, marks}
@@ -26,26 +23,9 @@ use Rattle.lbk_passage.specs.declared.paragraph.Paragraph.{Paragraph}
 use Rattle.lbk_passage.specs.declared.paragraph.Told.{Told}
 use Rattle.lbk_passage.specs.declared.passage.Segment.{Segment}
 use Rattle.lbk_passage.specs.declared.reach.ReachEnd.TheVariants.{LineEnds}
-use Rattle.lbk_bytes.proofs.ReachedLemmas.{given-many}
-use Rattle.lbk_passage.proofs.CutLemmas.{SameHalves, SplitsAt, cut_on-first, cut_on-moved, musts-first, musts-moved, same_halves, splits_at}
+use Rattle.lbk_passage.proofs.CutLemmas.{SameHalves, SplitsAt, cut_on-first, cut_on-moved, length-cut_on, musts-first, musts-moved, same_halves, segment_first, splits_at}
 use Rattle.lbk_passage.proofs.FirstEnds.{FirstEndIn, NoneMust, first_end_in}
-use Rattle.lbk_passage.proofs.KeptLemmas.{each-behind, given-split}
 use Rattle.lbk_passage.proofs.SegmentLemmas.{length-cut}
-
--- What a block shows
-
-pub shows-breaks : (block : List RawBreak) (count : ℕ) → AreBreaks block count → ShowBreaks block count
-shows-breaks block count are = λ k less.
-    let known = are k less in
-    let same : shown (get_or block k no_break) ≡ known.0 = ap shown known.1 ∙ shown-raw known.0 in
-    (known.1 ∙ ap raw_of (sym same), ap (λ b. is_no b.kind) same ∙ known.2)
-
-pub breaks-shown : (block : List RawBreak) (count : ℕ) → ShowBreaks block count → AreBreaks block count
-breaks-shown block count show = λ k less. (shown (get_or block k no_break), (show k less).0, (show k less).1)
-
--- a break that the numbers stand for is the one that they show
-pub shown_by : (raw : RawBreak) (b : Break) → IsBreak raw → ((found : Break) → raw ≡ raw_of found → b ≡ found) → b ≡ shown raw
-shown_by raw b known is = is known.0 known.1 ∙ sym (ap shown known.1 ∙ shown-raw known.0)
 
 -- the first breaks of a text stand in the front of a block
 pub first-given : {profile : Profile} {cell : ℕ → Cell} {text : List ℕ} {to : Progress} {room : ℕ} {block : List RawBreak}
@@ -59,20 +39,17 @@ first-given {profile} {cell} {text} {to} {room} {block} f =
 pub IsAhead-found : {profile : Profile} {cell : ℕ → Cell} {text : List ℕ} {to : Progress} {room : ℕ} {block : List RawBreak}
     → FindsNext profile cell text (record { state = record { count = 0; row = 0; at = 0 }; ended = false }) to room block → room ≡ 256
     → (segments : List Segment) (ends : List ℕ) (count : ℕ)
-    → AreWhole (record { block = block; segments = segments; ends = ends; ends_count = count; next_end = 0; next = 0; left = to.state.count; told = 0; base = 0 })
+    → AreWhole (record { block = block; segments = segments; ends = ends; ends_count = count; next_end = 0; next = 0; left = to.state.count; told = 0 })
     → take to.state.count segments ≡ cut_on 0 0 (given_in block to.state.count)
     → take count ends ≡ musts 0 (given_in block to.state.count) → count ≤ to.state.count
-    → HasAhead (record { block = block; segments = segments; ends = ends; ends_count = count; next_end = 0; next = 0; left = to.state.count; told = 0; base = 0 })
+    → HasAhead (record { block = block; segments = segments; ends = ends; ends_count = count; next_end = 0; next = 0; left = to.state.count; told = 0 })
     (take to.state.count (breaks profile cell (chars text)))
 IsAhead-found {profile} {cell} {text} {to} {room} {block} f room_is segments ends count whole_is cut noted few =
-    let whole : to.state.count - 0 ≡ to.state.count = omega arith in
     let front = first-given f in
     record {
       whole = whole_is;
       within = omega (arith, f.count, room_is);
       before = omega arith;
-      each = subst (ShowBreaks block) whole (shows-breaks block (to.state.count - 0) f.breaks);
-      given = front ∙ sym (map-moved-none (take to.state.count (breaks profile cell (chars text))));
       cut = cut ∙ ap (cut_on 0 0) front;
       few = (omega arith, omega (arith, few, f.count, room_is));
       ends = noted ∙ ap (musts 0) front;
@@ -84,44 +61,32 @@ HasAhead-none h = record {
   whole = h.whole;
   within = omega (arith, h.within);
   before = omega arith;
-  each = λ k less. absurd (omega (arith, less));
-  given = refl;
   cut = refl;
   few = (omega arith, omega arith);
   ends = refl;
 }
 
 module _ {a : Ahead} {found : List Break} (h : HasAhead a found) where
-  held-many : length (given_in (drop a.next a.block) a.left) ≡ a.left
-  held-many = given-many (drop a.next a.block) a.left (omega (arith, h.within, h.whole.0, length-drop a.next a.block))
-
   pub found-many : length found ≡ a.left
-  found-many = sym (length-map found (moved a.base)) ∙ sym (ap length h.given) ∙ held-many
+  found-many =
+      sym (length-cut_on 0 0 found) ∙ sym (ap length h.cut)
+      ∙ length-take-le a.left (drop a.next a.segments) (omega (arith, h.within, h.whole.1, length-drop a.next a.segments))
 
-  -- one of them
-  module _ (k : ℕ) (below : k < a.left) where
-    abbrev one : RawBreak
-    one = get_or a.block (a.next + k) no_break
+  -- the segment that ends at the first of them at which a line must end
+  segment_at : (front : List Break) (last : Break) (rest : List Break) → found ≡ front ++ last ∷ rest → NoneMust front → (d : Segment)
+      → (from : ℕ) × (get_or a.segments (a.next + length front) d ≡ record { start = from; end = last.at; kind = last.kind; rule = last.rule })
+  segment_at front last rest all none d =
+      let below : length front < a.left = omega (arith, found-many, ap length all, length-append front (last ∷ rest)) in
+      let first = segment_first 0 front last rest d none in (
+        first.0,
+        sym (get_or-drop a.next a.segments (length front) d) ∙ sym (get_or-take a.left (drop a.next a.segments) (length front) d below)
+            ∙ ap (λ l. get_or l (length front) d) (h.cut ∙ ap (cut_on 0 0) all) ∙ first.1,
+      )
 
-    there : get_or (drop a.next a.block) k no_break ≡ get_or a.block (a.next + k) no_break
-    there = get_or-drop a.next a.block k no_break
-
-    pub is_break : IsBreak (get_or a.block (a.next + k) no_break)
-    is_break = subst IsBreak there (breaks-shown (drop a.next a.block) a.left h.each k below)
-
-    pub is_moved : shown (get_or a.block (a.next + k) no_break) ≡ moved a.base (get_or found k (shown no_break))
-    is_moved =
-        let front = take a.left (drop a.next a.block) in
-        let long : length front ≡ a.left = sym (length-map front shown) ∙ held-many in
-        ap shown (sym there ∙ sym (get_or-take a.left (drop a.next a.block) k no_break below))
-        ∙ sym (get_or-map shown front k no_break (shown no_break) (omega (arith, long, below)))
-        ∙ ap (λ l. get_or l k (shown no_break)) h.given
-        ∙ get_or-map (moved a.base) found k (shown no_break) (shown no_break) (omega (arith, found-many, below))
-
-    -- what it is as a break
-    module _ (b : Break) (is : (other : Break) → get_or a.block (a.next + k) no_break ≡ raw_of other → b ≡ other) where
-      pub one_moved : b ≡ moved a.base (get_or found k (shown no_break))
-      one_moved = shown_by (get_or a.block (a.next + k) no_break) b is_break is ∙ is_moved
+-- so many of them as come up to the first at which a line must end
+pub first-few : {a : Ahead} {found : List Break} {len count : ℕ} → HasAhead a found → EndsFirst found len count → (0 < count) × (count ≤ a.left)
+first-few h e =
+    (omega (arith, e.counted), omega (arith, e.counted, length-append e.front (e.last ∷ e.rest), ap length e.all, found-many h))
 
 -- the first place that is noted is that of the first break at which a line must end
 module _ {a : Ahead} {found : List Break} (h : HasAhead a found) (some : a.next_end < a.ends_count) where
@@ -138,33 +103,21 @@ module _ {a : Ahead} {found : List Break} (h : HasAhead a found) (some : a.next_
       let s = first-noted in
       omega (arith, s.place, found-many h, ap length s.all, length-append s.front (s.last ∷ s.rest))
 
-  -- the break that stands there
-  pub noted-break : IsBreak (get_or a.block (get_or a.ends a.next_end 0) no_break)
-  noted-break =
+  pub EndsFirst-noted : (len k : ℕ) (d : Segment) → k ≡ get_or a.ends a.next_end 0 → (get_or a.segments k d).end < len → EndsFirst found len (k + 1 - a.next)
+  EndsFirst-noted len k d there near =
       let s = first-noted in
-      subst (λ n. IsBreak (get_or a.block n no_break)) (sym s.place) (is_break h (length s.front) (omega (arith, s.place, noted-within)))
-
-  pub noted-at : (get_or a.block (get_or a.ends a.next_end 0) no_break).at ≡ a.base + first-noted.last.at
-  noted-at =
-      let s = first-noted in
-      ap (λ n. (get_or a.block n no_break).at) s.place
-      ∙ ap (λ b. b.at) (is_moved h (length s.front) (omega (arith, s.place, noted-within)))
-      ∙ ap (λ l. a.base + (get_or l (length s.front) (shown no_break)).at) s.all
-      ∙ ap (λ b. a.base + b.at) (get_or-append_seam s.front s.last s.rest (shown no_break))
-
-  pub EndsFirst-noted : (len : ℕ) → (get_or a.block (get_or a.ends a.next_end 0) no_break).at - a.base < len
-      → EndsFirst found len (get_or a.ends a.next_end 0 + 1 - a.next)
-  EndsFirst-noted len near =
-      let s = first-noted in
+      let place : k ≡ a.next + length s.front = there ∙ s.place in
+      let at : (get_or a.segments k d).end ≡ s.last.at =
+      ap (λ n. (get_or a.segments n d).end) place ∙ ap (λ x. x.end) (segment_at h s.front s.last s.rest s.all s.none d).1 in
       record {
         front = s.front;
         last = s.last;
         rest = s.rest;
         all = s.all;
-        counted = omega (arith, s.place);
+        counted = omega (arith, place);
         none = s.none;
         must = s.must;
-        near = omega (arith, near, noted-at);
+        near = omega (arith, near, at);
       }
 
 -- the first of them are taken
@@ -173,27 +126,8 @@ module _ {a : Ahead} (front : List Break) (last : Break) (rest : List Break) (h 
   many : length (front ++ last ∷ rest) ≡ count + length rest
   many = omega (arith, length-append front (last ∷ rest), counted)
 
-  pub few : count + length rest ≡ a.left
+  few : count + length rest ≡ a.left
   few = sym many ∙ found-many h
-
-  halves : given_in (drop a.next a.block) count ++ given_in (drop (a.next + count) a.block) (a.left - count) ≡ map (moved a.base) (front ++ last ∷ []) ++ map (moved a.base) rest
-  halves =
-      sym (given-split a.block a.next count a.left (omega (arith, few))) ∙ h.given
-      ∙ ap (map (moved a.base)) (sym (append_assoc front (last ∷ []) rest)) ∙ map-append (moved a.base) (front ++ last ∷ []) rest
-
-  front-many : length (given_in (drop a.next a.block) count) ≡ count
-  front-many = given-many (drop a.next a.block) count (omega (arith, few, h.within, h.whole.0, length-drop a.next a.block))
-
-  moved-many : length (map (moved a.base) (front ++ last ∷ [])) ≡ count
-  moved-many = length-map (front ++ last ∷ []) (moved a.base) ∙ length_push front last ∙ (omega (arith, counted))
-
-  pub front_is : given_in (drop a.next a.block) count ≡ map (moved a.base) (front ++ last ∷ [])
-  front_is =
-      sym (take_at (given_in (drop a.next a.block) count) (given_in (drop (a.next + count) a.block) (a.left - count)) count front-many)
-      ∙ ap (take count) halves ∙ take_at (map (moved a.base) (front ++ last ∷ [])) (map (moved a.base) rest) count moved-many
-
-  rest_is : given_in (drop (a.next + count) a.block) (a.left - count) ≡ map (moved a.base) rest
-  rest_is = append_cancel_left (map (moved a.base) (front ++ last ∷ [])) _ _ (ap (λ l. l ++ given_in (drop (a.next + count) a.block) (a.left - count)) (sym front_is) ∙ halves)
 
   -- the segments
   slice-parts : SameHalves (take count (drop a.next a.segments)) (take (a.left - count) (drop (a.next + count) a.segments))
@@ -219,15 +153,20 @@ module _ {a : Ahead} (front : List Break) (last : Break) (rest : List Break) (h 
       let some = ap length places-are in
       omega (arith, some, many, length-drop a.next_end noted)
 
-  abbrev pub taken : ℕ → Ahead
-  taken base = record a { next_end = a.next_end + 1; next = a.next + count; left = a.left - count; told = count; base = base }
+  abbrev pub taken : Ahead
+  taken = record a { next_end = a.next_end + 1; next = a.next + count; left = a.left - count; told = count }
 
-  pub TakesBy-counted : TakesBy a (taken (a.base + last.at)) (record { len = last.at; end = record { kind = last.kind; rule = last.rule } }) front last rest
-  TakesBy-counted =
+  pub TakesBy-counted : (d : Segment) → TakesBy a taken (record {
+    len = (get_or a.segments (a.next + count - 1) d).end;
+    end = record { kind = (get_or a.segments (a.next + count - 1) d).kind; rule = (get_or a.segments (a.next + count - 1) d).rule };
+  }) front last rest
+  TakesBy-counted d =
+      let place : a.next + length front ≡ a.next + count - 1 = omega (arith, counted) in
+      let is = ap (λ n. get_or a.segments n d) (sym place) ∙ (segment_at h front last rest refl none d).1 in
       let back : a.next + count - count ≡ a.next = omega arith in
       record {
-        len = refl;
-        end = refl;
+        len = ap (λ x. x.end) is;
+        end = ap (λ x. record { kind = x.kind; rule = x.rule }) is;
         some = omega (arith, counted);
         cut = ap (λ n. take count (drop n a.segments)) back ∙ slice-parts.front;
         behind = λ others is.
@@ -237,9 +176,6 @@ module _ {a : Ahead} (front : List Break) (last : Break) (rest : List Break) (h 
               whole = h.whole;
               within = omega (arith, few, h.within);
               before = omega arith;
-              each = shows-breaks (drop (a.next + count) a.block) (a.left - count)
-                  (each-behind a.block a.next count a.left (breaks-shown (drop a.next a.block) a.left h.each));
-              given = rest_is ∙ ap (map (moved a.base)) is ∙ map-moved a.base last.at others;
               cut = slice-parts.rest ∙ ap (cut_on last.at 0) is ∙ ap (λ n. cut_on n 0 (map (moved last.at) others)) origin
                   ∙ cut_on-moved last.at 0 0 others;
               few = (omega (arith, some-noted), h.few.1);
@@ -247,31 +183,6 @@ module _ {a : Ahead} (front : List Break) (last : Break) (rest : List Break) (h 
                   ∙ ap (λ n. musts n rest) behind ∙ ap (musts (a.next + count)) is ∙ musts-moved last.at (a.next + count) others;
             };
       }
-
-  pub last_below : length front < a.left
-  last_below = omega (arith, few, counted)
-
-  place : a.next + length front ≡ a.next + count - 1
-  place = omega (arith, counted)
-
-  pub last_break : IsBreak (get_or a.block (a.next + count - 1) no_break)
-  last_break = subst (λ n. IsBreak (get_or a.block n no_break)) place (is_break h (length front) last_below)
-
-  pub last_moved : shown (get_or a.block (a.next + count - 1) no_break) ≡ moved a.base last
-  last_moved =
-      ap (λ n. shown (get_or a.block n no_break)) (sym place) ∙ is_moved h (length front) last_below
-      ∙ ap (moved a.base) (get_or-append_seam front last rest (shown no_break))
-
-  pub TakesBy-shown : (b : Break) → b ≡ moved a.base last
-      → TakesBy a (taken b.at) (record { len = b.at - a.base; end = record { kind = b.kind; rule = b.rule } }) front last rest
-  TakesBy-shown b is =
-      let len : a.base + last.at - a.base ≡ last.at = omega arith in
-      subst
-      (λ b. TakesBy a (taken b.at) (record { len = b.at - a.base; end = record { kind = b.kind; rule = b.rule } }) front last rest)
-      (sym is)
-      (subst
-      (λ n. TakesBy a (taken (a.base + last.at)) (record { len = n; end = record { kind = last.kind; rule = last.rule } }) front last rest)
-      (sym len) TakesBy-counted)
 
 -- a passage was taken by breaks, or none was
 module _ (profile : Profile) (cell : ℕ → Cell) (p : Paragraph) (a new : Ahead) (count : ℕ) (utf8 : IsUtf8 p.feed.ready) (fresh : (p.is_held || p.is_spent) ≡ false)
@@ -377,13 +288,11 @@ ahead-kept profile cell p q old a (Some told) tells gives same was found = (
 
 -- nothing was found yet
 pub HasAhead-nothing : (block : List RawBreak) (segments : List Segment) (ends : List ℕ) → length block ≡ 256 → length segments ≡ 256 → length ends ≡ 256
-    → HasAhead (record { block = block; segments = segments; ends = ends; ends_count = 0; next_end = 0; next = 0; left = 0; told = 0; base = 0 }) []
+    → HasAhead (record { block = block; segments = segments; ends = ends; ends_count = 0; next_end = 0; next = 0; left = 0; told = 0 }) []
 HasAhead-nothing block segments ends blocks cuts places = record {
   whole = (blocks, cuts, places);
   within = omega arith;
   before = omega arith;
-  each = λ k less. absurd (omega (arith, less));
-  given = refl;
   cut = refl;
   few = (omega arith, omega arith);
   ends = refl;

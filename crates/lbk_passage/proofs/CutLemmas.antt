@@ -86,7 +86,29 @@ pub musts-moved : (bytes k : ℕ) (bs : List Break) → musts k (map (moved byte
 musts-moved bytes k [] = refl
 musts-moved bytes k (b ∷ bs) = ap (λ l. cond (is_must b.kind) (k ∷ l) l) (musts-moved bytes (k + 1) bs)
 
+-- They are as many as the breaks
+
+pub length-cut_on : (base start : ℕ) (bs : List Break) → length (cut_on base start bs) ≡ length bs
+length-cut_on base start [] = refl
+length-cut_on base start (b ∷ bs) =
+    let rest = length-cut_on (cond (is_must b.kind) b.at base) (cond (is_must b.kind) 0 (b.at - base)) bs in omega (arith, rest)
+
 -- Up to the first break at which a line must end
+
+-- the segment that ends there
+pub segment_first : (start : ℕ) (front : List Break) (last : Break) (rest : List Break) (d : Segment) → NoneMust front
+    → (from : ℕ) × (get_or (cut_on 0 start (front ++ last ∷ rest)) (length front) d
+    ≡ record { start = from; end = last.at; kind = last.kind; rule = last.rule })
+segment_first start [] last rest d none =
+    let piece : ℕ → Segment = λ end. record { start = start; end = end; kind = last.kind; rule = last.rule } in
+    let whole : last.at - 0 ≡ last.at = omega arith in
+    (start, ap piece whole)
+segment_first start (f ∷ fs) last rest d none =
+    subst
+    (λ k. (from : ℕ) × (get_or (cut_on (cond k f.at 0) (cond k 0 (f.at - 0)) (fs ++ last ∷ rest)) (length fs) d
+    ≡ record { start = from; end = last.at; kind = last.kind; rule = last.rule }))
+    (sym (All-head (λ x. is_must x.kind ≡ false) f fs none))
+    (segment_first (f.at - 0) fs last rest d (All-tail (λ x. is_must x.kind ≡ false) f fs none))
 
 pub cut_on-first : (start : ℕ) (front : List Break) (last : Break) (rest : List Break) → NoneMust front → is_must last.kind ≡ true
     → cut_on 0 start (front ++ last ∷ rest) ≡ cut_at start (front ++ last ∷ []) ++ cut_on last.at 0 rest

@@ -43,7 +43,7 @@ one-given block next within =
     ∙ ap (λ r. shown r ∷ []) (first-behind block next)
 
 -- behind some of them there are breaks, too
-pub each-behind : (block : List RawBreak) (next some left : ℕ) → AreBreaks (drop next block) left → AreBreaks (drop (next + some) block) (left - some)
+each-behind : (block : List RawBreak) (next some left : ℕ) → AreBreaks (drop next block) left → AreBreaks (drop (next + some) block) (left - some)
 each-behind block next some left each k below =
     let same : get_or (drop next block) (some + k) no_break ≡ get_or (drop (next + some) block) k no_break =
     get_or-drop next block (some + k) no_break

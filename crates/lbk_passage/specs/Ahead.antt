@@ -1,16 +1,13 @@
 -- Breaks of the bytes that are ready, found ahead of the passages that they end.
-use Rattle.std.specs.Prelude.{◌≡◌, ◌⊎◌, ℕ, suc, zero, ◌+◌, ◌-◌, ◌<◌, ◌≤◌, ◌||◌, false, true, Some, None, Option, IsCharBoundary, All, List, [], ◌∷◌, ◌++◌, length, map, drop, take, slice_index_or}
+use Rattle.std.specs.Prelude.{◌≡◌, ◌⊎◌, ℕ, suc, zero, ◌+◌, ◌-◌, ◌<◌, ◌≤◌, ◌||◌, false, true, Some, None, Option, IsCharBoundary, All, List, [], ◌∷◌, ◌++◌, length, map, drop, take}
 use Rattle.std.specs.Str.{chars}
 use Rattle.lbk_rules.specs.declared.Break.{Break}
 use Rattle.lbk_rules.specs.declared.Cell.{Cell}
 use Rattle.lbk_rules.specs.declared.Verdict.{Verdict}
 use Rattle.lbk_values.specs.declared.profile.Profile.{Profile}
-use Rattle.lbk_rules.specs.Breaks.{breaks, is_no}
+use Rattle.lbk_rules.specs.Breaks.{breaks}
 use Rattle.lbk_rules.specs.Joins.{moved}
 use Rattle.lbk_rules.specs.Marks.{marks, ended}
-use Rattle.lbk_bytes.specs.Order.{no_break}
-use Rattle.lbk_bytes.specs.Shown.{given_in, raw_of, shown}
-use Rattle.lbk_bytes.specs.declared.raw_break.RawBreak.{RawBreak}
 use Rattle.lbk_passage.specs.Cuts.{cut_at, cut_on, musts}
 use Rattle.lbk_passage.specs.Front.{items_of}
 use Rattle.lbk_passage.specs.Gathering.{Reaches}
@@ -26,11 +23,6 @@ use Rattle.lbk_passage.specs.declared.passage.Segment.{Segment}
 use Rattle.lbk_passage.specs.declared.reach.Reach.{Reach}
 use Rattle.lbk_passage.specs.declared.reach.ReachEnd.TheVariants.{LineEnds}
 
--- what stands in the front of a block are breaks, as `AreBreaks` says, told by what the numbers show
-abbrev pub ShowBreaks : List RawBreak → ℕ → Type 0
-ShowBreaks block count = (k : ℕ) → k < count → (slice_index_or block k no_break ≡ raw_of (shown (slice_index_or block k no_break)))
-    × (is_no (shown (slice_index_or block k no_break)).kind ≡ false)
-
 -- there are places for 256 breaks, and as many for the segments that end at them and for the places of some
 abbrev pub AreWhole : Ahead → Type 0
 AreWhole a = (length a.block ≡ 256) × (length a.segments ≡ 256) × (length a.ends ≡ 256)
@@ -39,14 +31,12 @@ AreWhole a = (length a.block ≡ 256) × (length a.segments ≡ 256) × (length 
 abbrev pub HasSizes : Ahead → Type 0
 HasSizes a = (a.told ≤ a.next) × (a.next ≤ 256) × (length a.segments ≡ 256)
 
--- a block has these breaks of the bytes that are ready, each `base` bytes further on. The segments that end at them stand
--- at the same places, and the places of those at which a line must end are the next ones that were noted
+-- the segments that end at these breaks of the bytes that are ready stand from `next` on, and the places of those at which
+-- a line must end are the next ones that were noted
 pub record HasAhead (a : Ahead) (found : List Break) : Type 0 where
   pub whole : AreWhole a
   pub within : a.next + a.left ≤ 256
   pub before : a.told ≤ a.next
-  pub each : ShowBreaks (drop a.next a.block) a.left
-  pub given : given_in (drop a.next a.block) a.left ≡ map (moved a.base) found
   pub cut : take a.left (drop a.next a.segments) ≡ cut_on 0 0 found
   pub few : (a.next_end ≤ a.ends_count) × (a.ends_count ≤ 256)
   pub ends : drop a.next_end (take a.ends_count a.ends) ≡ musts a.next found

@@ -4,7 +4,7 @@ ghost use Rattle.std.specs.Prelude.{◌≡◌, ◌<◌, ◌^◌, ◌↔◌, fals
 ghost use Rattle.lbk_passage.specs.Ahead.{AreWhole, EndsFirst, HasAhead, HasSizes, IsAhead, TakesTold, Tells};
 ghost use Rattle.lbk_passage.specs.Ahead.{segments_told};
 
-use crate::found::{NO_BREAK, START, break_of, find};
+use crate::found::{NO_BREAK, START, find};
 use crate::known::KnownCells;
 use crate::paragraph::{Paragraph, Told};
 use crate::passage::Segment;
@@ -43,8 +43,6 @@ pub(crate) struct Ahead {
     left: usize,
     /// How many there are before it that are of the passage taken last.
     told: usize,
-    /// The first byte that is ready, as these breaks count.
-    base: usize,
 }
 
 /// No break was found.
@@ -57,7 +55,6 @@ pub(crate) const NOTHING: Ahead = Ahead {
     next: 0,
     left: 0,
     told: 0,
-    base: 0,
 };
 
 impl Ahead {
@@ -124,7 +121,6 @@ impl Ahead {
         self.next = 0;
         self.left = count;
         self.told = 0;
-        self.base = 0;
     }
 
     /// How many breaks there are up to the first at which a line must end, or 0 where none of them is such, or it does
@@ -138,7 +134,7 @@ impl Ahead {
             return 0;
         }
         let k = usize::from(self.ends[self.next_end]);
-        if self.block[k].at - self.base < len {
+        if (self.segments[k].end as usize) < len {
             return k + 1 - self.next;
         }
         0
@@ -150,8 +146,8 @@ impl Ahead {
         requires { (found : List Break) × (len : ℕ) × HasAhead self.old found × EndsFirst found len count }
         ensures { TakesTold self.old self.new count limit result }
     {
-        let last = break_of(self.block[self.next + count - 1]);
-        let len = last.at - self.base;
+        let last = self.segments[self.next + count - 1];
+        let len = last.end as usize;
         if limit < len {
             self.forget();
             return None;
@@ -160,7 +156,6 @@ impl Ahead {
         self.left -= count;
         self.told = count;
         self.next_end += 1;
-        self.base = last.at;
         Some(Told {
             len,
             end: Verdict {
