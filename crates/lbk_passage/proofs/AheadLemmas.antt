@@ -37,7 +37,7 @@ first-given {profile} {cell} {text} {to} {room} {block} f =
 
 -- the first breaks of a text were found into a block, and cut
 pub IsAhead-found : {profile : Profile} {cell : ℕ → Cell} {text : List ℕ} {to : Progress} {room : ℕ} {block : List RawBreak}
-    → FindsNext profile cell text (record { state = record { count = 0; row = 0; at = 0 }; ended = false }) to room block → room ≡ 256
+    → FindsNext profile cell text (record { state = record { count = 0; row = 0; at = 0 }; ended = false }) to room block → room ≡ 1024
     → (segments : List Segment) (ends : List ℕ) (count : ℕ)
     → AreWhole (record { block = block; segments = segments; ends = ends; ends_count = count; next_end = 0; next = 0; left = to.state.count; told = 0 })
     → take to.state.count segments ≡ cut_on 0 0 (given_in block to.state.count)
@@ -287,7 +287,7 @@ ahead-kept profile cell p q old a (Some told) tells gives same was found = (
 )
 
 -- nothing was found yet
-pub HasAhead-nothing : (block : List RawBreak) (segments : List Segment) (ends : List ℕ) → length block ≡ 256 → length segments ≡ 256 → length ends ≡ 256
+pub HasAhead-nothing : (block : List RawBreak) (segments : List Segment) (ends : List ℕ) → length block ≡ 1024 → length segments ≡ 1024 → length ends ≡ 1024
     → HasAhead (record { block = block; segments = segments; ends = ends; ends_count = 0; next_end = 0; next = 0; left = 0; told = 0 }) []
 HasAhead-nothing block segments ends blocks cuts places = record {
   whole = (blocks, cuts, places);

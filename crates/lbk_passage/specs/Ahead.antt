@@ -23,22 +23,22 @@ use Rattle.lbk_passage.specs.declared.passage.Segment.{Segment}
 use Rattle.lbk_passage.specs.declared.reach.Reach.{Reach}
 use Rattle.lbk_passage.specs.declared.reach.ReachEnd.TheVariants.{LineEnds}
 
--- there are places for 256 breaks, and as many for the segments that end at them and for the places of some
+-- there are places for 1,024 breaks, and as many for the segments that end at them and for the places of some
 abbrev pub AreWhole : Ahead → Type 0
-AreWhole a = (length a.block ≡ 256) × (length a.segments ≡ 256) × (length a.ends ≡ 256)
+AreWhole a = (length a.block ≡ 1024) × (length a.segments ≡ 1024) × (length a.ends ≡ 1024)
 
 -- the segments of the passage taken last stand before those of the bytes that are ready
 abbrev pub HasSizes : Ahead → Type 0
-HasSizes a = (a.told ≤ a.next) × (a.next ≤ 256) × (length a.segments ≡ 256)
+HasSizes a = (a.told ≤ a.next) × (a.next ≤ 1024) × (length a.segments ≡ 1024)
 
 -- the segments that end at these breaks of the bytes that are ready stand from `next` on, and the places of those at which
 -- a line must end are the next ones that were noted
 pub record HasAhead (a : Ahead) (found : List Break) : Type 0 where
   pub whole : AreWhole a
-  pub within : a.next + a.left ≤ 256
+  pub within : a.next + a.left ≤ 1024
   pub before : a.told ≤ a.next
   pub cut : take a.left (drop a.next a.segments) ≡ cut_on 0 0 found
-  pub few : (a.next_end ≤ a.ends_count) × (a.ends_count ≤ 256)
+  pub few : (a.next_end ≤ a.ends_count) × (a.ends_count ≤ 1024)
   pub ends : drop a.next_end (take a.ends_count a.ends) ≡ musts a.next found
 
 -- they are the first breaks of these bytes

@@ -13,7 +13,7 @@ use lbk_bytes::RawBreak;
 use lbk_rules::{CellSource, Profile, Verdict};
 
 /// How many breaks are found at a time.
-pub(crate) const AHEAD: usize = 256;
+pub(crate) const AHEAD: usize = 1024;
 
 /// Where fewer bytes are ready, most belong to a passage that does not end among them.
 const FEW: usize = 64;
@@ -21,7 +21,7 @@ const FEW: usize = 64;
 /// Where more bytes are ready, nothing is found ahead: a segment's offsets have 32 bits.
 const MOST: usize = 1 << 24;
 
-/// After a passage of so many segments the next one is likely to have more than the block.
+/// After a passage of more segments nothing is found ahead: the next one could have more than the block.
 const MANY: usize = 96;
 
 /// Breaks of the bytes that are ready, as many as were found, and the segments that end at them.

@@ -168,12 +168,12 @@ pub(crate) fn cut_passages(
     ends: &mut [u16; AHEAD],
 ) -> usize
     requires breaks { AreBreaks block.now count }
-    requires room { count ≤ 256 }
+    requires room { count ≤ 1024 }
     requires rising { AreRising 0 (2 ^ 32) (given_in block.now count) }
     ensures cut { take count segments.new ≡ cut_on 0 0 (given_in block.now count) }
     ensures ends { take result ends.new ≡ musts 0 (given_in block.now count) }
     ensures few { result ≤ count }
-    ensures long { (length segments.new ≡ 256) × (length ends.new ≡ 256) }
+    ensures long { (length segments.new ≡ 1024) × (length ends.new ≡ 1024) }
 {
     let mut ends_count = 0;
     let mut start = 0;

@@ -11,5 +11,5 @@ invariant-loop-k l =
       cut : take l.k l.segments ++ cut_on l.base l.start (drop l.k found) ≡ cut_on 0 0 found;
       ends : take l.ends_count l.ends ++ musts l.k (drop l.k found) ≡ musts 0 found;
       few : l.ends_count ≤ l.k;
-      long : (length l.segments ≡ 256) × (length l.ends ≡ 256);
+      long : (length l.segments ≡ 1024) × (length l.ends ≡ 1024);
     }
