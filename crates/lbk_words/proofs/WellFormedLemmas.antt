@@ -1,15 +1,15 @@
 -- Well-formed text.
-use Rattle.std.proofs.Common.{◌≡◌, ℕ, ◌+◌, ◌-◌, ◌<◌, ◌≤◌, Bool, true, false, cond, ◌&&◌, append_assoc, List, [], ◌∷◌, ◌++◌, drop, get_or, length, map, take, refl, sym, ap, ap₂, subst, ◌∙◌, arith}
+use Rattle.std.proofs.Common.{◌≡◌, ℕ, ◌+◌, ◌-◌, ◌<◌, Bool, true, false, cond, ◌&&◌, append_assoc, List, [], ◌∷◌, ◌++◌, drop, length, map, take, refl, sym, ap, ap₂, subst, ◌∙◌, arith}
 use Rattle.std.specs.Char.{encode_utf8}
 use Rattle.std.specs.List.{concat}
 use Rattle.std.specs.Str.{IsUtf8, chars, encode_utf8_all}
 use Rattle.std.proofs.lemmas.Bool.{and_parts}
 use Rattle.std.proofs.lemmas.Bool.Decides.{nat_tests}
-use Rattle.std.proofs.lemmas.List.{length-append, length-drop, length-map, map-append, take_at}
-use Rattle.std.proofs.lemmas.Str.{IsUtf8-drop, chars-encodes, encodes-append}
+use Rattle.std.proofs.lemmas.List.{length-append, length-map, map-append, take_at}
+use Rattle.std.proofs.lemmas.Str.{chars-encodes, encodes-append}
 use Rattle.std.proofs.Math.Seq.{drop-append_seam, drop-drop}
 use lib.Utf8.{scalar, scalars}
-use Rattle.bstr.specs.Utf8.{Decoded, decoded, good, or_replacement, pieces}
+use Rattle.bstr.specs.Utf8.{Decoded, good, or_replacement, pieces}
 use Rattle.bstr.proofs.lemmas.EncodeLemmas.{decoded-encode}
 use Rattle.bstr.proofs.lemmas.PieceLemmas.{pieces-nil, pieces-step}
 use Rattle.unicode_segmentation.specs.Segments.{cut, prepend, segments}
@@ -38,18 +38,6 @@ pieces-encode (c ∷ cs) all =
     ∙ ap (λ (p : Decoded). p ∷ pieces (drop p.size (first ++ rest))) read
     ∙ ap (λ l. good c (length first) ∷ pieces l) (drop-append_seam first rest)
     ∙ ap (λ l. good c (length first) ∷ l) (pieces-encode cs both.1)
-
--- a scalar stands wherever a byte of a text may begin one
-pub stands-at : (text : List ℕ) (at : ℕ) → IsUtf8 text → at < length text → 192 ≤ get_or text at 0
-    → (c size : ℕ) × (decoded (drop at text) ≡ good c size)
-stands-at text at utf8 inside begins =
-    let rest = IsUtf8-drop text at utf8 (omega (arith, inside), λ _ _. begins) in
-    by rest.0 rest.1.0 rest.1.1
-  where
-    by : (cs : List ℕ) → scalars cs ≡ true → encode_utf8_all cs ≡ drop at text → (c size : ℕ) × (decoded (drop at text) ≡ good c size)
-    by [] all is = absurd (omega (arith, inside, ap length is, length-drop at text))
-    by (c ∷ cs) all is =
-        (c, length (encode_utf8 c), ap decoded (sym is) ∙ decoded-encode c (encode_utf8_all cs) (and_parts _ _ all).0)
 
 pub scalars-good : (cs : List ℕ) → scalars_of (map good_of cs) ≡ cs
 scalars-good [] = refl

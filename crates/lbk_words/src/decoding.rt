@@ -1,8 +1,10 @@
 //! The scalars of two to four bytes, read without a call.
 
-ghost use Rattle.std.specs.Prelude.{◌≡◌, ℕ, ◌+◌, ◌*◌, ◌<◌, ◌≤◌, ◌⊎◌, true, get_or, length, IfSome};
+ghost use Rattle.std.specs.Prelude.{◌≡◌, ℕ, ◌<◌, ◌≤◌, true, get_or, length, IfSome};
 ghost use Rattle.bstr.specs.Utf8.{code_of_2, continues, decoded, good};
 ghost use Rattle.lbk_words.specs.Widths.{IsWidth};
+
+use lbk_scalars::{MARKS_OF_THREE, is_continuation, joined, takes_three};
 
 /// A scalar value and how many bytes it takes.
 #[derive(Clone, Copy)]
@@ -53,7 +55,7 @@ pub(crate) fn scalar_of_three(bytes: &[u8]) -> Option<Coded>
     })
 }
 
-/// The same of bytes that begin with a scalar, if their first one begins one of three bytes: so no other is looked at.
+/// The same of bytes that begin with a scalar, if their first one begins one of three bytes.
 #[inline(always)]
 pub(crate) fn scalar_of_led_three(bytes: &[u8]) -> Option<Coded>
     requires enough { 3 ≤ length bytes.now }
@@ -61,15 +63,11 @@ pub(crate) fn scalar_of_led_three(bytes: &[u8]) -> Option<Coded>
     ensures reads { IfSome result (λ scalar. decoded bytes.now ≡ good scalar.code scalar.size) }
     ensures size { IfSome result (λ scalar. scalar.size ≡ 3) }
 {
-    let first = bytes[0];
-    if !begins_three(first) {
-        return None;
+    if let Some(code) = lbk_scalars::scalar_of_led_three(bytes) {
+        Some(Coded { code, size: 3 })
+    } else {
+        None
     }
-    let spelled = joined(joined(u32::from(first), bytes[1]), bytes[2]);
-    Some(Coded {
-        code: spelled - MARKS_OF_THREE,
-        size: 3,
-    })
 }
 
 /// How the bytes of a scalar count in its code, by how many they are.
@@ -130,44 +128,6 @@ fn width_of(first: u8) -> &'static Width
     ensures { 0xE0 ≤ first → IsWidth first result.now }
 {
     &WIDTHS[usize::from(first / 16 % 2)]
-}
-
-/// Whether a scalar of three bytes may begin with a byte.
-#[inline(always)]
-fn begins_three(byte: u8) -> bool
-    ensures { result ≡ true → (0xE0 ≤ byte) × (byte < 0xF0) }
-{
-    0xE0 <= byte && byte < 0xF0
-}
-
-/// Whether a byte may follow the first byte of a scalar.
-#[inline(always)]
-fn is_continuation(byte: u8) -> bool
-    ensures { result ≡ continues byte }
-{
-    0x7F < byte && byte < 0xC0
-}
-
-/// What three joined bytes that spell a scalar are more than its code: the joined E0 80 80.
-const MARKS_OF_THREE: u32 = 0xE_2080;
-
-/// A number with the bits of one byte more of a scalar behind it.
-#[inline(always)]
-fn joined(before: u32, byte: u8) -> u32
-    requires { before < 0x100_0000 }
-    ensures { result ≡ before * 64 + byte }
-{
-    before * 64 + u32::from(byte)
-}
-
-/// Whether three joined bytes spell a scalar that takes three: it is of no fewer and no more, and no surrogate. So the
-/// first byte need not be looked at.
-#[inline(always)]
-fn takes_three(spelled: u32) -> bool
-    ensures { result ≡ true → (0xE_2880 ≤ spelled) × (spelled < 0xF_2080)
-        × (spelled < 0xE_F880 ⊎ 0xF_0080 ≤ spelled) }
-{
-    0xE_287F < spelled && spelled < 0xF_2080 && (spelled < 0xE_F880 || 0xF_007F < spelled)
 }
 
 #[inline(always)]

@@ -1,0 +1,59 @@
+//! The bytes that scalars of three are made of, read without a call.
+#![tactic(auto)]
+
+ghost use Rattle.std.specs.Prelude.{◌≡◌, ℕ, ◌+◌, ◌*◌, ◌<◌, ◌≤◌, ◌⊎◌, true, get_or, length, IfSome};
+ghost use Rattle.bstr.specs.Utf8.{continues, decoded, good};
+
+/// The code of the scalar at the front of some bytes, which begin with one, if it has three: their first byte tells it.
+#[inline(always)]
+pub fn scalar_of_led_three(bytes: &[u8]) -> Option<u32>
+    requires enough { 3 ≤ length bytes.now }
+    requires stands { 0xE0 ≤ get_or bytes.now 0 0 → (code size : ℕ) × (decoded bytes.now ≡ good code size) }
+    ensures reads { IfSome result (λ code. decoded bytes.now ≡ good code 3) }
+    ensures few { IfSome result (λ code. code < 0x1_0000) }
+{
+    let first = bytes[0];
+    if !begins_three(first) {
+        return None;
+    }
+    let spelled = joined(joined(u32::from(first), bytes[1]), bytes[2]);
+    Some(spelled - MARKS_OF_THREE)
+}
+
+/// Whether a byte may follow the first byte of a scalar.
+#[inline(always)]
+pub fn is_continuation(byte: u8) -> bool
+    ensures { result ≡ continues byte }
+{
+    0x7F < byte && byte < 0xC0
+}
+
+/// A number with the bits of one byte more of a scalar behind it.
+#[inline(always)]
+pub fn joined(before: u32, byte: u8) -> u32
+    requires { before < 0x100_0000 }
+    ensures { result ≡ before * 64 + byte }
+{
+    before * 64 + u32::from(byte)
+}
+
+/// What three joined bytes that spell a scalar are more than its code: the joined E0 80 80.
+pub const MARKS_OF_THREE: u32 = 0xE_2080;
+
+/// Whether three joined bytes spell a scalar that takes three: it is of no fewer and no more, and no surrogate. The
+/// bounds are those of its code, and `MARKS_OF_THREE` more. So the first byte need not be looked at.
+#[inline(always)]
+pub fn takes_three(spelled: u32) -> bool
+    ensures { result ≡ true → (0xE_2880 ≤ spelled) × (spelled < 0xF_2080)
+        × (spelled < 0xE_F880 ⊎ 0xF_0080 ≤ spelled) }
+{
+    0xE_287F < spelled && spelled < 0xF_2080 && (spelled < 0xE_F880 || 0xF_007F < spelled)
+}
+
+/// Whether a scalar of three bytes may begin with a byte.
+#[inline(always)]
+fn begins_three(byte: u8) -> bool
+    ensures { result ≡ true → (0xE0 ≤ byte) × (byte < 0xF0) }
+{
+    0xE0 <= byte && byte < 0xF0
+}
