@@ -1,9 +1,10 @@
 -- What the loops promise that go over a text by steps and blocks: each set of clauses once.
-use Rattle.std.specs.Prelude.{◌≡◌, ℕ, ◌+◌, ◌<◌, ◌≤◌, ◌++◌, List, MatchOption, Option, length}
+use Rattle.std.specs.Prelude.{◌≡◌, ℕ, ◌+◌, ◌<◌, ◌≤◌, ◌++◌, Bool, true, IsUtf8, List, MatchOption, Option, length}
 use Rattle.lbk_rules.specs.declared.Cell.{Cell}
 use Rattle.lbk_rules.specs.declared.neighbours.Neighbours.{Neighbours}
 use Rattle.lbk_rules.specs.declared.steps.Step.{Step}
 use Rattle.lbk_values.specs.declared.profile.Profile.{Profile}
+use Rattle.lbk_values.specs.declared.profile.Profile.TheVariants.{First}
 use Rattle.lbk_rules.specs.FlatTable.{AreFlatKinds, IsFlatBy}
 use Rattle.lbk_rules.specs.Neighbours.{AreTold}
 use Rattle.lbk_rules.specs.Rows.{AreSteps, IsPlace, steps_in}
@@ -18,6 +19,10 @@ abbrev pub MayStep : {A : Type 0} → (List A → ℕ → ℕ → ℕ → Type 0
 MayStep Fits steps text stop out here =
     Fits out here.count here.at stop × IsPlace here.row × (here.at ≤ length text) × (stop ≤ length text)
     × AreSteps steps
+
+-- where it is sure, a text is well-formed, and steps are those of the first profile
+abbrev pub IsSure : Bool → List (List Step) → List ℕ → Type 0
+IsSure sure steps text = sure ≡ true → (steps ≡ steps_in First) × IsUtf8 text
 
 -- Scalars of a text that begin before byte `stop` are taken one after another, whatever follows the text. A target says
 -- of its entries by `Fits` which have a place, by `InOrder` how they stand, and by `Gets` that they are those of what

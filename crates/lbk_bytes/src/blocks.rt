@@ -48,7 +48,7 @@ pub(crate) fn blocks<const MASKS: bool, K: KindSource>(
     let mut here = start;
     // No byte stands before the first scalar of a text.
     if start.at == 0 && !text.is_empty() {
-        here = runs(Breaks, kinds, steps, start, 1, text, out);
+        here = runs::<false, Breaks, K>(Breaks, kinds, steps, start, 1, text, out);
     }
     loop {
         let from = here.at;
@@ -81,7 +81,7 @@ fn block<K: KindSource>(
         if end <= there.at {
             return there;
         }
-        here = runs(Breaks, kinds, steps, there, there.at + 1, text, out);
+        here = runs::<false, Breaks, K>(Breaks, kinds, steps, there, there.at + 1, text, out);
         if here.at == there.at {
             return here;
         }

@@ -1,10 +1,10 @@
 //! Scalars and ill-formed bytes, read without a call.
 
-ghost use Rattle.std.specs.Prelude.{◌≡◌, ◌+◌, ◌*◌, ◌<◌, ◌≤◌, ◌⊎◌, true, length, IfSome};
+ghost use Rattle.std.specs.Prelude.{◌≡◌, ℕ, ◌<◌, ◌≤◌, true, get_or, length, IfSome};
 ghost use Rattle.bstr.specs.Utf8.{code_of_2, code_of_3, code_of_4, continues, decoded, good, or_replacement, second};
-ghost use Rattle.lbk_bytes.specs.Widths.{longer_by, more_of};
+ghost use Rattle.lbk_bytes.specs.Widths.{longer_by};
 
-use crate::leads::scalar_by_lead;
+use lbk_scalars::{MARKS_OF_THREE, is_continuation, joined, scalar_of_led_three, takes_three};
 
 /// A scalar value and how many bytes it takes.
 #[derive(Clone, Copy)]
@@ -13,71 +13,47 @@ pub(crate) struct Scalar {
     pub(crate) size: usize,
 }
 
-/// How many bytes a scalar takes.
-#[derive(Clone, Copy)]
-pub(crate) enum Width {
-    One,
-    Two,
-    Three,
-    Four,
-    /// Three or four, whichever its first byte says, with no jump on it.
-    ThreeOrFour,
-}
-
-impl Width {
-    /// How many bytes at most a scalar of this width has after its first.
-    #[inline(always)]
-    pub(crate) fn more(self) -> usize
-        ensures { result ≡ more_of self }
-    {
-        match self {
-            Width::One => 0,
-            Width::Two => 1,
-            Width::Three => 2,
-            Width::Four | Width::ThreeOrFour => 3,
-        }
-    }
-}
-
-/// The scalar of this width at the front of some bytes (Unicode Standard, table 3-7). None comes where none stands
-/// there.
+/// The scalar of one byte at the front of some (Unicode Standard, table 3-7). None comes where none stands there.
 #[inline(always)]
-pub(crate) fn scalar_of(width: Width, bytes: &[u8]) -> Option<Scalar>
-    requires { more_of width < length bytes.now }
-    ensures { IfSome result (λ scalar. decoded bytes.now ≡ good scalar.code scalar.size) }
+pub(crate) fn scalar_of_one(bytes: &[u8]) -> Option<Scalar>
+    requires { 0 < length bytes.now }
+    ensures reads { IfSome result (λ scalar. decoded bytes.now ≡ good scalar.code scalar.size) }
+    ensures size { IfSome result (λ scalar. scalar.size ≡ 1) }
 {
     let first = bytes[0];
-    match width {
-        Width::One => {
-            if 0x7F < first {
-                return None;
-            }
-            Some(Scalar {
-                code: u32::from(first),
-                size: 1,
-            })
-        }
-        Width::Two => {
-            if first < 0xC2 || 0xDF < first || !is_continuation(bytes[1]) {
-                return None;
-            }
-            Some(Scalar {
-                code: code_of_two(first, bytes[1]),
-                size: 2,
-            })
-        }
-        Width::Three => scalar_of_three(bytes),
-        Width::Four => scalar_of_four(bytes),
-        Width::ThreeOrFour => scalar_by_lead(bytes),
+    if 0x7F < first {
+        return None;
     }
+    Some(Scalar {
+        code: u32::from(first),
+        size: 1,
+    })
 }
 
-/// The scalar of three bytes at the front of some. The bytes are joined before they are looked at, since then the
-/// compiler widens each as it is read.
+/// The same of two bytes.
 #[inline(always)]
-fn scalar_of_three(bytes: &[u8]) -> Option<Scalar>
+pub(crate) fn scalar_of_two(bytes: &[u8]) -> Option<Scalar>
+    requires { 1 < length bytes.now }
+    ensures reads { IfSome result (λ scalar. decoded bytes.now ≡ good scalar.code scalar.size) }
+    ensures size { IfSome result (λ scalar. scalar.size ≡ 2) }
+{
+    let first = bytes[0];
+    if first < 0xC2 || 0xDF < first || !is_continuation(bytes[1]) {
+        return None;
+    }
+    Some(Scalar {
+        code: code_of_two(first, bytes[1]),
+        size: 2,
+    })
+}
+
+/// The same of three bytes. They are joined before they are looked at, since then the compiler widens each as it is
+/// read.
+#[inline(always)]
+pub(crate) fn scalar_of_three(bytes: &[u8]) -> Option<Scalar>
     requires { 2 < length bytes.now }
-    ensures { IfSome result (λ scalar. decoded bytes.now ≡ good scalar.code scalar.size) }
+    ensures reads { IfSome result (λ scalar. decoded bytes.now ≡ good scalar.code scalar.size) }
+    ensures size { IfSome result (λ scalar. scalar.size ≡ 3) }
 {
     let (first, next, last) = (bytes[0], bytes[1], bytes[2]);
     let spelled = joined(joined(u32::from(first), next), last);
@@ -90,11 +66,31 @@ fn scalar_of_three(bytes: &[u8]) -> Option<Scalar>
     })
 }
 
-/// The same of four bytes.
+/// The same of three bytes of well-formed text. The compiler knows the code to be one of the first plane by its 16 bits, so it leaves
+/// out what is done for others.
 #[inline(always)]
-fn scalar_of_four(bytes: &[u8]) -> Option<Scalar>
+pub(crate) fn scalar_led(bytes: &[u8]) -> Option<Scalar>
+    requires enough { 2 < length bytes.now }
+    requires stands { 0xE0 ≤ get_or bytes.now 0 0 → (code size : ℕ) × (decoded bytes.now ≡ good code size) }
+    ensures reads { IfSome result (λ scalar. decoded bytes.now ≡ good scalar.code scalar.size) }
+    ensures size { IfSome result (λ scalar. scalar.size ≡ 3) }
+{
+    if let Some(code) = scalar_of_led_three(bytes) {
+        Some(Scalar {
+            code: u32::from(code as u16),
+            size: 3,
+        })
+    } else {
+        None
+    }
+}
+
+/// The same of four bytes, which are joined before they are looked at, as three are.
+#[inline(always)]
+pub(crate) fn scalar_of_four(bytes: &[u8]) -> Option<Scalar>
     requires { 3 < length bytes.now }
-    ensures { IfSome result (λ scalar. decoded bytes.now ≡ good scalar.code scalar.size) }
+    ensures reads { IfSome result (λ scalar. decoded bytes.now ≡ good scalar.code scalar.size) }
+    ensures size { IfSome result (λ scalar. scalar.size ≡ 4) }
 {
     let (first, next, third, last) = (bytes[0], bytes[1], bytes[2], bytes[3]);
     let spelled = joined(joined(joined(u32::from(first), next), third), last);
@@ -197,38 +193,8 @@ pub fn is_second(first: u8, next: u8) -> bool
     }
 }
 
-/// Whether a byte may follow the first byte of a scalar.
-#[inline(always)]
-pub fn is_continuation(byte: u8) -> bool
-    ensures { result ≡ continues byte }
-{
-    0x7F < byte && byte < 0xC0
-}
-
-/// What three joined bytes that spell a scalar are more than its code: the joined E0 80 80.
-const MARKS_OF_THREE: u32 = 0xE_2080;
-
-/// The same of four bytes, the joined F0 80 80 80.
+/// What four joined bytes that spell a scalar are more than its code: the joined F0 80 80 80.
 const MARKS_OF_FOUR: u32 = 0x3C8_2080;
-
-/// A number with the bits of one byte more of a scalar behind it.
-#[inline(always)]
-fn joined(before: u32, byte: u8) -> u32
-    requires { before < 0x100_0000 }
-    ensures { result ≡ before * 64 + byte }
-{
-    before * 64 + u32::from(byte)
-}
-
-/// Whether three joined bytes spell a scalar that takes three: it is of no fewer and no more, and no surrogate. The
-/// bounds are those of its code, and `MARKS_OF_THREE` more. So the first byte need not be looked at.
-#[inline(always)]
-fn takes_three(spelled: u32) -> bool
-    ensures { result ≡ true → (0xE_2880 ≤ spelled) × (spelled < 0xF_2080)
-        × (spelled < 0xE_F880 ⊎ 0xF_0080 ≤ spelled) }
-{
-    0xE_287F < spelled && spelled < 0xF_2080 && (spelled < 0xE_F880 || 0xF_007F < spelled)
-}
 
 /// Whether four joined bytes spell a scalar that takes four: it is of no fewer, and a code. So the first byte need not be
 /// looked at.

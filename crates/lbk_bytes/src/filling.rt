@@ -1,6 +1,6 @@
 //! A block that is filled with breaks.
 
-ghost use Rattle.std.specs.Prelude.{◌≡◌, ℕ, ◌+◌, ◌<◌, ◌≤◌, ◌++◌, [], false, IfSome, List, length, take};
+ghost use Rattle.std.specs.Prelude.{◌≡◌, ℕ, ◌+◌, ◌<◌, ◌≤◌, ◌++◌, [], true, false, IfSome, IsUtf8, List, length, take};
 ghost use Rattle.lbk_bytes.specs.Terms.{Cell, First, IsFlatBy, IsPlace, IsShown, verdict_shown};
 ghost use Rattle.lbk_bytes.specs.Bytes.{with_break};
 ghost use Rattle.lbk_bytes.specs.Order.{AreBreaks, AreInOrder};
@@ -21,16 +21,18 @@ use lbk_rules::{FlatTable, KindSource, Profile, rows_of, shows_break};
 /// Goes on until the block is full or the text ends, and writes the breaks before the scalars taken after those in
 /// the front of the block. In a text of fewer than 64 bytes the scalars that no block takes are gone over here, with
 /// no call, as long as they are common. The breaks are the same with masks, by which blocks of bytes are taken, and
-/// without: these are for targets that have no vectors. They are the same, too, where emoji are expected at the front.
+/// without: these are for targets that have no vectors. They are the same, too, where emoji are expected at the front, and
+/// where the text is known to be well-formed and the profile is the first (`SURE`): then less is looked at.
 #[inline(always)]
-pub fn fill<const MASKS: bool, const EMOJI: bool, K: KindSource>(
+pub fn fill<const MASKS: bool, const EMOJI: bool, const SURE: bool, K: KindSource>(
     table: &K,
     profile: Profile,
     start: FillState,
     text: &[u8],
     out: &mut [RawBreak],
 ) -> FillState
-    requires { IsInText start (length text.now) (length out.old) }
+    requires within { IsInText start (length text.now) (length out.old) }
+    requires sure { SURE ≡ true → (profile ≡ First) × IsUtf8 text.now }
     ensures { Fills profile (K.kinds_of table.now) (K.pairs_of table.now) text.now out.old start out.new result }
 {
     if start.count == out.len() {
@@ -40,7 +42,7 @@ pub fn fill<const MASKS: bool, const EMOJI: bool, K: KindSource>(
     if begun.count == out.len() || begun.at == text.len() {
         return begun;
     }
-    copied(fill_on::<MASKS, K>(table, profile, copied(begun), text, out))
+    copied(fill_on::<MASKS, SURE, K>(table, profile, copied(begun), text, out))
 }
 
 /// Fewer bytes than this are few. No block takes them, so one loop does.
@@ -140,7 +142,7 @@ fn short<const MASKS: bool, K: KindSource>(
     if MASKS && LEAST <= left && are_near(&text[start.at..]) {
         here = copied(blocks::<MASKS, K>(table, steps, start, text, out));
     }
-    scalars(Breaks, table, steps, here, text.len(), text, out)
+    scalars::<false, Breaks, K>(Breaks, table, steps, here, text.len(), text, out)
 }
 
 /// The same state, field by field. A state that a call takes or returns stands in memory, and a copy of it in
@@ -158,19 +160,20 @@ fn copied(state: FillState) -> FillState
 
 /// Does what `fill` does by blocks of bytes and single scalars in turn, in a text of any length.
 #[inline(never)]
-pub fn fill_on<const MASKS: bool, K: KindSource>(
+pub fn fill_on<const MASKS: bool, const SURE: bool, K: KindSource>(
     table: &K,
     profile: Profile,
     start: FillState,
     text: &[u8],
     out: &mut [RawBreak],
 ) -> FillState
-    requires { IsInText start (length text.now) (length out.old) }
+    requires within { IsInText start (length text.now) (length out.old) }
+    requires sure { SURE ≡ true → (profile ≡ First) × IsUtf8 text.now }
     ensures { Fills profile (K.kinds_of table.now) (K.pairs_of table.now) text.now out.old start out.new result }
 {
     let mut here = start;
     while here.count < out.len() && here.at < text.len() {
-        here = further::<MASKS, K>(table, profile, here, text, out);
+        here = further::<MASKS, SURE, K>(table, profile, here, text, out);
     }
     here
 }
@@ -195,30 +198,31 @@ pub fn fill_common(
     if here.at == text.len() {
         return here;
     }
-    let mut part = common_part::<true, FlatTable>(table, profile, here, text, out);
+    let mut part = common_part::<true, false, FlatTable>(table, profile, here, text, out);
     while part.until <= part.here.at && part.here.at < text.len() {
-        part = common_part::<true, FlatTable>(table, profile, part.here, text, out);
+        part = common_part::<true, false, FlatTable>(table, profile, part.here, text, out);
     }
     part.here
 }
 
 /// Takes blocks of bytes and then some scalars, at least one of them or a break more.
 #[inline(always)]
-fn further<const MASKS: bool, K: KindSource>(
+fn further<const MASKS: bool, const SURE: bool, K: KindSource>(
     table: &K,
     profile: Profile,
     here: FillState,
     text: &[u8],
     out: &mut [RawBreak],
 ) -> FillState
-    requires { (here.count < length out.old) × IsPlace here.row × (here.at < length text.now) }
+    requires stands { (here.count < length out.old) × IsPlace here.row × (here.at < length text.now) }
+    requires sure { SURE ≡ true → (profile ≡ First) × IsUtf8 text.now }
     ensures goes { GoesIn text.now out.old here out.new result }
     ensures moves { here.count + here.at < result.count + result.at }
     ensures reached { (cell : ℕ → Cell) (all : Ahead) → IsFlatBy (K.kinds_of table.now) (K.pairs_of table.now) cell
         → Reached profile cell text.now all here (given_in out.old here.count)
         → Reached profile cell text.now all result (given_in out.new result.count) }
 {
-    let part = common_part::<MASKS, K>(table, profile, here, text, out);
+    let part = common_part::<MASKS, SURE, K>(table, profile, here, text, out);
     if part.here.at < part.until && part.here.count < out.len() {
         return take_ones(Breaks, table, profile, part.here, text.len(), text, out);
     }
@@ -237,14 +241,15 @@ pub(crate) struct Part {
 /// Takes blocks of bytes and then common scalars, up to the first that begins where blocks are tried again or after
 /// it, unless another scalar comes or the block is full before.
 #[inline(always)]
-fn common_part<const MASKS: bool, K: KindSource>(
+fn common_part<const MASKS: bool, const SURE: bool, K: KindSource>(
     table: &K,
     profile: Profile,
     here: FillState,
     text: &[u8],
     out: &mut [RawBreak],
 ) -> Part
-    requires { (here.count ≤ length out.old) × IsPlace here.row × (here.at < length text.now) }
+    requires stands { (here.count ≤ length out.old) × IsPlace here.row × (here.at < length text.now) }
+    requires sure { SURE ≡ true → (profile ≡ First) × IsUtf8 text.now }
     ensures within { (result.here.count ≤ length out.old) × IsPlace result.here.row
         × (result.here.at ≤ length text.now) × (result.until ≤ length text.now) }
     ensures onward { (here.count ≤ result.here.count) × (here.at ≤ result.here.at) × (here.at < result.until) }
@@ -259,7 +264,7 @@ fn common_part<const MASKS: bool, K: KindSource>(
     let there = blocks::<MASKS, K>(table, steps, here, text, out);
     let until = next_try::<MASKS>(there.at, text);
     Part {
-        here: quick(Breaks, table, steps, there, until, text, out),
+        here: quick::<SURE, Breaks, K>(Breaks, table, steps, there, until, text, out),
         until,
     }
 }

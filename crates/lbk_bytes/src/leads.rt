@@ -1,10 +1,11 @@
 //! Scalars of three bytes and of four, read alike.
 
-ghost use Rattle.std.specs.Prelude.{◌≡◌, ◌<◌, IfSome, length};
+ghost use Rattle.std.specs.Prelude.{◌≡◌, ◌<◌, ◌≤◌, IfSome, length};
 ghost use Rattle.bstr.specs.Utf8.{decoded, good};
 ghost use Rattle.lbk_bytes.specs.Leads.{IsLead};
 
-use crate::decoding::{Scalar, is_continuation};
+use crate::decoding::Scalar;
+use lbk_scalars::is_continuation;
 
 /// What the first byte of a scalar of three bytes or four says of those behind it.
 #[derive(Clone, Copy)]
@@ -26,7 +27,8 @@ pub(crate) struct Lead {
 #[inline(always)]
 pub(crate) fn scalar_by_lead(bytes: &[u8]) -> Option<Scalar>
     requires { 3 < length bytes.now }
-    ensures { IfSome result (λ scalar. decoded bytes.now ≡ good scalar.code scalar.size) }
+    ensures reads { IfSome result (λ scalar. decoded bytes.now ≡ good scalar.code scalar.size) }
+    ensures size { IfSome result (λ scalar. 3 ≤ scalar.size) }
 {
     let first = bytes[0];
     let lead = lead_of(first)?;

@@ -26,9 +26,10 @@ mod unit;
 mod utf16;
 mod utf32;
 mod utf8;
+mod width;
 
 pub use deciding::{Decided, decide_one};
-pub use decoding::{is_continuation, is_second};
+pub use decoding::is_second;
 pub use ends::{END, START, end_shown, put_end};
 pub use fill_state::FillState;
 pub use filling::{FEW, fill, fill_common, fill_few, fill_on, put};

@@ -76,7 +76,15 @@ pub(crate) fn mark_block(
         }
         let untold = there.at == here.at;
         let stop = steps_end(untold, marks.stops, start.at, there.at, end);
-        here = runs(Bits { from }, table, steps, there, stop, text, words);
+        here = runs::<false, Bits, FlatTable>(
+            Bits { from },
+            table,
+            steps,
+            there,
+            stop,
+            text,
+            words,
+        );
         if here.at == there.at {
             return here;
         }

@@ -128,7 +128,15 @@ fn mark_usual(
         return there;
     }
     let until = next_try::<true>(there.at, front);
-    let past = quick(Bits { from }, table, steps, there, until, text, words);
+    let past = quick::<false, Bits, FlatTable>(
+        Bits { from },
+        table,
+        steps,
+        there,
+        until,
+        text,
+        words,
+    );
     if until <= past.at {
         return past;
     }

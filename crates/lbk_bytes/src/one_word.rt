@@ -5,7 +5,6 @@ ghost use Rattle.lbk_bytes.specs.Terms.{Cell, IsFlatOf, IsPlace, Profile};
 ghost use Rattle.lbk_bytes.specs.Marking.{AreClear, GathersFurther, Marked, MarksFurther, uncounted};
 ghost use Rattle.lbk_bytes.specs.Reached.{Ahead, Reached};
 
-use crate::decoding::Width;
 use crate::fill_state::FillState;
 use crate::held::take_ones;
 use crate::mark_blocks::{are_told, mark_block};
@@ -13,6 +12,7 @@ use crate::marks::BITS;
 use crate::pieces::pieces;
 use crate::stepping::{emoji_and_scalars, run};
 use crate::target::{Bits, BreakKinds};
+use crate::width::Two;
 use lbk_masks::nonzero;
 use lbk_rules::{FlatTable, Profile, rows_of};
 
@@ -67,16 +67,7 @@ fn by_block(
     }
     // A scalar of two bytes that begins in the last byte goes on behind it, so no block has it.
     let bits = Bits { from: start.at };
-    let past = run::<true, Bits, FlatTable>(
-        bits,
-        Width::Two,
-        table,
-        steps,
-        there,
-        stop,
-        text,
-        &mut word,
-    );
+    let past = run::<true, Two, Bits, FlatTable>(bits, table, steps, there, stop, text, &mut word);
     counted(past, &word)
 }
 

@@ -1,21 +1,20 @@
 //! The loops that take scalars by steps, whatever is written of their positions.
 
-ghost use Rattle.std.specs.Prelude.{◌≡◌, ◌+◌, ◌<◌, ◌≤◌, IfSome, false, length};
+ghost use Rattle.std.specs.Prelude.{◌≡◌, ◌+◌, ◌<◌, ◌≤◌, IfSome, true, false, length};
 ghost use Rattle.lbk_bytes.specs.Terms.{AreSteps, First, IsPlace, steps_in};
-ghost use Rattle.lbk_bytes.specs.Steps.{MayStep, StepsOn, TakesOne};
-ghost use Rattle.lbk_bytes.specs.Widths.{more_of};
+ghost use Rattle.lbk_bytes.specs.Steps.{IsSure, MayStep, StepsOn, TakesOne};
 
-use crate::decoding::{Width, scalar_of};
 use crate::fill_state::FillState;
 use crate::pieces::pieces;
 use crate::target::Target;
 use crate::tries::begins_emoji;
+use crate::width::{Four, LedThree, One, Three, ThreeOrFour, Two, Width};
 use lbk_rules::{HELD, KindSource, Rows, step_at};
 
 /// Takes scalars and ill-formed bytes that begin before a byte, up to a held position or the text's last bytes,
 /// whatever may follow the text. The loop for common scalars calls nothing, so that all it has stays in registers.
 #[inline(never)]
-pub(crate) fn quick<T: Target, K: KindSource>(
+pub(crate) fn quick<const SURE: bool, T: Target, K: KindSource>(
     target: T,
     kinds: &K,
     steps: &Rows,
@@ -24,13 +23,14 @@ pub(crate) fn quick<T: Target, K: KindSource>(
     text: &[u8],
     out: &mut [T::Entry],
 ) -> FillState
-    requires { MayStep (T.fits target) steps.now text.now stop out.old start }
+    requires steps { MayStep (T.fits target) steps.now text.now stop out.old start }
+    requires sure { IsSure SURE steps.now text.now }
     ensures { StepsOn (T.fits target) (T.in_order target) (T.reached target) steps.now (K.kinds_of kinds.now) text.now
         stop out.old start out.new result }
 {
     let mut here = start;
     while here.at < stop {
-        let common = scalars(target, kinds, steps, here, stop, text, out);
+        let common = scalars::<SURE, T, K>(target, kinds, steps, here, stop, text, out);
         if stop <= common.at || target.is_full(out, common.count) {
             return common;
         }
@@ -44,7 +44,7 @@ pub(crate) fn quick<T: Target, K: KindSource>(
 
 /// Takes common scalars that begin before a byte: well-formed ones, where no position is held.
 #[inline(always)]
-pub(crate) fn scalars<T: Target, K: KindSource>(
+pub(crate) fn scalars<const SURE: bool, T: Target, K: KindSource>(
     target: T,
     kinds: &K,
     steps: &Rows,
@@ -53,13 +53,14 @@ pub(crate) fn scalars<T: Target, K: KindSource>(
     text: &[u8],
     out: &mut [T::Entry],
 ) -> FillState
-    requires { MayStep (T.fits target) steps.now text.now stop out.old start }
+    requires steps { MayStep (T.fits target) steps.now text.now stop out.old start }
+    requires sure { IsSure SURE steps.now text.now }
     ensures { StepsOn (T.fits target) (T.in_order target) (T.reached target) steps.now (K.kinds_of kinds.now) text.now
         stop out.old start out.new result }
 {
     let mut here = start;
     while here.at < stop {
-        let past = runs(target, kinds, steps, here, stop, text, out);
+        let past = runs::<SURE, T, K>(target, kinds, steps, here, stop, text, out);
         if past.at == here.at {
             return past;
         }
@@ -84,20 +85,11 @@ pub(crate) fn emoji<T: Target, K: KindSource>(
     ensures { StepsOn (T.fits target) (T.in_order target) (T.reached target) steps.now (K.kinds_of kinds.now) text.now
         stop out.old start out.new result }
 {
-    let behind = run::<true, T, K>(target, Width::Four, kinds, steps, start, stop, text, out);
+    let behind = run::<true, Four, T, K>(target, kinds, steps, start, stop, text, out);
     if stop <= behind.at {
         return behind;
     }
-    run::<true, T, K>(
-        target,
-        Width::ThreeOrFour,
-        kinds,
-        steps,
-        behind,
-        stop,
-        text,
-        out,
-    )
+    run::<true, ThreeOrFour, T, K>(target, kinds, steps, behind, stop, text, out)
 }
 
 /// Takes what `emoji` takes, if the text seems to begin with emoji here, and then what `scalars` takes.
@@ -122,12 +114,13 @@ pub(crate) fn emoji_and_scalars<T: Target, K: KindSource>(
             return here;
         }
     }
-    scalars(target, kinds, steps, here, stop, text, out)
+    scalars::<false, T, K>(target, kinds, steps, here, stop, text, out)
 }
 
-/// A run of scalars of one byte, and then one of those that the next byte may begin. Each may be empty.
+/// A run of scalars of one byte, and then one of those that the next byte may begin. Each may be empty. `SURE`: the text
+/// is well-formed and the steps are those of the first profile, so less is looked at.
 #[inline(always)]
-pub(crate) fn runs<T: Target, K: KindSource>(
+pub(crate) fn runs<const SURE: bool, T: Target, K: KindSource>(
     target: T,
     kinds: &K,
     steps: &Rows,
@@ -136,57 +129,86 @@ pub(crate) fn runs<T: Target, K: KindSource>(
     text: &[u8],
     out: &mut [T::Entry],
 ) -> FillState
-    requires { MayStep (T.fits target) steps.now text.now stop out.old start }
+    requires steps { MayStep (T.fits target) steps.now text.now stop out.old start }
+    requires sure { IsSure SURE steps.now text.now }
     ensures { StepsOn (T.fits target) (T.in_order target) (T.reached target) steps.now (K.kinds_of kinds.now) text.now
         stop out.old start out.new result }
 {
-    let behind_one = run::<true, T, K>(target, Width::One, kinds, steps, start, stop, text, out);
-    if stop <= behind_one.at {
-        return behind_one;
+    let past = any_run::<SURE, One, T, K>(target, kinds, steps, start, stop, text, out);
+    if stop <= past.at {
+        return past;
     }
-    let first = text[behind_one.at];
+    let first = text[past.at];
     if first < 0xE0 {
-        return run::<true, T, K>(
-            target,
-            Width::Two,
-            kinds,
-            steps,
-            behind_one,
-            stop,
-            text,
-            out,
-        );
+        return any_run::<SURE, Two, T, K>(target, kinds, steps, past, stop, text, out);
     }
-    if first < 0xF0 {
-        return run::<true, T, K>(
-            target,
-            Width::Three,
-            kinds,
-            steps,
-            behind_one,
-            stop,
-            text,
-            out,
-        );
+    if 0xEF < first {
+        return any_run::<SURE, Four, T, K>(target, kinds, steps, past, stop, text, out);
     }
-    run::<true, T, K>(
-        target,
-        Width::Four,
-        kinds,
-        steps,
-        behind_one,
-        stop,
-        text,
-        out,
-    )
+    if SURE {
+        return sure_run::<LedThree, T, K>(target, kinds, steps, past, stop, text, out);
+    }
+    run::<true, Three, T, K>(target, kinds, steps, past, stop, text, out)
+}
+
+/// A run as `run` takes it, or as `sure_run` does.
+#[inline(always)]
+fn any_run<const SURE: bool, W: Width, T: Target, K: KindSource>(
+    target: T,
+    kinds: &K,
+    steps: &Rows,
+    start: FillState,
+    stop: usize,
+    text: &[u8],
+    out: &mut [T::Entry],
+) -> FillState
+    requires steps { MayStep (T.fits target) steps.now text.now stop out.old start }
+    requires sure { SURE ≡ true → steps.now ≡ steps_in First }
+    requires known { W.known text.now }
+    ensures { StepsOn (T.fits target) (T.in_order target) (T.reached target) steps.now (K.kinds_of kinds.now) text.now
+        stop out.old start out.new result }
+{
+    if SURE {
+        return sure_run::<W, T, K>(target, kinds, steps, start, stop, text, out);
+    }
+    run::<true, W, T, K>(target, kinds, steps, start, stop, text, out)
+}
+
+/// A run in well-formed text, by the steps of the first profile: no position is held. How far there is room is counted
+/// once.
+#[inline(always)]
+fn sure_run<W: Width, T: Target, K: KindSource>(
+    target: T,
+    kinds: &K,
+    steps: &Rows,
+    start: FillState,
+    stop: usize,
+    text: &[u8],
+    out: &mut [T::Entry],
+) -> FillState
+    requires steps { MayStep (T.fits target) steps.now text.now stop out.old start }
+    requires known { W.known text.now }
+    requires sure { steps.now ≡ steps_in First }
+    ensures { StepsOn (T.fits target) (T.in_order target) (T.reached target) steps.now (K.kinds_of kinds.now) text.now
+        stop out.old start out.new result }
+{
+    let mut here = start;
+    let room = target.room_to(out, start.count, start.at, W::least(), stop);
+    let end = room.min(text.len().saturating_sub(W::more()));
+    'taking: while here.at < end {
+        let Some(next) = taken::<false, W, T, K>(target, kinds, steps, here, text, out) else {
+            break;
+        };
+        here = next;
+    }
+    here
 }
 
 /// A run of scalars of one width. In a text most scalars have the width of the one before, so a loop of its own for
 /// each width seldom goes where the processor does not expect it.
 #[inline(always)]
-pub(crate) fn run<const HOLDS: bool, T: Target, K: KindSource>(
+pub(crate) fn run<const HOLDS: bool, W: Width, T: Target, K: KindSource>(
     target: T,
-    width: Width,
     kinds: &K,
     steps: &Rows,
     start: FillState,
@@ -196,13 +218,14 @@ pub(crate) fn run<const HOLDS: bool, T: Target, K: KindSource>(
 ) -> FillState
     requires steps { MayStep (T.fits target) steps.now text.now stop out.old start }
     requires settled { HOLDS ≡ false → steps.now ≡ steps_in First }
+    requires known { W.known text.now }
     ensures { StepsOn (T.fits target) (T.in_order target) (T.reached target) steps.now (K.kinds_of kinds.now) text.now
         stop out.old start out.new result }
 {
     let mut here = start;
-    let end = stop.min(text.len().saturating_sub(width.more()));
+    let end = stop.min(text.len().saturating_sub(W::more()));
     'taking: while !target.is_full(out, here.count) && here.at < end {
-        let Some(next) = taken::<HOLDS, T, K>(target, width, kinds, steps, here, text, out) else {
+        let Some(next) = taken::<HOLDS, W, T, K>(target, kinds, steps, here, text, out) else {
             break;
         };
         here = next;
@@ -214,9 +237,8 @@ pub(crate) fn run<const HOLDS: bool, T: Target, K: KindSource>(
 /// where none begins or its position is held. In the first profile none is, and by its steps a loop may leave the look
 /// out (`HOLDS`).
 #[inline(always)]
-fn taken<const HOLDS: bool, T: Target, K: KindSource>(
+fn taken<const HOLDS: bool, W: Width, T: Target, K: KindSource>(
     target: T,
-    width: Width,
     kinds: &K,
     steps: &Rows,
     here: FillState,
@@ -224,12 +246,14 @@ fn taken<const HOLDS: bool, T: Target, K: KindSource>(
     out: &mut [T::Entry],
 ) -> Option<FillState>
     requires stands { T.takes target out.old here.count here.at × IsPlace here.row × AreSteps steps.now
-        × (here.at + more_of width < length text.now) }
+        × (here.at + W.most_more < length text.now) }
     requires settled { HOLDS ≡ false → steps.now ≡ steps_in First }
-    ensures { TakesOne (T.fits target) (T.in_order target) (T.reached target) steps.now (K.kinds_of kinds.now) text.now
+    requires known { W.known text.now }
+    ensures takes { TakesOne (T.fits target) (T.in_order target) (T.reached target) steps.now (K.kinds_of kinds.now) text.now
         out.old here out.new result }
+    ensures few { IfSome result (λ next. (next.count ≤ here.count + 1) × (here.at + W.least_size ≤ next.at)) }
 {
-    let scalar = scalar_of(width, &text[here.at..])?;
+    let scalar = W::scalar_at(text, here.at)?;
     let step = step_at(steps, here.row, kinds.kind_at(scalar.code));
     if HOLDS && step.shown == HELD {
         return None;
@@ -244,9 +268,8 @@ fn taken<const HOLDS: bool, T: Target, K: KindSource>(
 
 /// Does the same where the text may end within a scalar of this width.
 #[inline(always)]
-fn taken_whole<const HOLDS: bool, T: Target, K: KindSource>(
+fn taken_whole<const HOLDS: bool, W: Width, T: Target, K: KindSource>(
     target: T,
-    width: Width,
     kinds: &K,
     steps: &Rows,
     here: FillState,
@@ -256,13 +279,14 @@ fn taken_whole<const HOLDS: bool, T: Target, K: KindSource>(
     requires stands { T.takes target out.old here.count here.at × IsPlace here.row × AreSteps steps.now
         × (here.at < length text.now) }
     requires settled { HOLDS ≡ false → steps.now ≡ steps_in First }
+    requires known { W.known text.now }
     ensures { TakesOne (T.fits target) (T.in_order target) (T.reached target) steps.now (K.kinds_of kinds.now) text.now
         out.old here out.new result }
 {
-    if text.len() - here.at <= width.more() {
+    if text.len() - here.at <= W::more() {
         return None;
     }
-    taken::<HOLDS, T, K>(target, width, kinds, steps, here, text, out)
+    taken::<HOLDS, W, T, K>(target, kinds, steps, here, text, out)
 }
 
 /// Does the same with a scalar of more than one byte, of the width that its first byte says.
@@ -283,12 +307,12 @@ fn taken_wide<const HOLDS: bool, T: Target, K: KindSource>(
 {
     let first = text[here.at];
     if 0xEF < first {
-        return taken_whole::<HOLDS, T, K>(target, Width::Four, kinds, steps, here, text, out);
+        return taken_whole::<HOLDS, Four, T, K>(target, kinds, steps, here, text, out);
     }
     if 0xDF < first {
-        return taken_whole::<HOLDS, T, K>(target, Width::Three, kinds, steps, here, text, out);
+        return taken_whole::<HOLDS, Three, T, K>(target, kinds, steps, here, text, out);
     }
-    taken_whole::<HOLDS, T, K>(target, Width::Two, kinds, steps, here, text, out)
+    taken_whole::<HOLDS, Two, T, K>(target, kinds, steps, here, text, out)
 }
 
 /// Takes common scalars that begin before a byte, as `scalars` does. In a few bytes a loop for each width would cost
@@ -310,7 +334,7 @@ pub(crate) fn mixed<const HOLDS: bool, T: Target, K: KindSource>(
 {
     let mut here = start;
     'taking: while here.at < stop {
-        here = run::<HOLDS, T, K>(target, Width::One, kinds, steps, here, stop, text, out);
+        here = run::<HOLDS, One, T, K>(target, kinds, steps, here, stop, text, out);
         if stop <= here.at || target.is_full(out, here.count) {
             break;
         }

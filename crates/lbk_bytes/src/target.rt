@@ -38,11 +38,28 @@ pub(crate) trait Target: Copy {
         ensures room { (at stop : ℕ) → at < stop → fits self out.now count at stop → ¬ (IsTrue result)
             → takes self out.now count at };
 
+    /// Up to which byte there is room for what is written of scalars of `size` bytes or more that begin before `stop`, the
+    /// first of them at a byte.
+    fn room_to(
+        self,
+        out: &[Self::Entry],
+        count: usize,
+        at: usize,
+        size: usize,
+        stop: usize,
+    ) -> usize
+        requires fits { fits self out.now count at stop }
+        requires size { (0 < size) × (size ≤ 4) }
+        ensures within { result ≤ stop }
+        ensures room { (entries : List Self.Entry) (some more next : ℕ) → fits self entries some next stop
+            → length entries ≡ length out.now → some ≡ count + more → at + more * size ≤ next → next < result
+            → takes self entries some next };
+
     /// Writes the verdict of a number, before a byte, and returns how many breaks are counted then.
     fn put(self, out: &mut [Self::Entry], count: usize, at: usize, shown: u16) -> usize
         requires room { takes self out.old count at }
         requires shown { IsShown shown }
-        ensures counts { count ≤ result }
+        ensures counts { (count ≤ result) × (result ≤ count + 1) }
         ensures fits { (next stop : ℕ) → at < next → fits self out.old count at stop
             → fits self out.new result next stop }
         ensures in_order { (from to : ℕ) → at < to → in_order self out.old count from at
@@ -77,6 +94,12 @@ impl Target for Breaks {
     }
 
     #[inline(always)]
+    fn room_to(self, out: &[RawBreak], count: usize, at: usize, size: usize, stop: usize) -> usize {
+        // A sum or a product that wraps is less, so a loop ends sooner.
+        stop.min(at.wrapping_add((out.len() - count).wrapping_mul(size)))
+    }
+
+    #[inline(always)]
     fn put(self, out: &mut [RawBreak], count: usize, at: usize, shown: u16) -> usize {
         put(out, count, at, shown)
     }
@@ -101,6 +124,18 @@ impl Target for AmpleBreaks {
     #[inline(always)]
     fn is_full(self, _out: &[RawBreak], _count: usize) -> bool {
         false
+    }
+
+    #[inline(always)]
+    fn room_to(
+        self,
+        _out: &[RawBreak],
+        _count: usize,
+        _at: usize,
+        _size: usize,
+        stop: usize,
+    ) -> usize {
+        stop
     }
 
     #[inline(always)]
@@ -134,6 +169,11 @@ impl Target for Bits {
     }
 
     #[inline(always)]
+    fn room_to(self, _out: &[u64], _count: usize, _at: usize, _size: usize, stop: usize) -> usize {
+        stop
+    }
+
+    #[inline(always)]
     fn put(self, words: &mut [u64], count: usize, at: usize, shown: u16) -> usize {
         mark(words, at - self.from, shows_break(shown));
         count
@@ -163,6 +203,11 @@ impl Target for BreakKinds {
     #[inline(always)]
     fn is_full(self, _kinds: &[u8], _word: usize) -> bool {
         false
+    }
+
+    #[inline(always)]
+    fn room_to(self, _out: &[u8], _count: usize, _at: usize, _size: usize, stop: usize) -> usize {
+        stop
     }
 
     #[inline(always)]

@@ -185,7 +185,7 @@ fn give_rest<const MASKS: bool>(
         → GivesBreaks table.now text.now state.old state.new (length old) out.new result }
 {
     let begun = FillState { count, row, at };
-    let here = fill_on::<MASKS, FlatTable>(table, profile, begun, text, out);
+    let here = fill_on::<MASKS, false, FlatTable>(table, profile, begun, text, out);
     settle::<Breaks, u8>(state, here, text, out)
 }
 
@@ -203,7 +203,7 @@ fn give_many<const MASKS: bool, const EMOJI: bool>(
         return 0;
     };
     let start = start_of(state);
-    let here = lbk_bytes::fill::<MASKS, EMOJI, FlatTable>(table, profile, start, text, out);
+    let here = lbk_bytes::fill::<MASKS, EMOJI, false, FlatTable>(table, profile, start, text, out);
     settle::<Breaks, u8>(state, here, text, out)
 }
 

@@ -113,15 +113,12 @@ module _ {profile : Profile} {cell : ℕ → Cell} {text : List ℕ} {from : Pro
   abbrev pub to_come : List Break
   to_come = left_after profile cell text from
 
-  -- a call goes on from where the first breaks were found to, over bytes that are those of the text
-  pub reached-on : from.ended ≡ false → (bytes : List ℕ) → bytes ≡ text → {here : FillState} {front : List Break}
-      → (Reached profile cell bytes (record { breaks = to_come; end = closed_end }) (record { count = 0; row = from.state.row; at = from.state.at }) []
-      → Reached profile cell bytes (record { breaks = to_come; end = closed_end }) here front)
+  -- a call goes on from where the first breaks were found to
+  pub reached-on : from.ended ≡ false → {here : FillState} {front : List Break}
+      → (Reached profile cell text (record { breaks = to_come; end = closed_end }) (record { count = 0; row = from.state.row; at = from.state.at }) []
+      → Reached profile cell text (record { breaks = to_come; end = closed_end }) here front)
       → Reached profile cell text (record { breaks = to_come; end = closed_end }) here front
-  reached-on goes_on bytes same {here} {front} fill =
-      subst (λ t. Reached profile cell t (record { breaks = to_come; end = closed_end }) here front) same
-      (fill (subst (λ t. Reached profile cell t (record { breaks = to_come; end = closed_end }) (record { count = 0; row = from.state.row; at = from.state.at }) []) (sym same)
-      (found.goes_on goes_on)))
+  reached-on goes_on fill = fill (found.goes_on goes_on)
 
   same-count : (count : ℕ) → from.state.count + count - from.state.count ≡ count
   same-count count = omega arith

@@ -1,6 +1,7 @@
 //! The breaks of a text, found a block at a time by the engine for bytes.
 
-ghost use Rattle.std.specs.Prelude.{◌≡◌, ◌+◌, ◌≤◌, ◌++◌, ℕ, List, length, take};
+ghost use Rattle.std.specs.Prelude.{◌≡◌, ◌+◌, ◌≤◌, ◌++◌, ℕ, List, true, length, take};
+ghost use Rattle.lbk_bytes.specs.Terms.{First};
 ghost use Rattle.lbk_rules.specs.declared.Break.{Break};
 ghost use Rattle.lbk_rules.specs.declared.neighbours.Neighbours.{Neighbours};
 ghost use Rattle.lbk_rules.specs.FlatTable.{IsFlatBy};
@@ -66,7 +67,7 @@ pub(crate) fn find<C: CellSource>(
         row: from.state.row,
         at: from.state.at,
     };
-    let here = fill_by(cells, profile, start, text.as_bytes(), out);
+    let here = fill_by(cells, profile, start, text, out);
     if here.count == out.len() {
         return Progress {
             state: FillState {
@@ -94,7 +95,7 @@ fn fill_by<C: CellSource>(
     cells: &C,
     profile: Profile,
     start: FillState,
-    text: &[u8],
+    text: &str,
     out: &mut [RawBreak],
 ) -> FillState
     requires { IsInText start (length text.now) (length out.old) }
@@ -102,28 +103,41 @@ fn fill_by<C: CellSource>(
         × Fills profile kinds pairs text.now out.old start out.new result }
 {
     let Some(table) = NearKinds::of(cells, cells.kinds()) else {
-        return fill_from(&CellTable::new(cells), profile, start, text, out);
+        return fill_from::<false, CellTable<'_, C>>(
+            &CellTable::new(cells),
+            profile,
+            start,
+            text,
+            out,
+        );
     };
-    fill_from(&table, profile, start, text, out)
+    match profile {
+        Profile::First => { fill_from::<true, NearKinds<'_, C>>(&table, profile, start, text, out) }
+        Profile::Second => {
+            fill_from::<false, NearKinds<'_, C>>(&table, profile, start, text, out)
+        }
+    }
 }
 
 /// Fills a block of breaks, by blocks of bytes and by steps, or by steps alone where a scalar of three bytes or more comes
-/// first: such scalars are then usual, and blocks leave them to steps.
+/// first: such scalars are then usual, and blocks leave them to steps. `SURE`: the profile is the first.
 #[inline(always)]
-fn fill_from<K: KindSource>(
+fn fill_from<const SURE: bool, K: KindSource>(
     table: &K,
     profile: Profile,
     start: FillState,
-    text: &[u8],
+    text: &str,
     out: &mut [RawBreak],
 ) -> FillState
-    requires { IsInText start (length text.now) (length out.old) }
+    requires within { IsInText start (length text.now) (length out.old) }
+    requires sure { SURE ≡ true → profile ≡ First }
     ensures { Fills profile (K.kinds_of table.now) (K.pairs_of table.now) text.now out.old start out.new result }
 {
-    if start.at < text.len() && LONG <= text[start.at] {
-        return fill::<false, false, K>(table, profile, start, text, out);
+    let bytes = text.as_bytes();
+    if start.at < bytes.len() && LONG <= bytes[start.at] {
+        return fill::<false, false, SURE, K>(table, profile, start, bytes, out);
     }
-    fill::<true, false, K>(table, profile, start, text, out)
+    fill::<true, false, SURE, K>(table, profile, start, bytes, out)
 }
 
 /// A break by its numbers.

@@ -9,8 +9,9 @@ ghost use Rattle.lbk_streams.specs.Stands.{front_of};
 use crate::cutting::listed;
 use crate::stream::{Cut, Four, Stream};
 use crate::stream_unit::StreamUnit;
-use lbk_bytes::{FillState, RawBreak, fill_common, is_continuation, is_second};
+use lbk_bytes::{FillState, RawBreak, fill_common, is_second};
 use lbk_rules::{FlatTable, Profile};
+use lbk_scalars::is_continuation;
 use lbk_units::{Unit, UnitScalar};
 
 impl StreamUnit for u8 {

@@ -1,12 +1,16 @@
-use Rattle.std.proofs.Common.{length, refl, arith}
+use Rattle.std.proofs.Common.{length, refl, ap, ◌∙◌, arith}
+use Rattle.lbk_rules.specs.Rows.{steps_in}
 use Rattle.lbk_bytes.proofs.StepLemmas.{told-as}
 use Rattle.lbk_bytes.proofs.filling.common_part.Goals as goal
 
 pub blocks-there-requires : goal.blocks-there-requires
-blocks-there-requires g c = (c.requires.0, c.requires.1, omega (arith, c.requires.2), (c.args.profile, c.rows_of-steps.ensures))
+blocks-there-requires g c = (c.requires.stands.0, c.requires.stands.1, omega (arith, c.requires.stands.2), (c.args.profile, c.rows_of-steps.ensures))
 
-pub quick-requires : goal.quick-requires
-quick-requires g c =
+pub quick-requires-clause-sure : goal.quick-requires-clause-sure
+quick-requires-clause-sure g c = λ is. let sure = c.requires.sure is in (c.rows_of-steps.ensures ∙ ap steps_in sure.0, sure.1)
+
+pub quick-requires-clause-steps : goal.quick-requires-clause-steps
+quick-requires-clause-steps g c =
     let there = c.blocks-there.ensures in
     (omega (arith, there.within.0), there.within.1, there.within.2, omega arith, (c.args.profile, c.rows_of-steps.ensures))
 

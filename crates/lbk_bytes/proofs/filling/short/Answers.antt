@@ -36,8 +36,8 @@ begun g c =
           (record { within = c.requires; onward = (omega arith, omega arith); in_order = λ from order. order; reached = λ cell more all flat start. start }))
     ]
 
-pub scalars-requires : goal.scalars-requires
-scalars-requires g c =
+pub scalars-requires-clause-steps : goal.scalars-requires-clause-steps
+scalars-requires-clause-steps g c =
     let here = begun g c in
     (omega (arith, here.within.0), here.within.1, here.within.2, omega arith, (c.args.profile, c.rows_of-steps.ensures))
 

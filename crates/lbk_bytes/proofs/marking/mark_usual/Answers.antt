@@ -7,8 +7,8 @@ mark_blocks-there-requires c =
     let until = length-take-le c.args.stop c.args.text.now c.requires.3 in
     (c.requires.0, c.requires.1, omega (arith, until), omega (arith, until), (c.args.profile, c.rows_of-steps.ensures))
 
-pub quick-past-requires : goal.quick-past-requires
-quick-past-requires c =
+pub quick-past-requires-clause-steps : goal.quick-past-requires-clause-steps
+quick-past-requires-clause-steps c =
     let there = c.mark_blocks-there.ensures.within in
     let until = length-take-le c.args.stop c.args.text.now c.requires.3 in
     ((omega (arith, there.1), omega (arith, until)), there.0, omega (arith, there.2, until), omega (arith, until), (c.args.profile, c.rows_of-steps.ensures))
