@@ -3,7 +3,7 @@ use Rattle.std.proofs.Common.{◌≡◌, inl, inr, ℕ, zero, suc, ◌+◌, ◌-
 use Rattle.std.proofs.lemmas.Bool.{and_left, and_parts, and_right, cases_lt, le-ltb, lt-ltb, not-true}
 use Rattle.lbk_masks.specs.Bits.{AreCleared, IsLowest}
 use Rattle.lbk_masks.specs.Sets.{is_set}
-use Rattle.lbk_words.specs.Blocks.{begins, class_at, goes_on, is_joined, is_second, runs_at}
+use Rattle.lbk_words.specs.Blocks.{begins, class_at, goes_on, is_joined, is_inner, runs_at}
 use Rattle.lbk_words.specs.Ends.{AreEnds, goes_on_at, is_pair}
 use Rattle.lbk_words.specs.Places.{IsFirstPiece}
 use Rattle.lbk_words.proofs.Booleans.{or_parts}
@@ -125,11 +125,11 @@ next-end text base first stop left end next are within some few_end lowest clear
     place = omega arith
 
     starts : r.starts (base + first) ≡ true
-    starts = ap (λ i. not (is_second bytes i)) here ∙ ap not (starts-here bytes first (λ is. are.begins first (omega arith) (omega (arith, grows, inside)) is (inl refl)))
+    starts = ap (λ i. not (is_inner bytes i)) here ∙ ap not (starts-here bytes first (λ is. are.begins first (omega arith) (omega (arith, grows, inside)) is (inl refl)))
 
     by : (is : Bool) → runs_at bytes first ≡ is → (is_word : Bool) × IsFirstPiece text (base + first) (base + end) is_word
     by true is =
-        let begun = and_parts (begins (class_at bytes first)) (not (is_second bytes first)) (are.begins first (omega arith) (omega (arith, grows, inside)) is (inl refl)) in
+        let begun = and_parts (begins (class_at bytes first)) (not (is_inner bytes first)) (are.begins first (omega arith) (omega (arith, grows, inside)) is (inl refl)) in
         let last = runs-on (end - 1 - first) bytes first end (end - 1) are.fit (omega (arith, grows)) (omega (arith, grows)) is goes in
         let apart : runs_at bytes end ≡ false = sym (ap (λ b. b && runs_at bytes end) last) ∙ stops.0 in (
           true,

@@ -1,9 +1,10 @@
--- Letters of two bytes that are found by their bytes.
-use Rattle.std.proofs.Common.{◌≡◌, ℕ, zero, suc, ◌+◌, ◌/◌, ◌%◌, ◌<◌, ◌≤◌, Bool, true, false, cond, not, ◌&&◌, ◌||◌, ◌==◌, nat_le, nat_lt, List, get_or, refl, sym, ap, ap₂, ◌∙◌, eqb-true, leb-true, ltb-true, arith}
+-- Letters of two bytes, and those of U+1E00 to U+1EFF, which are found by their bytes.
+use Rattle.std.proofs.Common.{◌≡◌, ℕ, zero, suc, ◌+◌, ◌-◌, ◌*◌, ◌/◌, ◌%◌, ◌<◌, ◌≤◌, Bool, true, false, cond, not, ◌&&◌, ◌||◌, ◌==◌, nat_le, nat_lt, List, get_or, refl, sym, ap, ap₂, ◌∙◌, ⊎_elim, eqb-true, leb-true, ltb-true, arith}
 use Rattle.std.specs.Int.Bits.{and_zero_l, and_zero_r}
-use Rattle.std.proofs.lemmas.Bool.{and_parts}
-use Rattle.bstr.specs.Utf8.{code_of_2, second}
+use Rattle.std.proofs.lemmas.Bool.{and_parts, cases_lt, lt-ltb}
+use Rattle.bstr.specs.Utf8.{code_of_2, code_of_3, continues, second}
 use Rattle.ucd_table.proofs.Computing.{tables}
+use Rattle.ucd_table.specs.Steps.{step_value}
 use Rattle.ucd_table.proofs.Facts.{Stepped-below, passes_below}
 use Rattle.ucd_table.proofs.TrieCheck.{all_below, all_below-at}
 use Rattle.ucd_breaks.proofs.WordBreakLemmas.{word_break_stepped}
@@ -11,9 +12,9 @@ use Rattle.ucd_category.proofs.GeneralCategoryLemmas.{general_category_stepped}
 use Rattle.ucd_emoji.proofs.BinaryLemmas.{is_extended_pictographic_stepped}
 use Rattle.lbk_masks.specs.Sets.{meets, sets_in}
 use Rattle.lbk_words.specs.declared.letter_table.TheConstants.{FIRSTS, SECONDS}
-use Rattle.lbk_words.specs.Blocks.{class_at, class_of, is_first, is_second, letter_class}
+use Rattle.lbk_words.specs.Blocks.{class_at, class_of, is_first, is_inner, is_long, is_middle, is_open, letter_class, size_at, spells_long}
 use Rattle.lbk_words.specs.Kinds.{kind_at}
-use Rattle.lbk_words.proofs.Booleans.{unless}
+use Rattle.lbk_words.proofs.Booleans.{or_parts, unless}
 use Rattle.lbk_words.proofs.KindTrie.{kind_stepped}
 
 abbrev spells : ℕ → ℕ → Bool
@@ -99,43 +100,208 @@ spelled b c few_b few_c is = record {
     goes : (second b c ≡ true) × (nat_le 194 b ≡ true)
     goes = and_parts (second b c) (nat_le 194 b) kind.1
 
+-- of U+1E00 to U+1EFF
+abbrev long_right : ℕ → Bool
+long_right k = step_value kind_stepped.default kind_stepped.steps (0x1E00 + k) == 22
+
+longs_right : all_below long_right 256 ≡ true
+unfolding all_below tables word_break_stepped general_category_stepped is_extended_pictographic_stepped
+longs_right = refl
+
+pub record IsLong (b c d : ℕ) : Type 0 where
+  pub lead : b ≡ 0xE1
+  pub next : (128 ≤ c) × (c < 192)
+  pub last : (128 ≤ d) × (d < 192)
+  pub few : code_of_3 b c d < 0x1F00
+  pub kind : kind_at (code_of_3 b c d) ≡ 22
+  pub goes : second b c ≡ true
+  pub ends : continues d ≡ true
+
+long-spelled : (b c d : ℕ) → spells_long b c d ≡ true → IsLong b c d
+long-spelled b c d is = record {
+  lead = lead;
+  next = (omega (arith, least), omega (arith, most));
+  last = last;
+  few = omega (arith, place, less);
+  kind = ap kind_at place ∙ kind_stepped.gives (0x1E00 + k) ∙ eqb-true _ _ (all_below-at long_right 256 k longs_right less);
+  goes = ap (λ n. second n c) lead ∙ ap₂ (λ x y. x && y) (lt-ltb 0x7F c (omega (arith, least))) (lt-ltb c 0xC0 (omega (arith, most)));
+  ends = parts.1;
+}
+  where
+    first : ((b == 0xE1) ≡ true) × (((nat_le 0xB8 c && nat_lt c 0xBC) && continues d) ≡ true)
+    first = and_parts (b == 0xE1) ((nat_le 0xB8 c && nat_lt c 0xBC) && continues d) is
+
+    parts : ((nat_le 0xB8 c && nat_lt c 0xBC) ≡ true) × (continues d ≡ true)
+    parts = and_parts (nat_le 0xB8 c && nat_lt c 0xBC) (continues d) first.1
+
+    middle : (nat_le 0xB8 c ≡ true) × (nat_lt c 0xBC ≡ true)
+    middle = and_parts (nat_le 0xB8 c) (nat_lt c 0xBC) parts.0
+
+    lead : b ≡ 0xE1
+    lead = eqb-true b 0xE1 first.0
+
+    least : 0xB8 ≤ c
+    least = leb-true 0xB8 c middle.0
+
+    most : c < 0xBC
+    most = ltb-true c 0xBC middle.1
+
+    last : (128 ≤ d) × (d < 192)
+    last =
+        let both = and_parts (nat_lt 0x7F d) (nat_lt d 0xC0) parts.1 in
+        let from = ltb-true 0x7F d both.0 in (omega (arith, from), ltb-true d 0xC0 both.1)
+
+    k : ℕ
+    k = (c - 0xB8) * 64 + (d - 0x80)
+
+    less : k < 256
+    less = omega (arith, least, most, last)
+
+    place : code_of_3 b c d ≡ 0x1E00 + k
+    place = omega (arith, lead, least, most, last)
+
 -- In bytes
 
-pub first-spells : (bytes : List ℕ) (i : ℕ) → is_first bytes i ≡ true → (i < 63) × (spells (get_or bytes i 0) (get_or bytes (i + 1) 0) ≡ true)
-first-spells bytes i is = (let both = and_parts (nat_lt i 63) (spells (get_or bytes i 0) (get_or bytes (i + 1) 0)) is in (ltb-true i 63 both.0, both.1))
-
 pub first-letter : (bytes : List ℕ) (i : ℕ) → ((j : ℕ) → get_or bytes j 0 < 256) → is_first bytes i ≡ true → IsLetter (get_or bytes i 0) (get_or bytes (i + 1) 0)
-first-letter bytes i fit is = spelled (get_or bytes i 0) (get_or bytes (i + 1) 0) (fit i) (fit (i + 1)) (first-spells bytes i is).1
+first-letter bytes i fit is =
+    spelled (get_or bytes i 0) (get_or bytes (i + 1) 0) (fit i) (fit (i + 1)) (and_parts (nat_lt i 63) (spells (get_or bytes i 0) (get_or bytes (i + 1) 0)) is).1
 
-pub second-next : (bytes : List ℕ) (i : ℕ) → is_second bytes (i + 1) ≡ is_first bytes i
-second-next bytes i = ap (is_second bytes) (let e : i + 1 ≡ suc i = omega arith in e)
+pub long-letter : (bytes : List ℕ) (i : ℕ) → is_long bytes i ≡ true → (i < 62) × IsLong (get_or bytes i 0) (get_or bytes (i + 1) 0) (get_or bytes (i + 2) 0)
+long-letter bytes i is =
+    let both = and_parts (nat_lt i 62) (spells_long (get_or bytes i 0) (get_or bytes (i + 1) 0) (get_or bytes (i + 2) 0)) is in
+    (ltb-true i 62 both.0, long-spelled (get_or bytes i 0) (get_or bytes (i + 1) 0) (get_or bytes (i + 2) 0) both.1)
 
--- a byte below 128 is neither
-pub low-first : (bytes : List ℕ) (i : ℕ) → ((j : ℕ) → get_or bytes j 0 < 256) → get_or bytes i 0 < 128 → is_first bytes i ≡ false
-low-first bytes i fit low = unless (is_first bytes i) (λ is. (let least = (first-letter bytes i fit is).least in omega arith))
+-- of the next byte
+pub inner-next : (bytes : List ℕ) (i : ℕ) → is_inner bytes (i + 1) ≡ is_open bytes i
+inner-next bytes i = ap (is_inner bytes) (let e : i + 1 ≡ suc i = omega arith in e)
 
-pub low-second : (bytes : List ℕ) (i : ℕ) → ((j : ℕ) → get_or bytes j 0 < 256) → get_or bytes i 0 < 128 → is_second bytes i ≡ false
-low-second bytes zero fit low = refl
-low-second bytes (suc i) fit low = unless (is_first bytes i) (λ is.
-    let next = (first-letter bytes i fit is).next in
+pub middle-next : (bytes : List ℕ) (i : ℕ) → is_middle bytes (i + 1) ≡ is_long bytes i
+middle-next bytes i = ap (is_middle bytes) (let e : i + 1 ≡ suc i = omega arith in e)
+
+-- by what begins at a byte: a letter of two bytes, one of three, or neither
+pub size-is : (bytes : List ℕ) (i : ℕ) (first long : Bool) → is_first bytes i ≡ first → is_long bytes i ≡ long → size_at bytes i ≡ cond first 2 (cond long 3 1)
+size-is bytes i first long first_is long_is = ap₂ (λ x y. cond x 2 (cond y 3 1)) first_is long_is
+
+pub by_letter : {X : Type 0} (bytes : List ℕ) (i : ℕ) → (is_first bytes i ≡ true → size_at bytes i ≡ 2 → X) → (is_first bytes i ≡ false → is_long bytes i ≡ true → size_at bytes i ≡ 3 → X)
+    → (is_first bytes i ≡ false → is_long bytes i ≡ false → size_at bytes i ≡ 1 → X) → X
+by_letter {X} bytes i two three one = by (is_first bytes i) (is_long bytes i) refl refl
+  where
+    by : (first long : Bool) → is_first bytes i ≡ first → is_long bytes i ≡ long → X
+    by true long first_is long_is = two first_is (size-is bytes i true long first_is long_is)
+    by false true first_is long_is = three first_is long_is (size-is bytes i false true first_is long_is)
+    by false false first_is long_is = one first_is long_is (size-is bytes i false false first_is long_is)
+
+-- what is open
+pub first-open : (bytes : List ℕ) (i : ℕ) → is_first bytes i ≡ true → is_open bytes i ≡ true
+first-open bytes i is = ap (λ b. (b || is_long bytes i) || is_middle bytes i) is
+
+pub long-open : (bytes : List ℕ) (i : ℕ) → is_long bytes i ≡ true → is_open bytes i ≡ true
+long-open bytes i is = ap (λ b. (is_first bytes i || b) || is_middle bytes i) is ∙ ap (λ b. b || is_middle bytes i) (or-true (is_first bytes i))
+
+pub middle-open : (bytes : List ℕ) (i : ℕ) → is_long bytes i ≡ true → is_open bytes (i + 1) ≡ true
+middle-open bytes i is =
+    ap (λ b. (is_first bytes (i + 1) || is_long bytes (i + 1)) || b) (middle-next bytes i ∙ is) ∙ or-true (is_first bytes (i + 1) || is_long bytes (i + 1))
+
+-- by what it is
+pub record IsOpen (bytes : List ℕ) (i : ℕ) : Type 0 where
+  pub wide : 128 ≤ get_or bytes i 0
+  pub next : (128 ≤ get_or bytes (i + 1) 0) × (get_or bytes (i + 1) 0 < 192)
+
+middle-is : (bytes : List ℕ) (i : ℕ) → is_middle bytes i ≡ true → IsOpen bytes i
+middle-is bytes zero is = absurd (let never : ⊥ = cc in never)
+middle-is bytes (suc i) is =
+    let long = (long-letter bytes i is).1 in
+    let here = ap (λ n. get_or bytes n 0) (let e : i + 1 ≡ suc i = omega arith in e) in
+    let behind = ap (λ n. get_or bytes n 0) (let e : i + 2 ≡ suc i + 1 = omega arith in e) in
+    let next = long.next in
+    let last = long.last in
+    record { wide = omega (arith, here, next); next = (omega (arith, behind, last), omega (arith, behind, last)) }
+
+pub open-is : (bytes : List ℕ) (i : ℕ) → ((j : ℕ) → get_or bytes j 0 < 256) → is_open bytes i ≡ true → IsOpen bytes i
+open-is bytes i fit is = by_letter bytes i
+    (λ first size.
+    let letter = first-letter bytes i fit first in
+    let least = letter.least in
+    record { wide = omega (arith, least); next = letter.next })
+    (λ none long size.
+    let letter = (long-letter bytes i long).1 in
+    let lead = letter.lead in
+    record { wide = omega (arith, lead); next = letter.next })
+    (λ none other size. middle-is bytes i (sym (ap₂ (λ x y. (x || y) || is_middle bytes i) none other) ∙ is))
+
+inner-is : (bytes : List ℕ) (i : ℕ) → ((j : ℕ) → get_or bytes j 0 < 256) → is_inner bytes i ≡ true → (128 ≤ get_or bytes i 0) × (get_or bytes i 0 < 192)
+inner-is bytes zero fit is = absurd (let never : ⊥ = cc in never)
+inner-is bytes (suc i) fit is =
+    let next = (open-is bytes i fit is).next in
     let same = ap (λ n. get_or bytes n 0) (let e : i + 1 ≡ suc i = omega arith in e) in
-    omega (arith, next, same))
+    (omega (arith, next, same), omega (arith, next, same))
 
--- no second byte is a first one
-pub first-alone : (bytes : List ℕ) (i : ℕ) → ((j : ℕ) → get_or bytes j 0 < 256) → is_first bytes i ≡ true → is_first bytes (i + 1) ≡ false
-first-alone bytes i fit is = unless (is_first bytes (i + 1)) (λ other.
-    let next = (first-letter bytes i fit is).next in
-    let least = (first-letter bytes (i + 1) fit other).least in
-    omega (arith, next))
+-- a byte below 128 is of no such letter
+pub low-open : (bytes : List ℕ) (i : ℕ) → ((j : ℕ) → get_or bytes j 0 < 256) → get_or bytes i 0 < 128 → is_open bytes i ≡ false
+low-open bytes i fit low = unless (is_open bytes i) (λ is. (let wide = (open-is bytes i fit is).wide in omega arith))
+
+pub low-inner : (bytes : List ℕ) (i : ℕ) → ((j : ℕ) → get_or bytes j 0 < 256) → get_or bytes i 0 < 128 → is_inner bytes i ≡ false
+low-inner bytes i fit low = unless (is_inner bytes i) (λ is. (let least = (inner-is bytes i fit is).0 in omega arith))
+
+-- and begins none
+pub not-open : (bytes : List ℕ) (i : ℕ) → is_open bytes i ≡ false → (is_first bytes i ≡ false) × (is_long bytes i ≡ false)
+not-open bytes i none = or_parts (is_first bytes i) (is_long bytes i) (or_parts (is_first bytes i || is_long bytes i) (is_middle bytes i) none).0
+
+-- a byte that begins a letter goes on with none
+pub middle-inner : (bytes : List ℕ) (i : ℕ) → is_inner bytes i ≡ false → is_middle bytes i ≡ false
+middle-inner bytes zero none = refl
+middle-inner bytes (suc i) none = (not-open bytes i none).1
+
+-- nor does one that goes on with a letter begin one
+last-closed : (bytes : List ℕ) (i : ℕ) → ((j : ℕ) → get_or bytes j 0 < 256) → get_or bytes i 0 < 192 → is_middle bytes i ≡ false → is_open bytes i ≡ false
+last-closed bytes i fit few none =
+    let first = unless (is_first bytes i) (λ is. (let least = (first-letter bytes i fit is).least in omega arith)) in
+    let long = unless (is_long bytes i) (λ is. (let lead = (long-letter bytes i is).1.lead in omega arith)) in
+    ap₂ (λ x y. (x || y) || is_middle bytes i) first long ∙ none
+
+-- the byte behind a scalar goes on with no letter
+pub next-starts : (bytes : List ℕ) (i : ℕ) → ((j : ℕ) → get_or bytes j 0 < 256) → is_inner bytes i ≡ false → is_inner bytes (i + size_at bytes i) ≡ false
+next-starts bytes i fit starts = by_letter bytes i
+    (λ first size.
+    let letter = first-letter bytes i fit first in
+    let none = unless (is_long bytes i) (λ is. (let lead = (long-letter bytes i is).1.lead in let most = letter.most in omega arith)) in
+    closed (i + 1) (omega (arith, size)) (last-closed bytes (i + 1) fit letter.next.1 (middle-next bytes i ∙ none)))
+    (λ none long size.
+    let letter = (long-letter bytes i long).1 in
+    let other = unless (is_long bytes (i + 1)) (λ is. (let lead = (long-letter bytes (i + 1) is).1.lead in let next = letter.next in omega (arith, next))) in
+    closed (i + 2) (omega (arith, size))
+    (last-closed bytes (i + 2) fit letter.last.1
+    (ap (is_middle bytes) (let e : i + 2 ≡ i + 1 + 1 = omega arith in e) ∙ middle-next bytes (i + 1) ∙ other)))
+    (λ none other size. closed i (omega (arith, size)) (ap₂ (λ x y. (x || y) || is_middle bytes i) none other ∙ middle-inner bytes i starts))
+  where
+    -- by the last byte of the scalar
+    closed : (j : ℕ) → i + size_at bytes i ≡ j + 1 → is_open bytes j ≡ false → is_inner bytes (i + size_at bytes i) ≡ false
+    closed j place none = ap (is_inner bytes) place ∙ inner-next bytes j ∙ none
 
 -- what the bytes of letters are
-pub first-class : (bytes : List ℕ) (i : ℕ) → is_first bytes i ≡ true → class_at bytes i ≡ letter_class
-first-class bytes i is = ap (λ b. cond (b || is_second bytes i) letter_class (class_of (get_or bytes i 0))) is
+open-class : (bytes : List ℕ) (i : ℕ) → is_open bytes i ≡ true → class_at bytes i ≡ letter_class
+open-class bytes i is = ap (λ b. cond (b || is_inner bytes i) letter_class (class_of (get_or bytes i 0))) is
 
-pub second-class : (bytes : List ℕ) (i : ℕ) → is_second bytes i ≡ true → class_at bytes i ≡ letter_class
-second-class bytes i is =
-    ap (λ b. cond (is_first bytes i || b) letter_class (class_of (get_or bytes i 0))) is ∙ ap (λ b. cond b letter_class (class_of (get_or bytes i 0))) (or-true (is_first bytes i))
+pub inner-class : (bytes : List ℕ) (i : ℕ) → is_inner bytes i ≡ true → class_at bytes i ≡ letter_class
+inner-class bytes i is =
+    ap (λ b. cond (is_open bytes i || b) letter_class (class_of (get_or bytes i 0))) is ∙ ap (λ b. cond b letter_class (class_of (get_or bytes i 0))) (or-true (is_open bytes i))
+
+-- up to the byte behind one that is open
+open-classes : (bytes : List ℕ) (i j : ℕ) → is_open bytes i ≡ true → i ≤ j → j ≤ i + 1 → class_at bytes j ≡ letter_class
+open-classes bytes i j is from upto = ⊎_elim
+    (λ (less : i < j). (let here : j ≡ i + 1 = omega arith in ap (class_at bytes) here ∙ inner-class bytes (i + 1) (inner-next bytes i ∙ is)))
+    (λ (most : j ≤ i). (let here : j ≡ i = omega arith in ap (class_at bytes) here ∙ open-class bytes i is))
+    (cases_lt i j)
+
+pub first-classes : (bytes : List ℕ) (i j : ℕ) → is_first bytes i ≡ true → i ≤ j → j < i + 2 → class_at bytes j ≡ letter_class
+first-classes bytes i j is from upto = open-classes bytes i j (first-open bytes i is) from (omega arith)
+
+pub long-classes : (bytes : List ℕ) (i j : ℕ) → is_long bytes i ≡ true → i ≤ j → j < i + 3 → class_at bytes j ≡ letter_class
+long-classes bytes i j is from upto = ⊎_elim
+    (λ (later : i < j). open-classes bytes (i + 1) j (middle-open bytes i is) (omega arith) (omega arith))
+    (λ (most : j ≤ i). open-classes bytes i j (long-open bytes i is) from (omega arith))
+    (cases_lt i j)
 
 pub low-class : (bytes : List ℕ) (i : ℕ) → ((j : ℕ) → get_or bytes j 0 < 256) → get_or bytes i 0 < 128 → class_at bytes i ≡ class_of (get_or bytes i 0)
 low-class bytes i fit low =
-    ap₂ (λ a b. cond (a || b) letter_class (class_of (get_or bytes i 0))) (low-first bytes i fit low) (low-second bytes i fit low)
+    ap₂ (λ a b. cond (a || b) letter_class (class_of (get_or bytes i 0))) (low-open bytes i fit low) (low-inner bytes i fit low)

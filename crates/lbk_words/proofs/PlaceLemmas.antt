@@ -7,7 +7,7 @@ use Rattle.lbk_words.specs.declared.blocks.TheConstants.{HALVES}
 use Rattle.lbk_words.specs.Blocks.{class_at, class_of, is_either, letter_class}
 use Rattle.lbk_words.proofs.Booleans.{or-false, or_parts}
 use Rattle.lbk_words.proofs.EdgeLemmas.{is-classed}
-use Rattle.lbk_words.proofs.LetterLemmas.{low-first, low-second, or-true}
+use Rattle.lbk_words.proofs.LetterLemmas.{low-open, low-inner, or-true}
 
 pub record IsPlaced (bytes : List ℕ) (i : ℕ) : Type 0 where
   pub letter : (is_in HALVES 3 (get_or bytes i 0) || is_either bytes i) ≡ (class_at bytes i).letter
@@ -36,7 +36,7 @@ is-placed bytes i fit = by (is_either bytes i) refl
     wide : is_either bytes i ≡ true → 128 ≤ b
     wide either = ⊎_elim
         (λ (low : b < 128).
-        absurd (let e : true ≡ false = sym either ∙ ap₂ (λ x y. x || y) (low-first bytes i fit low) (low-second bytes i fit low) in let never : ⊥ = cc in never))
+        absurd (let e : true ≡ false = sym either ∙ ap₂ (λ x y. x || y) (low-open bytes i fit low) (low-inner bytes i fit low) in let never : ⊥ = cc in never))
         (λ (high : 128 ≤ b). high)
         (cases_lt b 128)
 

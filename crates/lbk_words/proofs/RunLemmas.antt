@@ -52,13 +52,14 @@ joined-kinds : (text : List ℕ) (r : Reading) (p : ℕ) → IsCell text r p →
     → is_joined (r.class (r.end p - 1)) (r.class (r.end p)) (r.class (r.end p + 1)) ≡ is_joined (kind_class (kind r p)) (kind_class (kind r (r.end p))) (kind_class (kind r (r.end (r.end p))))
 joined-kinds text r p is next =
     let q = r.end p in
+    let grows = is.read.grows in
     ⊎_elim
     (λ (one : r.end q ≡ q + 1).
-    ap₂ (λ a b. is_joined a b (r.class (q + 1))) (is.last ∙ is.class) next.here.class
+    ap₂ (λ a b. is_joined a b (r.class (q + 1))) (is.same (q - 1) (omega arith) (omega arith) ∙ is.class) next.here.class
     ∙ ap (is_joined (kind_class (kind r p)) (kind_class (kind r q))) (ap r.class (sym one) ∙ next.ahead.class))
-    (λ (two : (r.end q ≡ q + 1 + 1) × (goes_on (r.class q) ≡ true)).
-    goes-joined (r.class (q - 1)) (r.class q) (r.class (q + 1)) two.1
-    ∙ sym (goes-joined (kind_class (kind r p)) (kind_class (kind r q)) (kind_class (kind r (r.end q))) (ap goes_on (sym next.here.class) ∙ two.1)))
+    (λ (more : goes_on (r.class q) ≡ true).
+    goes-joined (r.class (q - 1)) (r.class q) (r.class (q + 1)) more
+    ∙ sym (goes-joined (kind_class (kind r p)) (kind_class (kind r q)) (kind_class (kind r (r.end q))) (ap goes_on (sym next.here.class) ∙ more)))
     next.here.size
 
 run-end : (text : List ℕ) (r : Reading) (x p : ℕ) → IsCell text r p → AreCells text r (r.end p) → goes_on (r.class p) ≡ true

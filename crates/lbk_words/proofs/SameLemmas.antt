@@ -5,7 +5,7 @@ use Rattle.std.proofs.lemmas.List.{get_or-append_right, get_or-replicate, get_or
 use Rattle.lbk_masks.specs.Bits.{AreKeptBelow}
 use Rattle.lbk_masks.specs.Sets.{meets, sets_in}
 use Rattle.lbk_words.specs.declared.letter_table.TheConstants.{FIRSTS, SECONDS}
-use Rattle.lbk_words.specs.Blocks.{ArePlain, IsPlain, begins, begins_at, class_at, class_of, is_either, is_first, is_joined, is_second, letter_class, runs_at}
+use Rattle.lbk_words.specs.Blocks.{ArePlain, IsPlain, begins, begins_at, class_at, class_of, is_either, is_first, is_inner, is_joined, is_long, is_middle, is_open, letter_class, runs_at, size_at, spells_long}
 use Rattle.lbk_words.specs.Ends.{AreEnds, goes_on_at, is_pair}
 
 -- zeros behind some bytes
@@ -26,18 +26,33 @@ module _ (a b : List ℕ) (same : (i : ℕ) → get_or a i 0 ≡ get_or b i 0) w
   pub first-same : (i : ℕ) → is_first a i ≡ is_first b i
   first-same i = ap₂ (λ x y. nat_lt i 63 && meets (sets_in FIRSTS x) (sets_in SECONDS y)) (same i) (same (i + 1))
 
-  second-same : (i : ℕ) → is_second a i ≡ is_second b i
-  second-same zero = refl
-  second-same (suc i) = first-same i
+  long-same : (i : ℕ) → is_long a i ≡ is_long b i
+  long-same i =
+      ap₂ (λ x y. nat_lt i 62 && spells_long x y (get_or a (i + 2) 0)) (same i) (same (i + 1))
+      ∙ ap (λ z. nat_lt i 62 && spells_long (get_or b i 0) (get_or b (i + 1) 0) z) (same (i + 2))
+
+  middle-same : (i : ℕ) → is_middle a i ≡ is_middle b i
+  middle-same zero = refl
+  middle-same (suc i) = long-same i
+
+  open-same : (i : ℕ) → is_open a i ≡ is_open b i
+  open-same i = ap₂ (λ x y. x || y) (ap₂ (λ x y. x || y) (first-same i) (long-same i)) (middle-same i)
+
+  inner-same : (i : ℕ) → is_inner a i ≡ is_inner b i
+  inner-same zero = refl
+  inner-same (suc i) = open-same i
 
   either-same : (i : ℕ) → is_either a i ≡ is_either b i
-  either-same i = ap₂ (λ x y. x || y) (first-same i) (second-same i)
+  either-same i = ap₂ (λ x y. x || y) (open-same i) (inner-same i)
+
+  size-same : (i : ℕ) → size_at a i ≡ size_at b i
+  size-same i = ap₂ (λ x y. if x then 2 else if y then 3 else 1) (first-same i) (long-same i)
 
   class-same : (i : ℕ) → class_at a i ≡ class_at b i
   class-same i = ap₂ (λ e x. if e then letter_class else class_of x) (either-same i) (same i)
 
   begins-same : (i : ℕ) → begins_at a i ≡ begins_at b i
-  begins-same i = ap₂ (λ c s. begins c && not s) (class-same i) (second-same i)
+  begins-same i = ap₂ (λ c s. begins c && not s) (class-same i) (inner-same i)
 
   runs-same : (i : ℕ) → runs_at a i ≡ runs_at b i
   runs-same i =
@@ -52,8 +67,8 @@ module _ (a b : List ℕ) (same : (i : ℕ) → get_or a i 0 ≡ get_or b i 0) w
   plain-same : (i : ℕ) → ArePlain a i → ArePlain b i
   plain-same i are = record {
     here = plain-one i are.here;
-    next = plain-one (i + 1) are.next;
-    behind = λ first. let behind = are.behind (first-same i ∙ first) in (behind.0, plain-one (i + 2) behind.1);
+    inside = subst (λ n. i + n < 64) (size-same i) are.inside;
+    behind = subst (λ n. IsPlain b (i + n)) (size-same i) (plain-one (i + size_at a i) are.behind);
   }
 
   -- the ends before a byte

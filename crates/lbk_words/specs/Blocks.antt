@@ -1,13 +1,14 @@
--- Words among ASCII and letters of two bytes, as bytes and their neighbours tell them.
+-- Words among ASCII, letters of two bytes and U+1E00 to U+1EFF, as bytes and their neighbours tell them.
 use Rattle.std.specs.Prelude.{◌≡◌, ◌⊎◌, ℕ, zero, suc, ◌+◌, ◌-◌, ◌<◌, ◌≤◌, Bool, true, false, not, ◌&&◌, ◌||◌, ◌==◌}
 use Rattle.std.specs.Prelude.{nat_le, nat_lt, List, get_or, if◌then◌else◌}
+use Rattle.bstr.specs.Utf8.{continues}
 use Rattle.lbk_masks.specs.Sets.{is_set, meets, sets_in}
 use Rattle.lbk_words.specs.declared.letter_table.TheConstants.{FIRSTS, SECONDS}
 use Rattle.lbk_words.specs.declared.blocks.Marks.{Marks}
 use Rattle.lbk_words.specs.declared.blocks.Edges.{Edges}
 use Rattle.lbk_words.specs.declared.blocks.Wides.{Wides}
 
--- what a byte is to the rules WB5 to WB13b, where the bytes beside it are below 128 or of letters of two bytes
+-- what a byte is to the rules WB5 to WB13b, where the bytes beside it are below 128 or of such letters
 pub record Class : Type 0 where
   pub letter : Bool
   pub digit : Bool
@@ -42,12 +43,35 @@ is_joined before c after = goes_on c || ((c.mid_letter && (before.letter && afte
 abbrev pub is_first : List ℕ → ℕ → Bool
 is_first bytes i = nat_lt i 63 && meets (sets_in FIRSTS (get_or bytes i 0)) (sets_in SECONDS (get_or bytes (i + 1) 0))
 
-abbrev pub is_second : List ℕ → ℕ → Bool
-is_second bytes zero = false
-is_second bytes (suc i) = is_first bytes i
+-- these bytes spell a letter of U+1E00 to U+1EFF
+abbrev pub spells_long : ℕ → ℕ → ℕ → Bool
+spells_long b c d = b == 0xE1 && ((nat_le 0xB8 c && nat_lt c 0xBC) && continues d)
 
+-- byte i of 64 and the next two do
+abbrev pub is_long : List ℕ → ℕ → Bool
+is_long bytes i = nat_lt i 62 && spells_long (get_or bytes i 0) (get_or bytes (i + 1) 0) (get_or bytes (i + 2) 0)
+
+-- byte i is the one between them
+abbrev pub is_middle : List ℕ → ℕ → Bool
+is_middle bytes zero = false
+is_middle bytes (suc i) = is_long bytes i
+
+-- byte i is of a letter that goes on with the next one
+abbrev pub is_open : List ℕ → ℕ → Bool
+is_open bytes i = (is_first bytes i || is_long bytes i) || is_middle bytes i
+
+-- byte i goes on with a letter that began before it
+abbrev pub is_inner : List ℕ → ℕ → Bool
+is_inner bytes zero = false
+is_inner bytes (suc i) = is_open bytes i
+
+-- byte i is of a letter, as these are
 abbrev pub is_either : List ℕ → ℕ → Bool
-is_either bytes i = is_first bytes i || is_second bytes i
+is_either bytes i = is_open bytes i || is_inner bytes i
+
+-- how many bytes a scalar has that begins at byte i
+abbrev pub size_at : List ℕ → ℕ → ℕ
+size_at bytes i = if is_first bytes i then 2 else if is_long bytes i then 3 else 1
 
 abbrev pub letter_class : Class
 letter_class = record { letter = true; digit = false; low_line = false; mid_letter = false; mid_digit = false }
@@ -57,26 +81,26 @@ class_at bytes i = if is_either bytes i then letter_class else class_of (get_or 
 
 -- a letter or a digit begins at a byte
 abbrev pub begins_at : List ℕ → ℕ → Bool
-begins_at bytes i = begins (class_at bytes i) && not (is_second bytes i)
+begins_at bytes i = begins (class_at bytes i) && not (is_inner bytes i)
 
 -- a byte is of a run
 abbrev pub runs_at : List ℕ → ℕ → Bool
 runs_at bytes i = is_joined (class_at bytes (i - 1)) (class_at bytes i) (class_at bytes (i + 1))
 
--- a byte is below 128, or of a letter of two bytes
+-- a byte is below 128, or of a letter
 abbrev pub IsPlain : List ℕ → ℕ → Type 0
 IsPlain bytes i = (get_or bytes i 0 < 128) ⊎ (is_either bytes i ≡ true)
 
 -- so are a byte, and what is behind its scalar
 pub record ArePlain (bytes : List ℕ) (i : ℕ) : Type 0 where
   pub here : IsPlain bytes i
-  pub next : IsPlain bytes (i + 1)
-  pub behind : is_first bytes i ≡ true → (i + 2 < 64) × IsPlain bytes (i + 2)
+  pub inside : i + size_at bytes i < 64
+  pub behind : IsPlain bytes (i + size_at bytes i)
 
 -- this is what is known of the first 64 bytes from 128 on
 pub record AreWides (bytes : List ℕ) (wides : Wides) : Type 0 where
   pub letters : (i : ℕ) → i < 64 → is_set wides.letters i ≡ is_either bytes i
-  pub seconds : (i : ℕ) → i < 64 → is_set wides.seconds i ≡ is_second bytes i
+  pub inner : (i : ℕ) → i < 64 → is_set wides.inner i ≡ is_inner bytes i
   pub plain : (i : ℕ) → i < 63 → is_set wides.stops i ≡ false → ArePlain bytes i
   pub ends : is_set wides.stops 63 ≡ true
 

@@ -1,8 +1,9 @@
-//! Words among ASCII and letters of two bytes, found by bits of 64 bytes at a time.
+//! Words among ASCII, letters of two bytes and those of Latin Extended Additional (U+1E00 to U+1EFF, three bytes), found
+//! by bits of 64 bytes at a time.
 
-ghost use Rattle.std.specs.Prelude.{◌≡◌, ◌⊎◌, ℕ, ◌+◌, ◌-◌, ◌<◌, ◌≤◌, ◌^◌, ◌&&◌, List, drop, length, nat_lt};
+ghost use Rattle.std.specs.Prelude.{◌≡◌, ◌⊎◌, ℕ, ◌+◌, ◌-◌, ◌<◌, ◌≤◌, ◌^◌, ◌&&◌, List, drop, length, nat_lt, true};
 ghost use Rattle.lbk_masks.specs.Sets.{is_set};
-ghost use Rattle.lbk_words.specs.Blocks.{AreEdges, AreMarks, AreWides};
+ghost use Rattle.lbk_words.specs.Blocks.{AreEdges, AreMarks, AreWides, is_long};
 ghost use Rattle.lbk_words.specs.Filling.{FillsOn, IsFilled};
 
 use crate::letter_table::{FIRSTS, SECONDS};
@@ -16,8 +17,9 @@ pub(crate) const BLOCK: usize = 64;
 /// The last of them, whose next byte is not looked at.
 const LAST: usize = 63;
 
-/// The first byte that may be left to steps for the last one: the letter before a letter that the block's end cuts.
-const NEAR_LAST: usize = 61;
+/// The first byte that may be left to steps for the last one: the letter before a letter that the block's end cuts, where
+/// both have three bytes.
+const NEAR_LAST: usize = 59;
 
 /// Where more of 64 bytes than this are left to steps, a block costs more than it saves.
 const MANY: u32 = 20;
@@ -50,15 +52,27 @@ const MID_LETTERS: u8 = 80;
 
 const MID_DIGITS: u8 = 176;
 
+/// The first byte of the letters U+1E00 to U+1EFF.
+const LATIN_LEAD: u8 = 0xE1;
+
+/// The sets of the bytes that follow it in these letters.
+const TAILS: HalfSets = HalfSets {
+    low: [2, 2, 2, 2, 2, 2, 2, 2, 3, 3, 3, 3, 2, 2, 2, 2],
+    high: [0, 0, 0, 0, 0, 0, 0, 0, 2, 2, 2, 3, 0, 0, 0, 0],
+};
+
+const MIDDLES: u8 = 1;
+
+const LASTS: u8 = 2;
+
 /// What is known of those of 64 bytes that are from 128 on, a bit each.
 #[derive(Clone, Copy)]
 pub(crate) struct Wides {
-    /// Which are of letters of two bytes.
+    /// Which are of letters of two bytes, or of U+1E00 to U+1EFF.
     pub(crate) letters: u64,
-    /// Which are the second of these.
-    pub(crate) seconds: u64,
-    /// Which are left to steps: strays, which are of no letter of two bytes, the last byte, and what is before one of
-    /// these.
+    /// Which of these go on with a letter that began before them.
+    pub(crate) inner: u64,
+    /// Which are left to steps: strays, which are of no such letter, the last byte, and what is before one of these.
     pub(crate) stops: u64,
 }
 
@@ -92,20 +106,44 @@ pub(crate) fn wides_of(bytes: &[u8]) -> Wides
     if wide == 0 {
         return Wides {
             letters: 0,
-            seconds: 0,
+            inner: 0,
             stops: 1 << LAST,
         };
     }
     let firsts = FIRSTS.pairs(&SECONDS, bytes);
-    let seconds = firsts << 1;
-    let letters = firsts | seconds;
+    let longs = longs_among(wide & !(firsts | (firsts << 1)), bytes);
+    // Those whose letter goes on with the next byte.
+    let opens = (firsts | longs) | (longs << 1);
+    let inner = opens << 1;
+    let letters = opens | inner;
     let strays = wide & !letters;
     let near = strays | (strays >> 1) | (1 << LAST);
+    let cut = near | (opens & (near >> 1));
     Wides {
         letters,
-        seconds,
-        stops: near | (firsts & (near >> 1)),
+        inner,
+        stops: cut | (longs & (cut >> 1)),
     }
+}
+
+/// Which of the first 64 bytes begin one of the letters U+1E00 to U+1EFF. `others`: those from 128 on that are of no letter
+/// of two bytes.
+#[inline(always)]
+fn longs_among(others: u64, bytes: &[u8]) -> u64
+    requires length { 64 ≤ length bytes.now }
+    requires others { (i : ℕ) → i < 64 → is_long bytes.now i ≡ true → is_set others i ≡ true }
+    ensures { (i : ℕ) → i < 64 → is_set result i ≡ is_long bytes.now i }
+{
+    if others == 0 {
+        return 0;
+    }
+    let leads = equal(LATIN_LEAD, bytes);
+    // Most text has no such byte.
+    if leads == 0 {
+        return 0;
+    }
+    let tails = TAILS.members(MIDDLES, bytes) & (TAILS.members(LASTS, bytes) >> 1);
+    leads & (tails >> 1)
 }
 
 /// The marks of the first 64 bytes, those from the byte `N` on as for `ends_in`.
@@ -122,7 +160,7 @@ pub(crate) fn marks_of<const N: usize>(bytes: &[u8], wides: Wides) -> Marks
     let mid_digits = between(HALVES.members(MID_DIGITS, bytes), digits);
     Marks {
         runs: letters | digits | low_lines | (mid_letters | mid_digits),
-        begins: (letters | digits) & !wides.seconds,
+        begins: (letters | digits) & !wides.inner,
         stops: wides.stops,
     }
 }

@@ -21,11 +21,19 @@ const FEW: usize = 3;
 /// The first byte value with which few letters of two bytes begin, or longer ones do.
 const LONG: u8 = 0xDC;
 
-/// How far a text is looked at for a scalar of three bytes or more, near which steps tell ends as fast as bits do.
+/// How far a text is looked at for a scalar of three bytes or more, but U+1E00 to U+1EFF, near which steps tell ends as
+/// fast as bits do.
 const SOON: usize = 20;
 
 /// The top bit of each of eight bytes.
 const TOPS: u64 = 0x8080_8080_8080_8080;
+
+/// The first two bytes of the letters U+1E00 to U+1EFF (E1, and B8 to BB), the first the lowest, as far as these have the
+/// same bits.
+const LETTER: u64 = 0xB8E1;
+
+/// The bits that these have in common, of eight bytes.
+const LETTER_BITS: u64 = 0xFCFF;
 
 /// How far the parts of a text were read.
 #[derive(Clone, Copy)]
@@ -228,8 +236,8 @@ fn taken<S: PartSlot>(here: Reading, noted: Noted, out: &mut [S]) -> Reading
 }
 
 /// Where the next parts of a text end, from a boundary on, as far as bits tell it: a bit for each byte from there on, the
-/// lowest for the first, and none set where they tell nothing. They tell little where a scalar of three bytes or more
-/// comes, or a few bytes are left.
+/// lowest for the first, and none set where they tell nothing. They tell little where a scalar of three bytes or more,
+/// but U+1E00 to U+1EFF, comes, or a few bytes are left.
 #[inline(always)]
 pub fn ends_from(text: &[u8], start: usize) -> u64
     requires { start < length text.now }
@@ -285,9 +293,10 @@ fn may_tell(bytes: &[u8]) -> bool {
     is_usual(*first) && (0x80 <= *first || is_usual(bytes[1])) && !is_long_soon(bytes)
 }
 
-/// Whether a scalar of three bytes or more begins soon in some bytes: in the first eight, or further on in the first 20,
-/// where there are so many, if those before it seem to be of one byte each. One that begins behind the first two of eight
-/// holds the fifth or the eighth, so most text of one byte a scalar needs one test for six bytes.
+/// Whether a scalar of three bytes or more, but U+1E00 to U+1EFF, begins soon in some bytes: in the first eight, or
+/// further on in the first 20, where there are so many, if those before it seem to be of one byte each. One that begins
+/// behind the first two of eight holds the fifth or the eighth, so most text of one byte a scalar needs one test for six
+/// bytes.
 #[inline(always)]
 fn is_long_soon(bytes: &[u8]) -> bool {
     if bytes.len() < 8 {
@@ -309,7 +318,7 @@ fn is_long_soon(bytes: &[u8]) -> bool {
     false
 }
 
-/// Whether such a scalar begins in the first eight bytes.
+/// Whether such a scalar begins in the first eight bytes, and before the first of U+1E00 to U+1EFF.
 #[inline(always)]
 fn is_long_in(bytes: &[u8]) -> bool
     requires { 8 ≤ length bytes.now }
@@ -317,7 +326,13 @@ fn is_long_in(bytes: &[u8]) -> bool
     let front = u64::from_le_bytes([
         bytes[0], bytes[1], bytes[2], bytes[3], bytes[4], bytes[5], bytes[6], bytes[7],
     ]);
-    front & (front << 1) & (front << 2) & TOPS != 0
+    let longs = front & (front << 1) & (front << 2) & TOPS;
+    if longs == 0 {
+        return false;
+    }
+    // (a byte has eight bits)
+    let first = first_set(longs) / 8 * 8;
+    (front >> first) & LETTER_BITS != LETTER
 }
 
 /// Whether a byte is below 128, or one with which most letters of two bytes begin.

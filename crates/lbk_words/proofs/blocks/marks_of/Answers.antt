@@ -32,9 +32,9 @@ returns g c =
           ∙ ap₂ (λ a b. a || b) (set-or letters digits i ∙ ap₂ (λ a b. a || b) (letter i (omega arith)) (digit i (omega arith))) (low i (omega arith)))
           (set-or c.between-mid_letters.result c.between-mid_digits.result i ∙ ap₂ (λ a b. a || b) (mid_letter i few) (mid_digit i few));
       begins = λ i few.
-          set-and (bit_or letters digits) (bit_not w64 c.args.wides.seconds) i
+          set-and (bit_or letters digits) (bit_not w64 c.args.wides.inner) i
           ∙ ap₂ (λ a b. a && b) (set-or letters digits i ∙ ap₂ (λ a b. a || b) (letter i (omega arith)) (digit i (omega arith)))
-          (set-not c.args.wides.seconds i (omega arith) (omega arith) ∙ ap not (c.requires.wides.seconds i (omega arith)));
+          (set-not c.args.wides.inner i (omega arith) (omega arith) ∙ ap not (c.requires.wides.inner i (omega arith)));
       plain = c.requires.wides.plain;
       ends = c.requires.wides.ends;
       fit = fit;

@@ -1,23 +1,23 @@
-use Rattle.std.proofs.Common.{◌≡◌, inl, inr, ℕ, zero, suc, ◌+◌, ◌-◌, ◌*◌, ◌/◌, ◌%◌, ◌^◌, ◌<◌, ◌≤◌, ◌&&◌, ◌||◌, Bool, true, false, not, get_or, nat_le, nat_lt, bit_and, bit_or, leb-false, refl, sym, ap, ap₂, subst, ◌∙◌, ⊎_elim, List, arith, w64}
+use Rattle.std.proofs.Common.{◌≡◌, inl, inr, ℕ, zero, suc, ◌+◌, ◌*◌, ◌/◌, ◌%◌, ◌^◌, ◌<◌, ◌≤◌, ◌&&◌, ◌||◌, Bool, true, false, not, get_or, nat_le, bit_and, bit_or, leb-false, refl, sym, ap, ap₂, subst, ◌∙◌, ⊎_elim, List, arith, w64}
 use Rattle.std.specs.Int.{bit_not}
-use Rattle.std.proofs.lemmas.Bool.{cases_lt, lt-ltb}
+use Rattle.std.proofs.lemmas.Bool.{cases_lt}
 use Rattle.std.proofs.lemmas.Nat.{or_lt}
-use Rattle.lbk_masks.proofs.BitLemmas.{set-and, set-none, set-not, set-or}
+use Rattle.lbk_masks.proofs.BitLemmas.{set-and, set-none, set-not, set-or, set-up, set-up-first}
 use Rattle.lbk_masks.specs.Sets.{is_set}
-use Rattle.lbk_words.specs.Blocks.{IsPlain, is_either, is_first, is_second}
-use Rattle.lbk_words.proofs.Booleans.{or_parts}
-use Rattle.lbk_words.proofs.EdgeLemmas.{not-false, set-after, set-before}
-use Rattle.lbk_words.proofs.LetterLemmas.{low-first, low-second, or-true}
+use Rattle.lbk_words.specs.Blocks.{ArePlain, IsPlain, is_either, is_first, is_inner, is_long, is_middle, is_open, size_at}
+use Rattle.lbk_words.proofs.Booleans.{or_parts, unless}
+use Rattle.lbk_words.proofs.EdgeLemmas.{not-false, set-after}
+use Rattle.lbk_words.proofs.LetterLemmas.{by_letter, first-letter, first-open, long-letter, low-inner, low-open, middle-open, not-open, or-true, size-is}
 use Rattle.lbk_words.proofs.blocks.wides_of.Goals as goal
 
 below-wide : (byte : ℕ) → nat_le 128 byte ≡ false → byte < 128
 below-wide byte none = leb-false 128 byte none
 
--- the bits a place up are those of the second bytes
-behind : (bytes : List ℕ) (firsts i : ℕ) → i < 64 → ((j : ℕ) → j < 64 → is_set firsts j ≡ is_first bytes j) → (nat_lt 0 i && is_set firsts (i - 1)) ≡ is_second bytes i
-behind bytes firsts zero few is = refl
-behind bytes firsts (suc i) few is =
-    ap (λ b. b && is_set firsts (suc i - 1)) (lt-ltb 0 (suc i) (omega arith)) ∙ is (suc i - 1) (omega arith) ∙ ap (is_first bytes) (let e : suc i - 1 ≡ i = omega arith in e)
+-- the bits a place up are those of the bytes behind
+raised : (was is : ℕ → Bool) (bits i : ℕ) → i < 64 → ((j : ℕ) → j < 64 → is_set bits j ≡ was j) → is 0 ≡ false → ((j : ℕ) → is (suc j) ≡ was j)
+    → is_set (bits * 2 ^ 1 % 2 ^ 64) i ≡ is i
+raised was is bits zero few are none next = set-up-first bits ∙ sym none
+raised was is bits (suc i) few are none next = set-up bits i few ∙ are i (omega arith) ∙ sym (next i)
 
 no-stray : (bytes : List ℕ) (i : ℕ) → (nat_le 128 (get_or bytes i 0) && not (is_either bytes i)) ≡ false → IsPlain bytes i
 no-stray bytes i none = by (nat_le 128 (get_or bytes i 0)) refl
@@ -33,30 +33,76 @@ returns-then-wide-eq0 c =
     let fit : (i : ℕ) → get_or bytes i 0 < 256 = λ i. (c.type_inv.bytes i).fits in
     let low : (i : ℕ) → i < 64 → get_or bytes i 0 < 128 =
     λ i few. below-wide (get_or bytes i 0) (sym (c.wide-wide.ensures i few) ∙ ap (λ n. is_set n i) c.if-wide-eq0.true ∙ set-none i) in
+    let closed : (i : ℕ) → i < 64 → is_open bytes i ≡ false = λ i few. low-open bytes i fit (low i few) in
     record {
-      letters = λ i few. set-none i ∙ sym (ap₂ (λ a b. a || b) (low-first bytes i fit (low i few)) (low-second bytes i fit (low i few)));
-      seconds = λ i few. set-none i ∙ sym (low-second bytes i fit (low i few));
-      plain = λ i few none. record {
-        here = inl (low i (omega arith));
-        next = inl (low (i + 1) (omega arith));
-        behind = λ first. absurd (let e : true ≡ false = sym first ∙ low-first bytes i fit (low i (omega arith)) in let never : ⊥ = cc in never);
-      };
+      letters = λ i few. set-none i ∙ sym (ap₂ (λ a b. a || b) (closed i few) (low-inner bytes i fit (low i few)));
+      inner = λ i few. set-none i ∙ sym (low-inner bytes i fit (low i few));
+      plain = λ i few none.
+          let begins = not-open bytes i (closed i (omega arith)) in
+          let size = size-is bytes i false false begins.0 begins.1 in
+          record {
+            here = inl (low i (omega arith));
+            inside = omega (arith, size);
+            behind = inl (low (i + size_at bytes i) (omega (arith, size)));
+          };
       ends = refl;
     }
+
+-- a letter of three bytes is of none of two
+first-none : (bytes : List ℕ) (i : ℕ) → ((j : ℕ) → get_or bytes j 0 < 256) → is_long bytes i ≡ true → is_first bytes i ≡ false
+first-none bytes i fit long = unless (is_first bytes i) (λ is.
+    let lead = (long-letter bytes i long).1.lead in
+    let most = (first-letter bytes i fit is).most in
+    omega (arith, lead))
+
+abbrev is_behind : List ℕ → ℕ → Bool
+is_behind bytes zero = false
+is_behind bytes (suc i) = is_first bytes i
+
+behind-none : (bytes : List ℕ) (i : ℕ) → ((j : ℕ) → get_or bytes j 0 < 256) → is_long bytes i ≡ true → is_behind bytes i ≡ false
+behind-none bytes zero fit long = refl
+behind-none bytes (suc i) fit long = unless (is_first bytes i) (λ is.
+    let lead = (long-letter bytes (suc i) long).1.lead in
+    let next = (first-letter bytes i fit is).next in
+    let same = ap (λ n. get_or bytes n 0) (let e : i + 1 ≡ suc i = omega arith in e) in
+    omega (arith, lead, next, same))
+
+pub longs_among-longs-requires-clause-others : goal.longs_among-longs-requires-clause-others
+longs_among-longs-requires-clause-others c = λ i few is.
+    let bytes = c.args.bytes.now in
+    let fit : (i : ℕ) → get_or bytes i 0 < 256 = λ i. (c.type_inv.bytes i).fits in
+    let firsts = c.pairs-firsts.result in
+    let seconds = firsts * 2 ^ 1 % 2 ^ 64 in
+    let two = bit_or firsts seconds in
+    let wide : is_set c.wide-wide.result i ≡ true = c.wide-wide.ensures i few ∙ ap (nat_le 128) (long-letter bytes i is).1.lead in
+    let none : is_set two i ≡ false =
+    set-or firsts seconds i
+    ∙ ap₂ (λ a b. a || b) (c.pairs-firsts.ensures i few ∙ first-none bytes i fit is)
+    (raised (is_first bytes) (is_behind bytes) firsts i few c.pairs-firsts.ensures refl (λ j. refl) ∙ behind-none bytes i fit is) in
+    set-and c.wide-wide.result (bit_not w64 two) i
+    ∙ ap₂ (λ a b. a && b) wide (set-not two i (or_lt 64 firsts seconds (omega arith) (omega arith)) few ∙ ap not none)
 
 pub returns : goal.returns
 returns c =
     let bytes = c.args.bytes.now in
     let firsts = c.pairs-firsts.result in
-    let seconds = firsts * 2 ^ 1 % 2 ^ 64 in
-    let letters = bit_or firsts seconds in
+    let longs = c.longs_among-longs.result in
+    let middles = longs * 2 ^ 1 % 2 ^ 64 in
+    let opens = bit_or (bit_or firsts longs) middles in
+    let inner = opens * 2 ^ 1 % 2 ^ 64 in
+    let letters = bit_or opens inner in
     let wide = c.wide-wide.result in
     let strays = bit_and wide (bit_not w64 letters) in
     let near = bit_or (bit_or strays (strays / 2 ^ 1)) (2 ^ 63) in
-    let fits : letters < 2 ^ 64 = or_lt 64 firsts seconds (omega arith) (omega arith) in
-    let second : (i : ℕ) → i < 64 → is_set seconds i ≡ is_second bytes i = λ i few. set-before firsts i few ∙ behind bytes firsts i few c.pairs-firsts.ensures in
+    let cut = bit_or near (bit_and opens (near / 2 ^ 1)) in
+    let fits : letters < 2 ^ 64 = or_lt 64 opens inner (or_lt 64 (bit_or firsts longs) middles (or_lt 64 firsts longs (omega arith) (omega arith)) (omega arith)) (omega arith) in
+    let opened : (i : ℕ) → i < 64 → is_set opens i ≡ is_open bytes i =
+    λ i few. set-or (bit_or firsts longs) middles i
+    ∙ ap₂ (λ a b. a || b) (set-or firsts longs i ∙ ap₂ (λ a b. a || b) (c.pairs-firsts.ensures i few) (c.longs_among-longs.ensures i few))
+    (raised (is_long bytes) (is_middle bytes) longs i few c.longs_among-longs.ensures refl (λ j. refl)) in
+    let behind : (i : ℕ) → i < 64 → is_set inner i ≡ is_inner bytes i = λ i few. raised (is_open bytes) (is_inner bytes) opens i few opened refl (λ j. refl) in
     let either : (i : ℕ) → i < 64 → is_set letters i ≡ is_either bytes i =
-    λ i few. set-or firsts seconds i ∙ ap₂ (λ a b. a || b) (c.pairs-firsts.ensures i few) (second i few) in
+    λ i few. set-or opens inner i ∙ ap₂ (λ a b. a || b) (opened i few) (behind i few) in
     let plain : (i : ℕ) → i < 64 → is_set strays i ≡ false → IsPlain bytes i =
     λ i few none. no-stray bytes i
     (sym (set-and wide (bit_not w64 letters) i ∙ ap₂ (λ a b. a && b) (c.wide-wide.ensures i few) (set-not letters i fits few ∙ ap not (either i few))) ∙ none) in
@@ -64,29 +110,43 @@ returns c =
     λ i none.
     let last = or_parts _ _ (sym (set-or (bit_or strays (strays / 2 ^ 1)) (2 ^ 63) i) ∙ none) in
     let both = or_parts _ _ (sym (set-or strays (strays / 2 ^ 1) i) ∙ last.0) in (both.0, (sym (set-after strays i) ∙ both.1, last.1)) in
+    let uncut : (i : ℕ) → i < 64 → is_set cut i ≡ false → (is_set near i ≡ false) × (is_open bytes i ≡ true → is_set near (i + 1) ≡ false) =
+    λ i few none.
+    let both = or_parts _ _ (sym (set-or near (bit_and opens (near / 2 ^ 1)) i) ∙ none) in
+    (both.0, λ is. sym (set-and opens (near / 2 ^ 1) i ∙ ap₂ (λ a b. a && b) (opened i few ∙ is) (set-after near i)) ∙ both.1) in
     record {
       letters = either;
-      seconds = second;
+      inner = behind;
       plain = λ i few none.
-          let parts = or_parts _ _ (sym (set-or near (bit_and firsts (near / 2 ^ 1)) i) ∙ none) in
-          let here = apart i parts.0 in
+          let parts = or_parts _ _ (sym (set-or cut (bit_and longs (cut / 2 ^ 1)) i) ∙ none) in
+          let here = uncut i (omega arith) parts.0 in
+          let long_cut : is_long bytes i ≡ true → is_set cut (i + 1) ≡ false =
+          λ is. sym (set-and longs (cut / 2 ^ 1) i ∙ ap₂ (λ a b. a && b) (c.longs_among-longs.ensures i (omega arith) ∙ is) (set-after cut i)) ∙ parts.1 in
+          -- by the last byte of the scalar
+          let made : (j : ℕ) → i + size_at bytes i ≡ j + 1 → j < 64 → is_set near j ≡ false → ArePlain bytes i =
+          λ j place few_j near_none.
+          let next = apart j near_none in
+          let inside : j + 1 < 64 = ⊎_elim (λ (less : j + 1 < 64). less)
+          (λ (past : 64 ≤ j + 1).
+          let last : j ≡ 63 = omega arith in
+          absurd (let e : true ≡ false = sym (ap (is_set (2 ^ 63)) last) ∙ next.1.1 in let never : ⊥ = cc in never))
+          (cases_lt (j + 1) 64) in
           record {
-            here = plain i (omega arith) here.0;
-            next = plain (i + 1) (omega arith) here.1.0;
-            behind = λ first.
-                let next = apart (i + 1)
-                (sym (set-and firsts (near / 2 ^ 1) i
-                ∙ ap₂ (λ a b. a && b) (c.pairs-firsts.ensures i (omega arith) ∙ first) (set-after near i)) ∙ parts.1) in
-                let place : i + 1 + 1 ≡ i + 2 = omega arith in
-                let inside : i + 2 < 64 = ⊎_elim (λ (less : i + 2 < 64). less)
-                (λ (past : 64 ≤ i + 2).
-                let last : i + 1 ≡ 63 = omega arith in
-                absurd (let e : true ≡ false = sym (ap (is_set (2 ^ 63)) last) ∙ next.1.1 in let never : ⊥ = cc in never))
-                (cases_lt (i + 2) 64) in
-                (inside, subst (IsPlain bytes) place (plain (i + 1 + 1) (omega arith) next.1.0));
-          };
+            here = plain i (omega arith) (apart i here.0).0;
+            inside = omega (arith, place, inside);
+            behind = subst (IsPlain bytes) (sym place) (plain (j + 1) inside next.1.0);
+          } in
+          by_letter bytes i
+          (λ is size. made (i + 1) (omega (arith, size)) (omega arith) (here.1 (first-open bytes i is)))
+          (λ none is size.
+          let within = (long-letter bytes i is).0 in
+          made (i + 2) (omega (arith, size)) (omega arith)
+          (ap (is_set near) (let e : i + 2 ≡ i + 1 + 1 = omega arith in e) ∙ (uncut (i + 1) (omega arith) (long_cut is)).1 (middle-open bytes i is)))
+          (λ none other size. made i (omega (arith, size)) (omega arith) here.0);
       ends =
-          set-or near (bit_and firsts (near / 2 ^ 1)) 63
-          ∙ ap (λ b. b || is_set (bit_and firsts (near / 2 ^ 1)) 63)
-          (set-or (bit_or strays (strays / 2 ^ 1)) (2 ^ 63) 63 ∙ or-true (is_set (bit_or strays (strays / 2 ^ 1)) 63));
+          set-or cut (bit_and longs (cut / 2 ^ 1)) 63
+          ∙ ap (λ b. b || is_set (bit_and longs (cut / 2 ^ 1)) 63)
+          (set-or near (bit_and opens (near / 2 ^ 1)) 63
+          ∙ ap (λ b. b || is_set (bit_and opens (near / 2 ^ 1)) 63)
+          (set-or (bit_or strays (strays / 2 ^ 1)) (2 ^ 63) 63 ∙ or-true (is_set (bit_or strays (strays / 2 ^ 1)) 63)));
     }
