@@ -12,7 +12,7 @@ use crate::block_marks::{BLOCK, Marks, behind_byte, is_told_behind, kept_up_to, 
 use crate::fill_state::FillState;
 use crate::filling::put;
 use crate::raw_break::RawBreak;
-use crate::stepping::runs;
+use crate::stepping::{runs, stray};
 use crate::target::Breaks;
 use lbk_masks::{first_set, kept_from, without_first};
 use lbk_rules::{KindSource, Neighbours, Rows, place_by, step_at};
@@ -81,7 +81,7 @@ fn block<K: KindSource>(
         if end <= there.at {
             return there;
         }
-        here = runs::<false, Breaks, K>(Breaks, kinds, steps, there, there.at + 1, text, out);
+        here = stray(Breaks, kinds, steps, there, text, out);
         if here.at == there.at {
             return here;
         }

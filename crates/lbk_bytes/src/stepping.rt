@@ -315,6 +315,29 @@ fn taken_wide<const HOLDS: bool, T: Target, K: KindSource>(
     taken_whole::<HOLDS, Two, T, K>(target, kinds, steps, here, text, out)
 }
 
+/// Takes the scalar at a byte, with no loop where it has more than one, or what else `runs` takes there.
+#[inline(always)]
+pub(crate) fn stray<T: Target, K: KindSource>(
+    target: T,
+    kinds: &K,
+    steps: &Rows,
+    here: FillState,
+    text: &[u8],
+    out: &mut [T::Entry],
+) -> FillState
+    requires steps { MayStep (T.fits target) steps.now text.now (here.at + 1) out.old here }
+    ensures { StepsOn (T.fits target) (T.in_order target) (T.reached target) steps.now (K.kinds_of kinds.now) text.now
+        (here.at + 1) out.old here out.new result }
+{
+    if 0x80 <= text[here.at] && !target.is_full(out, here.count) {
+        let taken = taken_wide::<true, T, K>(target, kinds, steps, here, text, out);
+        if let Some(next) = taken {
+            return next;
+        }
+    }
+    runs::<false, T, K>(target, kinds, steps, here, here.at + 1, text, out)
+}
+
 /// Takes common scalars that begin before a byte, as `scalars` does. In a few bytes a loop for each width would cost
 /// more.
 #[inline(always)]
