@@ -21,8 +21,8 @@ const FEW: usize = 3;
 /// The first byte value with which few letters of two bytes begin, or longer ones do.
 const LONG: u8 = 0xDC;
 
-/// How far a text is looked at for a scalar of three bytes or more, but U+1E00 to U+1EFF, near which steps tell ends as
-/// fast as bits do.
+/// How far a text is looked at for a scalar of three bytes or more other than U+1E00 to U+1EFF, near which steps tell
+/// ends as fast as bits do.
 const SOON: usize = 20;
 
 /// The top bit of each of eight bytes.
@@ -236,8 +236,8 @@ fn taken<S: PartSlot>(here: Reading, noted: Noted, out: &mut [S]) -> Reading
 }
 
 /// Where the next parts of a text end, from a boundary on, as far as bits tell it: a bit for each byte from there on, the
-/// lowest for the first, and none set where they tell nothing. They tell little where a scalar of three bytes or more,
-/// but U+1E00 to U+1EFF, comes, or a few bytes are left.
+/// lowest for the first, and none set where they tell nothing. They tell little where a scalar of three bytes or more
+/// other than U+1E00 to U+1EFF comes, or a few bytes are left.
 #[inline(always)]
 pub fn ends_from(text: &[u8], start: usize) -> u64
     requires { start < length text.now }
@@ -293,7 +293,7 @@ fn may_tell(bytes: &[u8]) -> bool {
     is_usual(*first) && (0x80 <= *first || is_usual(bytes[1])) && !is_long_soon(bytes)
 }
 
-/// Whether a scalar of three bytes or more, but U+1E00 to U+1EFF, begins soon in some bytes: in the first eight, or
+/// Whether a scalar of three bytes or more other than U+1E00 to U+1EFF begins soon in some bytes: in the first eight, or
 /// further on in the first 20, where there are so many, if those before it seem to be of one byte each. One that begins
 /// behind the first two of eight holds the fifth or the eighth, so most text of one byte a scalar needs one test for six
 /// bytes.
