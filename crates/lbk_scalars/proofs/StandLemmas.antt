@@ -21,8 +21,8 @@ stands-at text at utf8 inside begins =
     by (c ∷ cs) all is =
         (c, length (encode_utf8 c), ap decoded (sym is) ∙ decoded-encode c (encode_utf8_all cs) (and_parts _ _ all).0)
 
--- a byte from E0 on begins one
-pub stands-led : (text : List ℕ) (at : ℕ) → IsUtf8 text → at < length text → 0xE0 ≤ get_or text at 0
+-- a byte from DF on begins one
+pub stands-led : (text : List ℕ) (at : ℕ) → IsUtf8 text → at < length text → 0xDF ≤ get_or text at 0
     → (code size : ℕ) × (decoded (drop at text) ≡ good code size)
 stands-led text at utf8 inside led = stands-at text at utf8 inside (omega (arith, led))
 
@@ -31,7 +31,7 @@ rest-of : (text : List ℕ) (at : ℕ) → slice_range text at (length text) ≡
 rest-of text at = take_all (length text - at) (drop at text) (omega (arith, length-drop at text))
 
 -- the same of what is left
-pub stands-led-rest : (text : List ℕ) (at : ℕ) → IsUtf8 text → at < length text → 0xE0 ≤ get_or (slice_range text at (length text)) 0 0
+pub stands-led-rest : (text : List ℕ) (at : ℕ) → IsUtf8 text → at < length text → 0xDF ≤ get_or (slice_range text at (length text)) 0 0
     → (code size : ℕ) × (decoded (slice_range text at (length text)) ≡ good code size)
 stands-led-rest text at utf8 inside led =
     let rest = rest-of text at in

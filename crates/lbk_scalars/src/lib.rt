@@ -4,21 +4,28 @@
 ghost use Rattle.std.specs.Prelude.{◌≡◌, ℕ, ◌+◌, ◌*◌, ◌<◌, ◌≤◌, ◌⊎◌, true, get_or, length, IfSome};
 ghost use Rattle.bstr.specs.Utf8.{continues, decoded, good};
 
-/// The code of the scalar at the front of some bytes, which begin with one, if it has three: their first byte tells it.
+/// The code of the scalar at the front of some bytes, which begin with one, if it has three. What they spell tells it: no
+/// scalar of two bytes or of four spells as much.
 #[inline(always)]
 pub fn scalar_of_led_three(bytes: &[u8]) -> Option<u32>
     requires enough { 3 ≤ length bytes.now }
-    requires stands { 0xE0 ≤ get_or bytes.now 0 0 → (code size : ℕ) × (decoded bytes.now ≡ good code size) }
+    requires stands { 0xDF ≤ get_or bytes.now 0 0 → (code size : ℕ) × (decoded bytes.now ≡ good code size) }
     ensures reads { IfSome result (λ code. decoded bytes.now ≡ good code 3) }
     ensures few { IfSome result (λ code. code < 0x1_0000) }
 {
-    let first = bytes[0];
-    if !begins_three(first) {
+    let spelled = joined(joined(u32::from(bytes[0]), bytes[1]), bytes[2]);
+    let more = spelled.wrapping_sub(MARKS_OF_THREE + LEAST_OF_THREE);
+    if MORE_OF_THREE < more {
         return None;
     }
-    let spelled = joined(joined(u32::from(first), bytes[1]), bytes[2]);
-    Some(spelled - MARKS_OF_THREE)
+    Some(more + LEAST_OF_THREE)
 }
+
+/// The least code of a scalar that takes three bytes.
+const LEAST_OF_THREE: u32 = 0x800;
+
+/// How much the greatest is more.
+const MORE_OF_THREE: u32 = 0xF7FF;
 
 /// Whether a byte may follow the first byte of a scalar.
 #[inline(always)]
@@ -48,12 +55,4 @@ pub fn takes_three(spelled: u32) -> bool
         × (spelled < 0xE_F880 ⊎ 0xF_0080 ≤ spelled) }
 {
     0xE_287F < spelled && spelled < 0xF_2080 && (spelled < 0xE_F880 || 0xF_007F < spelled)
-}
-
-/// Whether a scalar of three bytes may begin with a byte.
-#[inline(always)]
-fn begins_three(byte: u8) -> bool
-    ensures { result ≡ true → (0xE0 ≤ byte) × (byte < 0xF0) }
-{
-    0xE0 <= byte && byte < 0xF0
 }

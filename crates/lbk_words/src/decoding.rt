@@ -59,7 +59,7 @@ pub(crate) fn scalar_of_three(bytes: &[u8]) -> Option<Coded>
 #[inline(always)]
 pub(crate) fn scalar_of_led_three(bytes: &[u8]) -> Option<Coded>
     requires enough { 3 ≤ length bytes.now }
-    requires stands { 0xE0 ≤ get_or bytes.now 0 0 → (code size : ℕ) × (decoded bytes.now ≡ good code size) }
+    requires stands { 0xDF ≤ get_or bytes.now 0 0 → (code size : ℕ) × (decoded bytes.now ≡ good code size) }
     ensures reads { IfSome result (λ scalar. decoded bytes.now ≡ good scalar.code scalar.size) }
     ensures size { IfSome result (λ scalar. scalar.size ≡ 3) }
 {
