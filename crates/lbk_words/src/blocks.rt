@@ -53,7 +53,7 @@ const MID_LETTERS: u8 = 80;
 const MID_DIGITS: u8 = 176;
 
 /// The first byte of the letters U+1E00 to U+1EFF.
-const LATIN_LEAD: u8 = 0xE1;
+pub(crate) const LATIN_LEAD: u8 = 0xE1;
 
 /// The sets of the bytes that follow it in these letters.
 const TAILS: HalfSets = HalfSets {

@@ -13,10 +13,11 @@ use crate::parts::one_of;
 use crate::scalars::{scalar_at, scalar_of_size};
 use crate::steps::{NextStep, first_row_of, step_by_kind, step_of_kind};
 use crate::word::Filled;
+use crate::zeros::with_zeros;
 use lbk_masks::{equal, first_set, kept_below, kept_from};
 
 /// Fewer bytes than this are left to steps.
-const FEW: usize = 3;
+const FEW: usize = 4;
 
 /// The first byte value with which few letters of two bytes begin, or longer ones do.
 const LONG: u8 = 0xDC;
@@ -255,7 +256,7 @@ pub fn ends_from(text: &[u8], start: usize) -> u64
 
 /// The ends that bits tell of the parts of a text of fewer than 64 bytes, but for the last.
 fn ends_of_few(text: &[u8]) -> u64
-    requires { length text.now < 64 }
+    requires { (4 ≤ length text.now) × (length text.now < 64) }
     ensures { (stop : ℕ) × (stop ≤ length text.now) × AreEnds text.now 0 stop result }
 {
     if text.len() <= 16 {
@@ -270,12 +271,11 @@ fn ends_of_few(text: &[u8]) -> u64
 /// The same of a text of N bytes at most: those of the text and zeros behind it. The marks of what is zero whatever the
 /// text are known before the program runs.
 fn ends_up_to<const N: usize>(text: &[u8]) -> u64
-    requires few { length text.now < 64 }
+    requires few { (4 ≤ length text.now) × (length text.now < 64) }
     requires size { (length text.now ≤ N) × (N ≤ 64) }
     ensures { (stop : ℕ) × (stop ≤ length text.now) × AreEnds text.now 0 stop result }
 {
-    let mut front = [0; N];
-    front[..text.len()].copy_from_slice(text);
+    let front = with_zeros::<N>(text);
     let mut bytes = [0; BLOCK];
     bytes[..N].copy_from_slice(&front);
     kept_below(ends_in::<N>(&bytes), text.len())
@@ -283,7 +283,9 @@ fn ends_up_to<const N: usize>(text: &[u8]) -> u64
 
 /// Whether bits are likely to tell the end of the part at the front of some bytes.
 #[inline(always)]
-fn may_tell(bytes: &[u8]) -> bool {
+fn may_tell(bytes: &[u8]) -> bool
+    ensures { result ≡ true → 4 ≤ length bytes.now }
+{
     let Some(first) = bytes.first() else {
         return false;
     };

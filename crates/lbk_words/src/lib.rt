@@ -19,6 +19,7 @@ mod scalars;
 mod step_table;
 mod steps;
 mod word;
+mod zeros;
 
 pub use calls::{WordState, lbk_words};
 pub use ends::{ends_from, fill_parts};

@@ -9,10 +9,9 @@ returns g c =
     let size = g.row.N in
     let found = c.ends_in.ensures in
     let front = text ++ replicate (size - length text) 0 in
-    let is_front = ap₂ (λ (a b : List ℕ). a ++ b) c.copy_from_slice.ensures.after (drop-replicate (length text) size 0) in
-    let is = ap₂ (λ (a b : List ℕ). a ++ b) (c.copy_from_slice-2.ensures.after ∙ is_front) (drop-replicate size 64 0) in
+    let is = ap₂ (λ (a b : List ℕ). a ++ b) (c.copy_from_slice.ensures.after ∙ c.with_zeros-front.ensures) (drop-replicate size 64 0) in
     let same = λ (i : ℕ). ap (λ (bytes : List ℕ). get_or bytes i 0) is ∙ same-padded front (64 - size) i ∙ same-padded text (size - length text) i in (
       min found.0 (length text),
       omega arith,
-      ends-same _ text same 0 found.0 (length text) c.ends_in.result c.kept_below.result c.requires.few found.1 c.kept_below.ensures,
+      ends-same _ text same 0 found.0 (length text) c.ends_in.result c.kept_below.result c.requires.few.1 found.1 c.kept_below.ensures,
     )
