@@ -6,7 +6,7 @@ ghost use Rattle.lbk_words.specs.Ends.{AreEnds, AreTold, FillsParts, IsNotedStep
 ghost use Rattle.lbk_words.specs.Filling.{IsNextStep};
 ghost use Rattle.lbk_words.specs.Near.{AreMet};
 
-use crate::blocks::{BLOCK, marks_of, wides_of};
+use crate::blocks::{BLOCK, LATIN_LEAD, marks_of, wides_of};
 use crate::letters::{Letters, PartSlot};
 use crate::near::NearScalars;
 use crate::parts::one_of;
@@ -292,7 +292,10 @@ fn may_tell(bytes: &[u8]) -> bool
     if LONG <= *first || bytes.len() < FEW {
         return false;
     }
-    is_usual(*first) && (0x80 <= *first || is_usual(bytes[1])) && !is_long_soon(bytes)
+    let second = bytes[1];
+    is_usual(*first)
+        && (0x80 <= *first || is_usual(second) || second == LATIN_LEAD)
+        && !is_long_soon(bytes)
 }
 
 /// Whether a scalar of three bytes or more other than U+1E00 to U+1EFF begins soon in some bytes: in the first eight, or
@@ -334,7 +337,9 @@ fn is_long_in(bytes: &[u8]) -> bool
     }
     // (a byte has eight bits)
     let first = first_set(longs) / 8 * 8;
-    (front >> first) & LETTER_BITS != LETTER
+    let pair = (front >> first) & LETTER_BITS;
+    // (behind the last of the eight bytes nothing is seen)
+    pair != LETTER && pair != u64::from(LATIN_LEAD)
 }
 
 /// Whether a byte is below 128, or one with which most letters of two bytes begin.
