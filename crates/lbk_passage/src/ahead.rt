@@ -75,14 +75,14 @@ impl Ahead {
 
     /// The passage at the front of the bytes that are ready, where breaks tell that a line must end behind it, before
     /// the last of these bytes, unless the next passage is held already. It passes over the breaks of that passage.
-    /// `segments`: how many the one before has.
+    /// `listed`: how many segments the passage before has, where it was not taken by breaks.
     #[inline(always)]
     pub(crate) fn tell<C: CellSource>(
         &mut self,
         known: &KnownCells<'_, C>,
         profile: Profile,
         paragraph: &Paragraph,
-        segments: usize,
+        listed: usize,
     ) -> Option<Told>
         requires { IsAhead profile (C.cell_of known.now.cells.now) paragraph.now.feed.ready self.old }
         ensures { Tells profile (C.cell_of known.now.cells.now) paragraph.now self.old self.new result }
@@ -95,6 +95,7 @@ impl Ahead {
         if 0 < count {
             return self.take(count, paragraph.limit());
         }
+        let segments = if self.has_told() { self.told } else { listed };
         if MANY < segments || ready.len() < FEW || MOST < ready.len() {
             self.forget();
             return None;

@@ -144,6 +144,7 @@ impl Paragraph {
 
     /// Gathers the paragraph, unless it is held already, and returns the verdict at its end, or `None` where no text
     /// is left. `told`: the paragraph, where it is known already.
+    #[inline(always)]
     pub fn fill<R: Source, C: CellSource>(
         &mut self,
         reader: &mut R,
@@ -249,7 +250,9 @@ impl Paragraph {
         self.is_held = true;
     }
 
-    /// Takes pieces until a line must end before the next scalar, or no text is left.
+    /// Takes pieces until a line must end before the next scalar, or no text is left. It is not put in line, so that
+    /// `fill` is.
+    #[inline(never)]
     fn gather<R: Source, C: CellSource>(
         &mut self,
         reader: &mut R,

@@ -122,8 +122,8 @@ impl<'a, C: CellSource> Segmenter<'a, C> {
         ensures failures { R.failure_count reader.new ≡ failures_with (R.failure_count reader.old) (fault_in result) }
     {
         self.gave_segments = true;
-        let count = self.found().len();
-        let told = (self.ahead).tell(&self.known, self.profile, &self.paragraph, count);
+        let listed = self.segments.count;
+        let told = (self.ahead).tell(&self.known, self.profile, &self.paragraph, listed);
         let Some(end) = self.paragraph.fill(reader, &self.known, told)? else {
             return Ok(None);
         };
@@ -207,8 +207,8 @@ impl<'a, C: CellSource> Segmenter<'a, C> {
             self.ahead.forget();
             return self.paragraph.look_ahead(&self.known, None);
         }
-        let count = self.found().len();
-        let told = (self.ahead).tell(&self.known, self.profile, &self.paragraph, count);
+        let listed = self.segments.count;
+        let told = (self.ahead).tell(&self.known, self.profile, &self.paragraph, listed);
         self.paragraph.look_ahead(&self.known, told)
     }
 
