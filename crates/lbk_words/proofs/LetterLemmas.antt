@@ -1,24 +1,30 @@
--- Letters of two bytes, and those of U+1E00 to U+1EFF, which are found by their bytes.
-use Rattle.std.proofs.Common.{◌≡◌, ℕ, zero, suc, ◌+◌, ◌-◌, ◌*◌, ◌/◌, ◌%◌, ◌<◌, ◌≤◌, Bool, true, false, cond, not, ◌&&◌, ◌||◌, ◌==◌, nat_le, nat_lt, List, get_or, refl, sym, ap, ap₂, ◌∙◌, ⊎_elim, eqb-true, leb-true, ltb-true, arith}
+-- Letters of two bytes and of three that are found by their bytes.
+use Rattle.std.proofs.Common.{◌≡◌, ◌⊎◌, ℕ, zero, suc, ◌+◌, ◌-◌, ◌*◌, ◌/◌, ◌%◌, ◌<◌, ◌≤◌, Bool, true, false, cond, not, ◌&&◌, ◌||◌, ◌==◌, nat_le, nat_lt, List, [], ◌∷◌, get_or, refl, sym, ap, ap₂, ◌∙◌, ⊎_elim, inl, inr, eqb-true, leb-true, ltb-true, arith}
 use Rattle.std.specs.Int.Bits.{and_zero_l, and_zero_r}
-use Rattle.std.proofs.lemmas.Bool.{and_parts, cases_lt, lt-ltb}
+use Rattle.std.proofs.lemmas.Bool.{and_parts, cases_lt, le-leb}
+use Rattle.std.proofs.lemmas.Bool.Decides.{nat_tests}
 use Rattle.bstr.specs.Utf8.{code_of_2, code_of_3, continues, second}
 use Rattle.ucd_table.proofs.Computing.{tables}
-use Rattle.ucd_table.specs.Steps.{step_value}
-use Rattle.ucd_table.proofs.Facts.{Stepped-below, passes_below}
+use Rattle.ucd_table.specs.Rows.{Range, in_ranges}
+use Rattle.ucd_table.proofs.Facts.{Stepped-always, Stepped-below, passes_below}
+use Rattle.ucd_table.proofs.Stepped.{of_ranges, zip_stepped}
 use Rattle.ucd_table.proofs.TrieCheck.{all_below, all_below-at}
 use Rattle.ucd_breaks.proofs.WordBreakLemmas.{word_break_stepped}
 use Rattle.ucd_category.proofs.GeneralCategoryLemmas.{general_category_stepped}
 use Rattle.ucd_emoji.proofs.BinaryLemmas.{is_extended_pictographic_stepped}
 use Rattle.lbk_masks.specs.Sets.{meets, sets_in}
 use Rattle.lbk_words.specs.declared.letter_table.TheConstants.{FIRSTS, SECONDS}
-use Rattle.lbk_words.specs.Blocks.{class_at, class_of, is_first, is_inner, is_long, is_middle, is_open, letter_class, size_at, spells_long}
+use Rattle.lbk_words.specs.Blocks.{begins_long, class_at, class_of, front_code, is_first, is_inner, is_long, is_middle, is_open, letter_class, size_at, spells_long}
 use Rattle.lbk_words.specs.Kinds.{kind_at}
 use Rattle.lbk_words.proofs.Booleans.{or_parts, unless}
 use Rattle.lbk_words.proofs.KindTrie.{kind_stepped}
 
 abbrev spells : ℕ → ℕ → Bool
 spells b c = meets (sets_in FIRSTS b) (sets_in SECONDS c)
+
+pub or-true : (a : Bool) → (a || true) ≡ true
+or-true true = refl
+or-true false = refl
 
 -- of all scalars of two bytes
 abbrev letter_right : ℕ → ℕ → Bool
@@ -61,10 +67,6 @@ pub record IsLetter (b c : ℕ) : Type 0 where
   pub kind : kind_at (code_of_2 b c) ≡ 22
   pub goes : second b c ≡ true
 
-pub or-true : (a : Bool) → (a || true) ≡ true
-or-true true = refl
-or-true false = refl
-
 -- the bytes of a code, and the code of the bytes
 spelling : (b c : ℕ) → (192 ≤ b) × (b < 224) → (128 ≤ c) × (c < 192) → (192 + code_of_2 b c / 64 ≡ b) × ((128 + code_of_2 b c % 64 ≡ c) × (code_of_2 b c < 2048))
 spelling b c first next = (omega (arith, first, next), (omega (arith, first, next), omega (arith, first, next)))
@@ -100,65 +102,98 @@ spelled b c few_b few_c is = record {
     goes : (second b c ≡ true) × (nat_le 194 b ≡ true)
     goes = and_parts (second b c) (nat_le 194 b) kind.1
 
--- of U+1E00 to U+1EFF
-abbrev long_right : ℕ → Bool
-long_right k = step_value kind_stepped.default kind_stepped.steps (0x1E00 + k) == 22
+-- of three bytes
+abbrev long_ranges : List Range
+long_ranges = (0x1E00, 0x1EFF) ∷ (0xAC00, 0xD77F) ∷ []
 
-longs_right : all_below long_right 256 ≡ true
-unfolding all_below tables word_break_stepped general_category_stepped is_extended_pictographic_stepped
-longs_right = refl
+long_right : (code : ℕ) → code ≤ 0x10_FFFF → (not (in_ranges long_ranges code) || (kind_at code == 22)) ≡ true
+unfolding tables word_break_stepped general_category_stepped is_extended_pictographic_stepped
+long_right =
+    let either = λ (inside : Bool) (kind : ℕ). not inside || (kind == 22) in
+    let steps = zip_stepped either (in_ranges long_ranges) kind_at (of_ranges long_ranges refl) kind_stepped in
+    Stepped-always (λ code. either (in_ranges long_ranges code) (kind_at code)) steps refl
+
+-- each begins with two bytes that are known, and has 64 codes with them
+front_in : (f : ℕ) → ((nat_le 0x78 f && nat_lt f 0x7C) || (nat_le 0x2B0 f && nat_lt f 0x35E)) ≡ true → ((0x78 ≤ f) × (f < 0x7C)) ⊎ ((0x2B0 ≤ f) × (f < 0x35E))
+front_in f is = by (nat_le 0x78 f && nat_lt f 0x7C) refl
+  where
+    by : (b : Bool) → (nat_le 0x78 f && nat_lt f 0x7C) ≡ b → ((0x78 ≤ f) × (f < 0x7C)) ⊎ ((0x2B0 ≤ f) × (f < 0x35E))
+    by true is_first = let both = and_parts (nat_le 0x78 f) (nat_lt f 0x7C) is_first in inl (leb-true 0x78 f both.0, ltb-true f 0x7C both.1)
+    by false none =
+        let both = and_parts (nat_le 0x2B0 f) (nat_lt f 0x35E) (sym (ap (λ b. b || (nat_le 0x2B0 f && nat_lt f 0x35E)) none) ∙ is) in
+        inr (leb-true 0x2B0 f both.0, ltb-true f 0x35E both.1)
+
+latin-kind : (code : ℕ) → 0x1E00 ≤ code → code ≤ 0x1EFF → kind_at code ≡ 22
+unfolding in_ranges
+latin-kind code least most = eqb-true (kind_at code) 22 (rw (le-leb 0x1E00 code least, le-leb code 0x1EFF most) at (long_right code (omega (arith, most))))
+
+hangul-kind : (code : ℕ) → 0xAC00 ≤ code → code ≤ 0xD77F → kind_at code ≡ 22
+unfolding in_ranges
+hangul-kind code least most =
+    eqb-true (kind_at code) 22
+    (rw (or-true (nat_le 0x1E00 code && nat_le code 0x1EFF)) at (rw (le-leb 0xAC00 code least, le-leb code 0xD77F most) at (long_right code (omega (arith, most)))))
+
+long-kind : (f d : ℕ) → ((0x78 ≤ f) × (f < 0x7C)) ⊎ ((0x2B0 ≤ f) × (f < 0x35E)) → d < 64 → kind_at (f * 64 + d) ≡ 22
+long-kind f d is less = ⊎_elim
+    (λ (latin : (0x78 ≤ f) × (f < 0x7C)). latin-kind (f * 64 + d) (omega (arith, latin, less)) (omega (arith, latin, less)))
+    (λ (hangul : (0x2B0 ≤ f) × (f < 0x35E)). hangul-kind (f * 64 + d) (omega (arith, hangul, less)) (omega (arith, hangul, less)))
+    is
 
 pub record IsLong (b c d : ℕ) : Type 0 where
-  pub lead : b ≡ 0xE1
+  pub lead : (0xE1 ≤ b) × (b < 0xEE)
   pub next : (128 ≤ c) × (c < 192)
   pub last : (128 ≤ d) × (d < 192)
-  pub few : code_of_3 b c d < 0x1F00
+  pub few : code_of_3 b c d < 0xD780
   pub kind : kind_at (code_of_3 b c d) ≡ 22
   pub goes : second b c ≡ true
   pub ends : continues d ≡ true
 
+continuing : (n : ℕ) → continues n ≡ true → (128 ≤ n) × (n < 192)
+continuing n is =
+    let both = and_parts (nat_lt 0x7F n) (nat_lt n 0xC0) is in
+    let from = ltb-true 0x7F n both.0 in (omega (arith, from), ltb-true n 0xC0 both.1)
+
+-- E0 and F0 to F4 begin no such letter, and behind ED comes no surrogate
+goes_long : (b c : ℕ) → (0xE1 ≤ b) × (b < 0xEE) → (128 ≤ c) × (c < 192) → (b ≡ 0xED → c < 0xA0) → second b c ≡ true
+goes_long b c lead next low = grind (arith, nat_tests, lead, next, low)
+
 long-spelled : (b c d : ℕ) → spells_long b c d ≡ true → IsLong b c d
 long-spelled b c d is = record {
   lead = lead;
-  next = (omega (arith, least), omega (arith, most));
+  next = next;
   last = last;
-  few = omega (arith, place, less);
-  kind = ap kind_at place ∙ kind_stepped.gives (0x1E00 + k) ∙ eqb-true _ _ (all_below-at long_right 256 k longs_right less);
-  goes = ap (λ n. second n c) lead ∙ ap₂ (λ x y. x && y) (lt-ltb 0x7F c (omega (arith, least))) (lt-ltb c 0xC0 (omega (arith, most)));
+  few = omega (arith, most, last);
+  kind = long-kind front (d - 0x80) inside (omega (arith, last));
+  goes = goes_long b c lead next (λ same. omega (arith, most, same, next));
   ends = parts.1;
 }
   where
-    first : ((b == 0xE1) ≡ true) × (((nat_le 0xB8 c && nat_lt c 0xBC) && continues d) ≡ true)
-    first = and_parts (b == 0xE1) ((nat_le 0xB8 c && nat_lt c 0xBC) && continues d) is
+    front : ℕ
+    front = front_code b c
 
-    parts : ((nat_le 0xB8 c && nat_lt c 0xBC) ≡ true) × (continues d ≡ true)
-    parts = and_parts (nat_le 0xB8 c && nat_lt c 0xBC) (continues d) first.1
+    parts : (begins_long b c ≡ true) × (continues d ≡ true)
+    parts = and_parts (begins_long b c) (continues d) is
 
-    middle : (nat_le 0xB8 c ≡ true) × (nat_lt c 0xBC ≡ true)
-    middle = and_parts (nat_le 0xB8 c) (nat_lt c 0xBC) parts.0
+    first : (continues c ≡ true) × (((nat_le 0x78 front && nat_lt front 0x7C) || (nat_le 0x2B0 front && nat_lt front 0x35E)) ≡ true)
+    first = and_parts (continues c) ((nat_le 0x78 front && nat_lt front 0x7C) || (nat_le 0x2B0 front && nat_lt front 0x35E)) parts.0
 
-    lead : b ≡ 0xE1
-    lead = eqb-true b 0xE1 first.0
+    inside : ((0x78 ≤ front) × (front < 0x7C)) ⊎ ((0x2B0 ≤ front) × (front < 0x35E))
+    inside = front_in front first.1
 
-    least : 0xB8 ≤ c
-    least = leb-true 0xB8 c middle.0
+    least : 0x78 ≤ front
+    least = ⊎_elim (λ (latin : (0x78 ≤ front) × (front < 0x7C)). latin.0) (λ (hangul : (0x2B0 ≤ front) × (front < 0x35E)). omega (arith, hangul)) inside
 
-    most : c < 0xBC
-    most = ltb-true c 0xBC middle.1
+    most : front < 0x35E
+    most = ⊎_elim (λ (latin : (0x78 ≤ front) × (front < 0x7C)). omega (arith, latin)) (λ (hangul : (0x2B0 ≤ front) × (front < 0x35E)). hangul.1) inside
+
+    next : (128 ≤ c) × (c < 192)
+    next = continuing c first.0
 
     last : (128 ≤ d) × (d < 192)
-    last =
-        let both = and_parts (nat_lt 0x7F d) (nat_lt d 0xC0) parts.1 in
-        let from = ltb-true 0x7F d both.0 in (omega (arith, from), ltb-true d 0xC0 both.1)
+    last = continuing d parts.1
 
-    k : ℕ
-    k = (c - 0xB8) * 64 + (d - 0x80)
-
-    less : k < 256
-    less = omega (arith, least, most, last)
-
-    place : code_of_3 b c d ≡ 0x1E00 + k
-    place = omega (arith, lead, least, most, last)
+    lead : (0xE1 ≤ b) × (b < 0xEE)
+    lead = (omega (arith, least, next), omega (arith, most, next))
 
 -- In bytes
 

@@ -1,5 +1,5 @@
--- Words among ASCII, letters of two bytes and U+1E00 to U+1EFF, as bytes and their neighbours tell them.
-use Rattle.std.specs.Prelude.{◌≡◌, ◌⊎◌, ℕ, zero, suc, ◌+◌, ◌-◌, ◌<◌, ◌≤◌, Bool, true, false, not, ◌&&◌, ◌||◌, ◌==◌}
+-- Words among ASCII, letters of two bytes and some of three, as bytes and their neighbours tell them.
+use Rattle.std.specs.Prelude.{◌≡◌, ◌⊎◌, ℕ, zero, suc, ◌+◌, ◌-◌, ◌*◌, ◌<◌, ◌≤◌, Bool, true, false, not, ◌&&◌, ◌||◌, ◌==◌}
 use Rattle.std.specs.Prelude.{nat_le, nat_lt, List, get_or, if◌then◌else◌}
 use Rattle.bstr.specs.Utf8.{continues}
 use Rattle.lbk_masks.specs.Sets.{is_set, meets, sets_in}
@@ -43,9 +43,18 @@ is_joined before c after = goes_on c || ((c.mid_letter && (before.letter && afte
 abbrev pub is_first : List ℕ → ℕ → Bool
 is_first bytes i = nat_lt i 63 && meets (sets_in FIRSTS (get_or bytes i 0)) (sets_in SECONDS (get_or bytes (i + 1) 0))
 
--- these bytes spell a letter of U+1E00 to U+1EFF
+-- the code of three bytes without what the last of them counts, by 64
+abbrev pub front_code : ℕ → ℕ → ℕ
+front_code b c = (b - 0xE0) * 64 + (c - 0x80)
+
+-- two bytes begin a letter of U+1E00 to U+1EFF, or a Hangul syllable of U+AC00 to U+D77F
+abbrev pub begins_long : ℕ → ℕ → Bool
+begins_long b c = continues c && ((nat_le 0x78 (front_code b c) && nat_lt (front_code b c) 0x7C)
+    || (nat_le 0x2B0 (front_code b c) && nat_lt (front_code b c) 0x35E))
+
+-- these bytes spell one
 abbrev pub spells_long : ℕ → ℕ → ℕ → Bool
-spells_long b c d = b == 0xE1 && ((nat_le 0xB8 c && nat_lt c 0xBC) && continues d)
+spells_long b c d = begins_long b c && continues d
 
 -- byte i of 64 and the next two do
 abbrev pub is_long : List ℕ → ℕ → Bool

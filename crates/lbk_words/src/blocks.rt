@@ -1,5 +1,5 @@
-//! Words among ASCII, letters of two bytes and those of Latin Extended Additional (U+1E00 to U+1EFF, three bytes), found
-//! by bits of 64 bytes at a time.
+//! Words among ASCII, letters of two bytes and some of three, found by bits of 64 bytes at a time. Those of three are
+//! U+1E00 to U+1EFF (Latin Extended Additional) and the Hangul syllables U+AC00 to U+D77F.
 
 ghost use Rattle.std.specs.Prelude.{◌≡◌, ◌⊎◌, ℕ, ◌+◌, ◌-◌, ◌<◌, ◌≤◌, ◌^◌, ◌&&◌, List, drop, length, nat_lt, true};
 ghost use Rattle.lbk_masks.specs.Sets.{is_set};
@@ -52,23 +52,28 @@ const MID_LETTERS: u8 = 80;
 
 const MID_DIGITS: u8 = 176;
 
-/// The first byte of the letters U+1E00 to U+1EFF.
-pub(crate) const LATIN_LEAD: u8 = 0xE1;
-
-/// The sets of the bytes that follow it in these letters.
-const TAILS: HalfSets = HalfSets {
-    low: [2, 2, 2, 2, 2, 2, 2, 2, 3, 3, 3, 3, 2, 2, 2, 2],
-    high: [0, 0, 0, 0, 0, 0, 0, 0, 2, 2, 2, 3, 0, 0, 0, 0],
+/// The first bytes of letters of three, by the sets of those that follow: of U+1E00 to U+1EFF (E1), and of the Hangul
+/// syllables U+AC00 to U+D77F (EA to ED).
+const LEADS: HalfSets = HalfSets {
+    low: [0, 1, 0, 0, 0, 0, 0, 0, 0, 0, 2, 4, 4, 24, 0, 0],
+    high: [0, 0, 0, 0, 0, 0, 0, 0, 0, 0, 0, 0, 0, 0, 31, 0],
 };
 
-const MIDDLES: u8 = 1;
+/// The sets of the bytes that follow them: B8 to BB, B0 to BF, 80 to BF, 80 to 8F, and 90 to 9D.
+const TAILS: HalfSets = HalfSets {
+    low: [
+        30, 30, 30, 30, 30, 30, 30, 30, 31, 31, 31, 31, 30, 30, 14, 14,
+    ],
+    high: [0, 0, 0, 0, 0, 0, 0, 0, 12, 20, 4, 7, 0, 0, 0, 0],
+};
 
-const LASTS: u8 = 2;
+/// The set of the last bytes of three.
+const LASTS: u8 = 4;
 
 /// What is known of those of 64 bytes that are from 128 on, a bit each.
 #[derive(Clone, Copy)]
 pub(crate) struct Wides {
-    /// Which are of letters of two bytes, or of U+1E00 to U+1EFF.
+    /// Which are of letters of two bytes, or of those of three.
     pub(crate) letters: u64,
     /// Which of these go on with a letter that began before them.
     pub(crate) inner: u64,
@@ -126,8 +131,7 @@ pub(crate) fn wides_of(bytes: &[u8]) -> Wides
     }
 }
 
-/// Which of the first 64 bytes begin one of the letters U+1E00 to U+1EFF. `others`: those from 128 on that are of no letter
-/// of two bytes.
+/// Which of the first 64 bytes begin letters of three. `others`: those from 128 on that are of no letter of two.
 #[inline(always)]
 fn longs_among(others: u64, bytes: &[u8]) -> u64
     requires length { 64 ≤ length bytes.now }
@@ -137,13 +141,12 @@ fn longs_among(others: u64, bytes: &[u8]) -> u64
     if others == 0 {
         return 0;
     }
-    let leads = equal(LATIN_LEAD, bytes);
-    // Most text has no such byte.
+    let leads = LEADS.pairs(&TAILS, bytes);
+    // Most text has none.
     if leads == 0 {
         return 0;
     }
-    let tails = TAILS.members(MIDDLES, bytes) & (TAILS.members(LASTS, bytes) >> 1);
-    leads & (tails >> 1)
+    leads & (TAILS.members(LASTS, bytes) >> 2)
 }
 
 /// The marks of the first 64 bytes, those from the byte `N` on as for `ends_in`.

@@ -6,7 +6,7 @@ ghost use Rattle.lbk_words.specs.Ends.{AreEnds, AreTold, FillsParts, IsNotedStep
 ghost use Rattle.lbk_words.specs.Filling.{IsNextStep};
 ghost use Rattle.lbk_words.specs.Near.{AreMet};
 
-use crate::blocks::{BLOCK, LATIN_LEAD, marks_of, wides_of};
+use crate::blocks::{BLOCK, marks_of, wides_of};
 use crate::letters::{Letters, PartSlot};
 use crate::near::NearScalars;
 use crate::parts::one_of;
@@ -22,19 +22,12 @@ const FEW: usize = 4;
 /// The first byte value with which few letters of two bytes begin, or longer ones do.
 const LONG: u8 = 0xDC;
 
-/// How far a text is looked at for a scalar of three bytes or more other than U+1E00 to U+1EFF, near which steps tell
-/// ends as fast as bits do.
+/// How far a text is looked at for a long scalar: one of three bytes or more that is no letter told by bits. Near it steps
+/// tell ends as fast as bits do.
 const SOON: usize = 20;
 
 /// The top bit of each of eight bytes.
 const TOPS: u64 = 0x8080_8080_8080_8080;
-
-/// The first two bytes of the letters U+1E00 to U+1EFF (E1, and B8 to BB), the first the lowest, as far as these have the
-/// same bits.
-const LETTER: u64 = 0xB8E1;
-
-/// The bits that these have in common, of eight bytes.
-const LETTER_BITS: u64 = 0xFCFF;
 
 /// How far the parts of a text were read.
 #[derive(Clone, Copy)]
@@ -238,7 +231,7 @@ fn taken<S: PartSlot>(here: Reading, noted: Noted, out: &mut [S]) -> Reading
 
 /// Where the next parts of a text end, from a boundary on, as far as bits tell it: a bit for each byte from there on, the
 /// lowest for the first, and none set where they tell nothing. They tell little where a scalar of three bytes or more
-/// other than U+1E00 to U+1EFF comes, or a few bytes are left.
+/// comes that is none of their letters, or a few bytes are left.
 #[inline(always)]
 pub fn ends_from(text: &[u8], start: usize) -> u64
     requires { start < length text.now }
@@ -286,22 +279,21 @@ fn ends_up_to<const N: usize>(text: &[u8]) -> u64
 fn may_tell(bytes: &[u8]) -> bool
     ensures { result ≡ true → 4 ≤ length bytes.now }
 {
-    let Some(first) = bytes.first() else {
-        return false;
-    };
-    if LONG <= *first || bytes.len() < FEW {
+    if bytes.len() < FEW {
         return false;
     }
-    let second = bytes[1];
-    is_usual(*first)
-        && (0x80 <= *first || is_usual(second) || second == LATIN_LEAD)
-        && !is_long_soon(bytes)
+    let (first, second) = (bytes[0], bytes[1]);
+    let begins = if first < 0x80 {
+        second < 0x80 || is_usual(second, bytes[2])
+    } else {
+        is_usual(first, second)
+    };
+    begins && !is_long_soon(bytes)
 }
 
-/// Whether a scalar of three bytes or more other than U+1E00 to U+1EFF begins soon in some bytes: in the first eight, or
-/// further on in the first 20, where there are so many, if those before it seem to be of one byte each. One that begins
-/// behind the first two of eight holds the fifth or the eighth, so most text of one byte a scalar needs one test for six
-/// bytes.
+/// Whether a long scalar begins soon in some bytes: in the first eight, or further on in the first 20, where there are so
+/// many, if those before it seem to be of one byte each. One that begins behind the first two of eight holds the fifth
+/// or the eighth, so most text of one byte a scalar needs one test for six bytes.
 #[inline(always)]
 fn is_long_soon(bytes: &[u8]) -> bool {
     if bytes.len() < 8 {
@@ -323,7 +315,7 @@ fn is_long_soon(bytes: &[u8]) -> bool {
     false
 }
 
-/// Whether such a scalar begins in the first eight bytes, and before the first of U+1E00 to U+1EFF.
+/// Whether the first scalar of three bytes or more in the first eight bytes is long.
 #[inline(always)]
 fn is_long_in(bytes: &[u8]) -> bool
     requires { 8 ≤ length bytes.now }
@@ -336,16 +328,26 @@ fn is_long_in(bytes: &[u8]) -> bool
         return false;
     }
     // (a byte has eight bits)
-    let first = first_set(longs) / 8 * 8;
-    let pair = (front >> first) & LETTER_BITS;
-    // (behind the last of the eight bytes nothing is seen)
-    pair != LETTER && pair != u64::from(LATIN_LEAD)
+    let rest = front >> (first_set(longs) / 8 * 8);
+    !begins_long((rest % 256) as u8, (rest / 256 % 256) as u8)
 }
 
-/// Whether a byte is below 128, or one with which most letters of two bytes begin.
+/// Whether a scalar from U+0080 on that begins with two bytes is likely to be a letter that bits tell.
 #[inline(always)]
-fn is_usual(byte: u8) -> bool {
-    byte < 0x80 || (0xC3 <= byte && byte < LONG && byte != 0xD7)
+fn is_usual(first: u8, second: u8) -> bool {
+    (0xC3 <= first && first < LONG && first != 0xD7) || begins_long(first, second)
+}
+
+/// Whether two bytes begin a letter of three that bits tell, or the first may and the second is 0, since it is not seen.
+#[inline(always)]
+fn begins_long(first: u8, second: u8) -> bool {
+    match first {
+        0xE1 => second == 0 || second & 0xFC == 0xB8,
+        0xEA => second == 0 || 0xB0 <= second,
+        0xEB | 0xEC => true,
+        0xED => second < 0x9E,
+        _ => false,
+    }
 }
 
 /// Where parts end among the first 64 bytes, at the first of which one begins. `N` says nothing of the result: of short

@@ -1,4 +1,4 @@
-use Rattle.std.proofs.Common.{◌≡◌, inl, inr, ℕ, zero, suc, ◌+◌, ◌*◌, ◌/◌, ◌%◌, ◌^◌, ◌<◌, ◌≤◌, ◌&&◌, ◌||◌, Bool, true, false, not, get_or, nat_le, bit_and, bit_or, leb-false, refl, sym, ap, ap₂, subst, ◌∙◌, ⊎_elim, List, arith, w64}
+use Rattle.std.proofs.Common.{◌≡◌, inl, inr, ℕ, zero, suc, ◌+◌, ◌*◌, ◌/◌, ◌%◌, ◌^◌, ◌<◌, ◌≤◌, ◌&&◌, ◌||◌, Bool, true, false, not, get_or, nat_le, bit_and, bit_or, leb-false, le-leb, refl, sym, ap, ap₂, subst, ◌∙◌, ⊎_elim, List, arith, w64}
 use Rattle.std.specs.Int.{bit_not}
 use Rattle.std.proofs.lemmas.Bool.{cases_lt}
 use Rattle.std.proofs.lemmas.Nat.{or_lt}
@@ -74,7 +74,8 @@ longs_among-longs-requires-clause-others c = λ i few is.
     let firsts = c.pairs-firsts.result in
     let seconds = firsts * 2 ^ 1 % 2 ^ 64 in
     let two = bit_or firsts seconds in
-    let wide : is_set c.wide-wide.result i ≡ true = c.wide-wide.ensures i few ∙ ap (nat_le 128) (long-letter bytes i is).1.lead in
+    let lead = (long-letter bytes i is).1.lead in
+    let wide : is_set c.wide-wide.result i ≡ true = c.wide-wide.ensures i few ∙ le-leb 128 (get_or bytes i 0) (omega (arith, lead)) in
     let none : is_set two i ≡ false =
     set-or firsts seconds i
     ∙ ap₂ (λ a b. a || b) (c.pairs-firsts.ensures i few ∙ first-none bytes i fit is)
