@@ -135,10 +135,11 @@ pub(crate) fn wides_of(bytes: &[u8]) -> Wides
 #[inline(always)]
 fn longs_among(others: u64, bytes: &[u8]) -> u64
     requires length { 64 ≤ length bytes.now }
-    requires others { (i : ℕ) → i < 64 → is_long bytes.now i ≡ true → is_set others i ≡ true }
+    requires others { (i : ℕ) → i < 64 → is_long bytes.now i ≡ true → (j : ℕ) → j < 3 → is_set others (i + j) ≡ true }
     ensures { (i : ℕ) → i < 64 → is_set result i ≡ is_long bytes.now i }
 {
-    if others == 0 {
+    // Most of the others are of scalars of two bytes, or are few.
+    if others & (others >> 1) & (others >> 2) == 0 {
         return 0;
     }
     let leads = LEADS.pairs(&TAILS, bytes);

@@ -43,11 +43,20 @@ past-last n i fits few past = ⊎_elim
     (λ (most : 63 ≤ i). ap (is_set n) (let e : i + 2 ≡ 64 + 1 = omega arith in e) ∙ sym (set-after n 64) ∙ set-past (n / 2 ^ 1) (omega (arith, fits)))
     (cases_lt i 63)
 
--- all bytes from 128 on are of letters of two bytes
+-- no three bytes behind one another are of no letter of two
 pub returns-then-others-eq0 : goal.returns-then-others-eq0
 returns-then-others-eq0 c = λ i few.
+    let others = c.args.others in
     set-none i
-    ∙ sym (unless (is_long c.args.bytes.now i) (λ is. (let e : true ≡ false = sym (c.requires.others i few is) ∙ ap (λ n. is_set n i) c.if-others-eq0.true ∙ set-none i in cc)))
+    ∙ sym (unless (is_long c.args.bytes.now i) (λ is.
+    let all = c.requires.others i few is in
+    let here : is_set others i ≡ true = ap (is_set others) (let e : i ≡ i + 0 = omega arith in e) ∙ all 0 (omega arith) in
+    let three : is_set (bit_and (bit_and others (others / 2 ^ 1)) (others / 2 ^ 2)) i ≡ true =
+    set-and (bit_and others (others / 2 ^ 1)) (others / 2 ^ 2) i
+    ∙ ap₂ (λ a b. a && b)
+    (set-and others (others / 2 ^ 1) i ∙ ap₂ (λ a b. a && b) here (set-after others i ∙ all 1 (omega arith)))
+    (set-second others i ∙ all 2 (omega arith)) in
+    (let e : true ≡ false = sym three ∙ ap (λ n. is_set n i) c.if-others-eq0.true ∙ set-none i in cc)))
 
 -- no letter of three bytes begins there
 pub returns-then-leads-eq0 : goal.returns-then-leads-eq0

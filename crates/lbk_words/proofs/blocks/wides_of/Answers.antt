@@ -67,21 +67,60 @@ behind-none bytes (suc i) fit long = unless (is_first bytes i) (λ is.
     let same = ap (λ n. get_or bytes n 0) (let e : i + 1 ≡ suc i = omega arith in e) in
     omega (arith, lead, next, same))
 
+record IsOther (bytes : List ℕ) (i : ℕ) : Type 0 where
+  wide : 128 ≤ get_or bytes i 0
+  first : is_first bytes i ≡ false
+  behind : is_behind bytes i ≡ false
+
+-- so are all bytes of a letter of three
+three-others : (bytes : List ℕ) (i : ℕ) → ((j : ℕ) → get_or bytes j 0 < 256) → is_long bytes i ≡ true → (j : ℕ) → j < 3 → IsOther bytes (i + j)
+three-others bytes i fit long j less = ⊎_elim
+    (λ (none : j < 1). subst (IsOther bytes) (let e : i ≡ i + j = omega arith in e)
+    (record { wide = omega (arith, lead); first = first-none bytes i fit long; behind = behind-none bytes i fit long }))
+    (λ (some : 1 ≤ j). ⊎_elim
+    (λ (one : j < 2). subst (IsOther bytes) (let e : i + 1 ≡ i + j = omega arith in e)
+    (record { wide = next.0; first = low-first (i + 1) next.1; behind = behind-is i ∙ first-none bytes i fit long }))
+    (λ (two : 2 ≤ j). subst (IsOther bytes) (let e : i + 2 ≡ i + j = omega arith in e)
+    (record {
+      wide = last.0;
+      first = low-first (i + 2) last.1;
+      behind = ap (is_behind bytes) (let e : i + 2 ≡ i + 1 + 1 = omega arith in e) ∙ behind-is (i + 1) ∙ low-first (i + 1) next.1;
+    }))
+    (cases_lt j 2))
+    (cases_lt j 1)
+  where
+    lead : (0xE1 ≤ get_or bytes i 0) × (get_or bytes i 0 < 0xEE)
+    lead = (long-letter bytes i long).1.lead
+
+    next : (128 ≤ get_or bytes (i + 1) 0) × (get_or bytes (i + 1) 0 < 192)
+    next = (long-letter bytes i long).1.next
+
+    last : (128 ≤ get_or bytes (i + 2) 0) × (get_or bytes (i + 2) 0 < 192)
+    last = (long-letter bytes i long).1.last
+
+    low-first : (k : ℕ) → get_or bytes k 0 < 192 → is_first bytes k ≡ false
+    low-first k low = unless (is_first bytes k) (λ is. (let least = (first-letter bytes k fit is).least in omega arith))
+
+    behind-is : (k : ℕ) → is_behind bytes (k + 1) ≡ is_first bytes k
+    behind-is k = ap (is_behind bytes) (let e : k + 1 ≡ suc k = omega arith in e)
+
 pub longs_among-longs-requires-clause-others : goal.longs_among-longs-requires-clause-others
-longs_among-longs-requires-clause-others c = λ i few is.
+longs_among-longs-requires-clause-others c = λ i few is j less.
     let bytes = c.args.bytes.now in
     let fit : (i : ℕ) → get_or bytes i 0 < 256 = λ i. (c.type_inv.bytes i).fits in
     let firsts = c.pairs-firsts.result in
     let seconds = firsts * 2 ^ 1 % 2 ^ 64 in
     let two = bit_or firsts seconds in
-    let lead = (long-letter bytes i is).1.lead in
-    let wide : is_set c.wide-wide.result i ≡ true = c.wide-wide.ensures i few ∙ le-leb 128 (get_or bytes i 0) (omega (arith, lead)) in
-    let none : is_set two i ≡ false =
-    set-or firsts seconds i
-    ∙ ap₂ (λ a b. a || b) (c.pairs-firsts.ensures i few ∙ first-none bytes i fit is)
-    (raised (is_first bytes) (is_behind bytes) firsts i few c.pairs-firsts.ensures refl (λ j. refl) ∙ behind-none bytes i fit is) in
-    set-and c.wide-wide.result (bit_not w64 two) i
-    ∙ ap₂ (λ a b. a && b) wide (set-not two i (or_lt 64 firsts seconds (omega arith) (omega arith)) few ∙ ap not none)
+    let inside = (long-letter bytes i is).0 in
+    let within : i + j < 64 = omega (arith, inside, less) in
+    let other = three-others bytes i fit is j less in
+    let none : is_set two (i + j) ≡ false =
+    set-or firsts seconds (i + j)
+    ∙ ap₂ (λ a b. a || b) (c.pairs-firsts.ensures (i + j) within ∙ other.first)
+    (raised (is_first bytes) (is_behind bytes) firsts (i + j) within c.pairs-firsts.ensures refl (λ k. refl) ∙ other.behind) in
+    set-and c.wide-wide.result (bit_not w64 two) (i + j)
+    ∙ ap₂ (λ a b. a && b) (c.wide-wide.ensures (i + j) within ∙ le-leb 128 (get_or bytes (i + j) 0) other.wide)
+    (set-not two (i + j) (or_lt 64 firsts seconds (omega arith) (omega arith)) within ∙ ap not none)
 
 pub returns : goal.returns
 returns c =
