@@ -1,7 +1,7 @@
 //! The bytes that scalars of three are made of, read without a call.
 #![tactic(auto)]
 
-ghost use Rattle.std.specs.Prelude.{◌≡◌, ℕ, ◌+◌, ◌*◌, ◌<◌, ◌≤◌, ◌⊎◌, true, get_or, length, IfSome};
+ghost use Rattle.std.specs.Prelude.{◌≡◌, ℕ, ◌+◌, ◌*◌, ◌<◌, ◌≤◌, ◌⊎◌, false, true, get_or, length, IfSome};
 ghost use Rattle.bstr.specs.Utf8.{continues, decoded, good};
 
 /// The code of the scalar at the front of some bytes, which begin with one, if it has three. What they spell tells it: no
@@ -11,6 +11,7 @@ pub fn scalar_of_led_three(bytes: &[u8]) -> Option<u32>
     requires enough { 3 ≤ length bytes.now }
     requires stands { 0xDF ≤ get_or bytes.now 0 0 → (code size : ℕ) × (decoded bytes.now ≡ good code size) }
     ensures reads { IfSome result (λ code. decoded bytes.now ≡ good code 3) }
+    ensures none { result ≡ None → (code : ℕ) → ¬ (decoded bytes.now ≡ good code 3) }
     ensures few { IfSome result (λ code. code < 0x1_0000) }
 {
     let spelled = joined(joined(u32::from(bytes[0]), bytes[1]), bytes[2]);
@@ -51,8 +52,10 @@ pub const MARKS_OF_THREE: u32 = 0xE_2080;
 /// bounds are those of its code, and `MARKS_OF_THREE` more. So the first byte need not be looked at.
 #[inline(always)]
 pub fn takes_three(spelled: u32) -> bool
-    ensures { result ≡ true → (0xE_2880 ≤ spelled) × (spelled < 0xF_2080)
+    ensures takes { result ≡ true → (0xE_2880 ≤ spelled) × (spelled < 0xF_2080)
         × (spelled < 0xE_F880 ⊎ 0xF_0080 ≤ spelled) }
+    ensures others { result ≡ false → (spelled < 0xE_2880) ⊎ (0xF_2080 ≤ spelled)
+        ⊎ ((0xE_F880 ≤ spelled) × (spelled < 0xF_0080)) }
 {
     0xE_287F < spelled && spelled < 0xF_2080 && (spelled < 0xE_F880 || 0xF_007F < spelled)
 }
