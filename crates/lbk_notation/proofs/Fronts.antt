@@ -1,5 +1,5 @@
 -- What stands in a list after a growth was refused within a line.
-use Rattle.std.proofs.Common.{◌≡◌, ℕ, ◌+◌, ◌<◌, List, [], ◌∷◌, ◌++◌, length, take, drop, get_or, sym, ap, ◌∙◌, arith, append_assoc, length-append, take-append-drop}
+use Rattle.std.proofs.Common.{◌≡◌, ℕ, ◌+◌, ◌<◌, List, ◌∷◌, ◌++◌, length, take, drop, get_or, sym, ap, ◌∙◌, arith, append_assoc, length-append, take-append-drop}
 use Rattle.std.proofs.lemmas.List.{drop_more}
 use Rattle.std.proofs.lemmas.List.Concat.{flat_map-append}
 use Rattle.lbk_notation.specs.declared.marks.Form.{Form}
@@ -34,14 +34,14 @@ HasPut-labels old now verdicts k so_far =
 
 -- within one
 pub HasPut-label : (old now new : List ℕ) (verdicts : List Verdict) (k : ℕ) (v : Verdict) → k < length verdicts
-    → now ≡ old ++ written_labels (take k verdicts) → new ≡ now ++ 32 ∷ [] → HasPut old new (written_labels verdicts)
-HasPut-label old now new verdicts k v within so_far more =
+    → now ≡ old ++ written_labels (take k verdicts) → HasPut now new (32 ∷ label_of (get_or verdicts k v).rule) → HasPut old new (written_labels verdicts)
+HasPut-label old now new verdicts k v within so_far put =
     let part = 32 ∷ label_of (get_or verdicts k v).rule in
     let rest = written_labels (drop (k + 1) verdicts) in
     let all : written_labels (take k verdicts) ++ (part ++ rest) ≡ written_labels verdicts =
     sym (flat_map-append (λ (w : Verdict). 32 ∷ label_of w.rule) (take k verdicts) (get_or verdicts k v ∷ drop (k + 1) verdicts))
     ∙ ap (λ l. written_labels (take k verdicts ++ l)) (sym (drop_more verdicts k v within))
     ∙ ap written_labels (take-append-drop k verdicts) in
-    HasPut-within old now new part rest (written_labels verdicts) (record { count = 1; is = more })
+    HasPut-within old now new part rest (written_labels verdicts) put
     (ap (λ l. l ++ (part ++ rest)) so_far ∙ append_assoc old (written_labels (take k verdicts)) (part ++ rest) ∙ ap (λ l. old ++ l) all)
     (omega (arith, ap length so_far, length-append old (written_labels (take k verdicts))))

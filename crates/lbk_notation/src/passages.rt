@@ -1,6 +1,6 @@
 //! The line written for a passage.
 
-ghost use Rattle.std.specs.Prelude.{◌≡◌, ◌+◌, ◌++◌, length, OnOk, OnErr};
+ghost use Rattle.std.specs.Prelude.{◌≡◌, ◌+◌, ◌++◌, ◌∷◌, length, OnOk, OnErr};
 ghost use Rattle.std.specs.Str.{chars};
 ghost use Rattle.lbk_feed.specs.Appended.{HasPut};
 ghost use Rattle.lbk_notation.specs.declared.marks.Form.TheVariants.{Kinds};
@@ -53,8 +53,24 @@ fn push_labels(out: &mut Vec<u8>, verdicts: &[Verdict]) -> Result<(), AllocError
     ensures refused { OnErr result (HasPut out.old.items out.new.items (written_labels verdicts.now)) }
 {
     for verdict in verdicts {
-        out.push(b' ')?;
-        out.extend_from_slice(verdict.rule.label().as_bytes())?;
+        push_label(out, verdict.rule.label())?;
     }
     Ok(())
+}
+
+/// Appends a space and a label to the text. Each length has its own call with a constant number of bytes.
+#[inline(always)]
+fn push_label(out: &mut Vec<u8>, label: &str) -> Result<(), AllocError>
+    ensures text { OnOk result (out.new.items ≡ out.old.items ++ (32 ∷ label.now)) }
+    ensures refused { OnErr result (HasPut out.old.items out.new.items (32 ∷ label.now)) }
+{
+    match label.as_bytes() {
+        [one] => out.extend_from_slice(&[b' ', *one]),
+        [one, two] => out.extend_from_slice(&[b' ', *one, *two]),
+        [one, two, three] => out.extend_from_slice(&[b' ', *one, *two, *three]),
+        label => {
+            out.push(b' ')?;
+            out.extend_from_slice(label)
+        }
+    }
 }

@@ -50,6 +50,7 @@ pub fn push_line(
 
 /// Appends a space, a scalar's token, a space and the mark after it to the text. Returns an error if memory could not
 /// grow; a prefix of these may be written then.
+#[inline(always)]
 pub fn push_scalar(
     text: &mut Vec<u8>,
     scalar: char,
@@ -61,8 +62,25 @@ pub fn push_scalar(
     ensures refused { OnErr result (HasPut text.old.items text.new.items
         (32 ∷ (token scalar ++ (32 ∷ mark_bytes (shown form mark))))) }
 {
-    push_token(text, u32::from(scalar))?;
+    let code = u32::from(scalar);
+    let sign = sign_of(mark, form);
+    // Most scalars have four digits, and most marks two bytes: eight bytes are appended at once.
+    if code < 0x1_0000 && sign.len() == 2 {
+        return push_short(text, code, sign);
+    }
+    push_token(text, code)?;
     push_mark(text, mark, form)
+}
+
+/// Appends a space, a token of four digits, a space and a mark of two bytes to the text.
+#[inline(always)]
+fn push_short(text: &mut Vec<u8>, code: u32, sign: &str) -> Result<(), AllocError>
+    requires { (code < 0x1_0000) × (length sign.now ≡ 2) }
+    ensures { AppendsAll text.old.items text.new.items (32 ∷ (token code ++ (32 ∷ sign.now))) result }
+{
+    let [third, second, first, last] = four_digits(code);
+    let sign = sign.as_bytes();
+    text.extend_from_slice(&[b' ', third, second, first, last, b' ', sign[0], sign[1]])
 }
 
 /// Appends a mark to the text, as the form writes it. Returns an error if memory could not grow; the text is unchanged
@@ -70,11 +88,18 @@ pub fn push_scalar(
 pub fn push_mark(text: &mut Vec<u8>, mark: Mark, form: Form) -> Result<(), AllocError>
     ensures { AppendsAll text.old.items text.new.items (mark_bytes (shown form mark)) result }
 {
-    // Each mark has its own call with a constant number of bytes.
+    text.extend_from_slice(sign_of(mark, form).as_bytes())
+}
+
+/// A mark as the form writes it.
+#[inline(always)]
+fn sign_of(mark: Mark, form: Form) -> &'static str
+    ensures { result.now ≡ mark_bytes (shown form mark) }
+{
     match (form, mark) {
-        (_, Mark::No) => text.extend_from_slice("×".as_bytes()),
-        (Form::Kinds, Mark::Must) => text.extend_from_slice("!".as_bytes()),
-        (Form::Plain, Mark::Must) | (_, Mark::May) => text.extend_from_slice("÷".as_bytes()),
+        (_, Mark::No) => "×",
+        (Form::Kinds, Mark::Must) => "!",
+        (Form::Plain, Mark::Must) | (_, Mark::May) => "÷",
     }
 }
 

@@ -12,8 +12,8 @@ pub returns-clause-refused : goal.returns-clause-refused
 returns-clause-refused c =
     let old = c.args.text.now.items in
     let middle = c.push_token.new.text.items in
-    let same : c.from.result ≡ c.args.scalar = cc in
-    let spelled = token c.from.result in
+    let same : c.from-code.result ≡ c.args.scalar = cc in
+    let spelled = token c.from-code.result in
     let mark = mark_bytes (shown c.args.form c.args.mark) in
     let whole : middle ++ mark ≡ old ++ (32 ∷ (token c.args.scalar ++ (32 ∷ mark))) =
     ap (λ l. l ++ mark) c.in_ok-push_token.ensures.text ∙ append_assoc old (32 ∷ (spelled ++ 32 ∷ [])) mark
