@@ -134,14 +134,14 @@ fn four_digits(code: u32) -> [u8; 4]
     ]
 }
 
+/// The hex digits.
+const DIGITS: [u8; 16] = *b"0123456789ABCDEF";
+
 /// The upper-case hex digit of a number below 16.
+#[inline(always)]
 fn digit_byte(digit: u32) -> u8
     requires { digit < 16 }
     ensures { result ≡ digit_byte digit }
 {
-    if digit < 10 {
-        b'0' + digit as u8
-    } else {
-        b'A' + (digit as u8 - 10)
-    }
+    DIGITS[digit as usize]
 }
