@@ -17,7 +17,7 @@ kept-letter kind true few = le-leb 64 (kind + 96) (omega arith)
 kept-letter kind false few = lt-leb 64 (kind + 32) (omega arith)
 
 -- a number that is not 0 is that of the scalar
-pub near-told : (letter : ℕ → Bool) (near : NearScalars) (code : ℕ) → AreMet letter near → code < 0x1_0000 → kind_at code < 32
+pub near-told : (letter : ℕ → Bool) (near : NearScalars) (code : ℕ) → AreMet letter near → code < 0x2_0000 → kind_at code < 32
     → slice_index_or near.numbers code 0 ≢ 0
     → (slice_index_or near.numbers code 0 % 32 ≡ kind_at code) × (leb 64 (slice_index_or near.numbers code 0) ≡ letter code)
 near-told letter near code met within few some =
@@ -27,7 +27,7 @@ near-told letter near code met within few some =
     )
 
 -- the number of one scalar more is kept
-pub near-more : (letter : ℕ → Bool) (near : NearScalars) (code number : ℕ) → AreMet letter near → code < 0x1_0000
+pub near-more : (letter : ℕ → Bool) (near : NearScalars) (code number : ℕ) → AreMet letter near → code < 0x2_0000
     → number ≡ near_number (kind_at code) (letter code) → AreMet letter (record { numbers = set near.numbers code number })
 near-more letter near code number met within is = record {
   all = length-set near.numbers code number ∙ met.all;

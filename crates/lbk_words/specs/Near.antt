@@ -18,8 +18,8 @@ pub record IsTold (letter : ℕ → Bool) (code : ℕ) (told : Told) : Type 0 wh
 abbrev pub near_number : ℕ → Bool → ℕ
 near_number kind is_letter = if is_letter then kind + 96 else kind + 32
 
--- what is kept of a scalar below U+10000, if anything is, is its number
+-- what is kept of a scalar below U+20000, if anything is, is its number
 pub record AreMet (letter : ℕ → Bool) (near : NearScalars) : Type 0 where
-  pub all : length near.numbers ≡ 0x1_0000
-  pub right : (c : ℕ) → c < 0x1_0000
+  pub all : length near.numbers ≡ 0x2_0000
+  pub right : (c : ℕ) → c < 0x2_0000
       → slice_index_or near.numbers c 0 ≢ 0 → slice_index_or near.numbers c 0 ≡ near_number (kind_at c) (letter c)

@@ -6,7 +6,7 @@ ghost use Rattle.lbk_words.specs.Ends.{AreEnds, AreTold, FillsParts, IsNotedStep
 ghost use Rattle.lbk_words.specs.Filling.{IsNextStep};
 ghost use Rattle.lbk_words.specs.Near.{AreMet};
 
-use crate::blocks::{BLOCK, marks_of, wides_of};
+use crate::blocks::{BLOCK, Wides, marks_of, wides_of};
 use crate::letters::{Letters, PartSlot};
 use crate::near::NearScalars;
 use crate::parts::one_of;
@@ -100,7 +100,7 @@ pub fn fill_parts<L: Letters, S: PartSlot>(
                 at: read.start,
             };
         }
-        here = read_alike::<1, S>(near, text, read, out);
+        here = read_behind(noted.next.code, near, text, read, out);
     }
     out[here.count].put(here.start, here.at, here.has_letter);
     Filled {
@@ -135,7 +135,8 @@ fn noted_at<L: Letters>(
     }
 }
 
-/// The same, where it takes one or three bytes (`SIZE`), it was met before, and no step depends on what follows it.
+/// The same, where it takes the bytes that `scalar_of_size` reads, it was met before, and no step depends on what follows
+/// it.
 #[inline(always)]
 fn noted_alike<const SIZE: usize>(
     near: &NearScalars,
@@ -143,13 +144,12 @@ fn noted_alike<const SIZE: usize>(
     text: &str,
     at: usize,
 ) -> Option<Noted>
-    requires size { (SIZE ≡ 1) ⊎ (SIZE ≡ 3) }
+    requires size { (SIZE ≡ 1) ⊎ (SIZE ≡ 3) ⊎ (SIZE ≡ 4) }
     requires place { (row < 43) × (at + SIZE ≤ length text.now) }
     requires met { (letter : ℕ → Bool) × AreMet letter near.now }
     ensures next { IfSome result (λ noted. IsNextStep text.now row at noted.next) }
     ensures told { IfSome result (λ noted. (letter : ℕ → Bool) → AreMet letter near.now
         → noted.is_letter ≡ letter noted.next.code) }
-    ensures end { IfSome result (λ noted. noted.next.end ≡ at + SIZE) }
 {
     let scalar = scalar_of_size::<SIZE>(text, at)?;
     let told = near.kept(scalar.code)?;
@@ -167,8 +167,29 @@ fn noted_alike<const SIZE: usize>(
     })
 }
 
-/// Goes on by scalars of one byte, a few, or of three (`SIZE`), since those of one size come in runs: until another one
-/// comes, or there may be no slot for the next.
+/// Goes on behind a scalar with this code: if that has four bytes, by those of three and four, else by those of one.
+#[inline(always)]
+fn read_behind<S: PartSlot>(
+    code: u32,
+    near: &NearScalars,
+    text: &str,
+    from: Reading,
+    out: &mut [S],
+) -> Reading
+    requires few { length text.now < 2 ^ 32 }
+    requires place { (from.start < from.at) × (from.at ≤ length text.now) × (from.count ≤ length out.old) }
+    requires row { from.row < 43 }
+    requires met { (letter : ℕ → Bool) × AreMet letter near.now }
+    ensures { ReadsOn S.made near.now text.now from out.old result out.new }
+{
+    if 0xFFFF < code {
+        return read_alike::<4, S>(near, text, from, out);
+    }
+    read_alike::<1, S>(near, text, from, out)
+}
+
+/// Goes on by scalars of one byte, a few, or of three (`SIZE`), since those of one size come in runs, or, where `SIZE` is
+/// 4, by those of three and four, of which emoji consist: until another one comes, or there may be no slot for the next.
 #[inline(always)]
 fn read_alike<const SIZE: usize, S: PartSlot>(
     near: &NearScalars,
@@ -178,7 +199,7 @@ fn read_alike<const SIZE: usize, S: PartSlot>(
 ) -> Reading
     requires few { length text.now < 2 ^ 32 }
     requires place { (from.start < from.at) × (from.at ≤ length text.now) × (from.count ≤ length out.old) }
-    requires size { (SIZE ≡ 1) ⊎ (SIZE ≡ 3) }
+    requires size { (SIZE ≡ 1) ⊎ (SIZE ≡ 3) ⊎ (SIZE ≡ 4) }
     requires row { from.row < 43 }
     requires met { (letter : ℕ → Bool) × AreMet letter near.now }
     ensures { ReadsOn S.made near.now text.now from out.old result out.new }
@@ -332,10 +353,19 @@ fn is_long_in(bytes: &[u8]) -> bool
     !begins_long((rest % 256) as u8, (rest / 256 % 256) as u8)
 }
 
-/// Whether a scalar from U+0080 on that begins with two bytes is likely to be a letter that bits tell.
+/// Whether a scalar from U+0080 on that begins with two bytes is likely to be a letter that bits tell. Most Arabic signs
+/// and marks, which come before and behind the letters, are none.
 #[inline(always)]
 fn is_usual(first: u8, second: u8) -> bool {
-    (0xC3 <= first && first < LONG && first != 0xD7) || begins_long(first, second)
+    if LONG <= first {
+        return begins_long(first, second);
+    }
+    match first {
+        0xD7 => false,
+        0xD8 => 0xA0 <= second,
+        0xD9 => second < 0x8B || 0xAE <= second,
+        _ => 0xC3 <= first,
+    }
 }
 
 /// Whether two bytes begin a letter of three that bits tell, or the first may and the second is 0, since it is not seen.
@@ -357,12 +387,22 @@ fn ends_in<const N: usize>(bytes: &[u8]) -> u64
     requires { 64 ≤ length bytes.now }
     ensures { (stop : ℕ) × AreEnds bytes.now 0 stop result }
 {
-    let marks = marks_of::<N>(bytes, wides_of(bytes));
+    let wides = wides_of(bytes);
+    if is_one_run(wides) {
+        return 0;
+    }
+    let marks = marks_of::<N>(bytes, wides);
     let before = marks.runs << 1;
     let others = (marks.runs & !before) & !marks.begins;
     let stop = first_set(marks.stops | others);
     let inside = (before & marks.runs) | pairs_in(bytes);
     kept_from(kept_below(!inside, stop), 1)
+}
+
+/// Whether all bytes before the first that is left to steps are of letters of two bytes or three: no part ends there.
+#[inline(always)]
+fn is_one_run(wides: Wides) -> bool {
+    wides.letters & 1 == 1 && kept_below(!wides.letters, first_set(wides.stops)) == 0
 }
 
 /// Which of the first 64 bytes are the second of a pair that is one part.

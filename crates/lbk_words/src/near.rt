@@ -1,4 +1,4 @@
-//! What was found out of the scalars below U+10000 that were met.
+//! What was found out of the scalars below U+20000 that were met.
 
 ghost use Rattle.std.specs.Prelude.{◌≡◌, ℕ, ◌<◌, Bool, IfSome};
 ghost use Rattle.lbk_words.specs.Near.{AreMet, IsTold, near_number};
@@ -8,7 +8,7 @@ use crate::kinds::kind_of;
 use crate::letters::Letters;
 
 /// Of each scalar below this one a number is kept.
-const NEAR: usize = 0x1_0000;
+const NEAR: usize = 0x2_0000;
 
 /// What is added to the kind of a scalar that was met.
 const MET: u8 = 32;
@@ -16,7 +16,7 @@ const MET: u8 = 32;
 /// What is added where it is a letter.
 const LETTER: u8 = 64;
 
-/// The kinds of the scalars below U+10000 that were met, and which are letters by those who were asked: so each is looked
+/// The kinds of the scalars below U+20000 that were met, and which are letters by those who were asked: so each is looked
 /// up once, and found by one read from then on.
 #[derive(Drop)]
 pub struct NearScalars {

@@ -42,26 +42,28 @@ pub(crate) fn scalar_at(text: &[u8], at: usize) -> Scalar
     placed(text, at, scalar)
 }
 
-/// The scalar at a byte of a text, where it takes one or three (`SIZE`), as its first byte tells.
+/// The scalar at a byte of a text, where it takes one or three (`SIZE`), as its first byte tells, or, where `SIZE` is 4,
+/// three or four.
 #[inline(always)]
 pub(crate) fn scalar_of_size<const SIZE: usize>(text: &str, at: usize) -> Option<Scalar>
-    requires size { (SIZE ≡ 1) ⊎ (SIZE ≡ 3) }
+    requires size { (SIZE ≡ 1) ⊎ (SIZE ≡ 3) ⊎ (SIZE ≡ 4) }
     requires place { at + SIZE ≤ length text.now }
-    ensures reads { IfSome result (λ scalar. IsReadAt text.now at scalar.code scalar.end) }
-    ensures end { IfSome result (λ scalar. scalar.end ≡ at + SIZE) }
+    ensures { IfSome result (λ scalar. IsReadAt text.now at scalar.code scalar.end) }
 {
     if SIZE == 1 {
         return one_at(text.as_bytes(), at);
     }
-    three_of(text, at)
+    if SIZE == 3 {
+        return three_of(text, at);
+    }
+    wide_at(text.as_bytes(), at)
 }
 
 /// The scalar at a byte of a text, where it takes three, as its first byte tells.
 #[inline(always)]
 fn three_of(text: &str, at: usize) -> Option<Scalar>
     requires { at + 3 ≤ length text.now }
-    ensures reads { IfSome result (λ scalar. IsReadAt text.now at scalar.code scalar.end) }
-    ensures end { IfSome result (λ scalar. scalar.end ≡ at + 3) }
+    ensures { IfSome result (λ scalar. IsReadAt text.now at scalar.code scalar.end) }
 {
     let bytes = text.as_bytes();
     let scalar = scalar_of_led_three(&bytes[at..])?;

@@ -3,7 +3,7 @@ use Rattle.std.specs.Int.{bit_not}
 use Rattle.std.specs.Int.Bits.{and_lt}
 use Rattle.std.proofs.lemmas.Nat.{or_lt}
 use Rattle.std.proofs.lemmas.Bool.{and_left, and_right, cases_lt, le-ltb, lt-ltb}
-use Rattle.lbk_masks.proofs.BitLemmas.{set-and, set-not, set-or}
+use Rattle.lbk_masks.proofs.BitLemmas.{set-and, set-none, set-not, set-or}
 use Rattle.lbk_masks.specs.Bits.{AreKeptFrom}
 use Rattle.lbk_masks.specs.Sets.{is_set}
 use Rattle.lbk_words.specs.Blocks.{runs_at}
@@ -11,6 +11,18 @@ use Rattle.lbk_words.specs.Ends.{goes_on_at}
 use Rattle.lbk_words.proofs.Booleans.{or_parts}
 use Rattle.lbk_words.proofs.EdgeLemmas.{others-at, set-before}
 use Rattle.lbk_words.proofs.ends.ends_in.Goals as goal
+
+pub returns-then-is_one_run : goal.returns-then-is_one_run
+returns-then-is_one_run g c = (
+  0,
+  record {
+    few = omega arith;
+    fit = λ i. (c.type_inv.bytes i).fits;
+    told = λ i few. set-none i ∙ sym (and_left (nat_lt i 0) (nat_lt 0 i && not (goes_on_at c.args.bytes.now i)) (le-ltb i 0 (omega arith)));
+    plain = λ i after less. absurd (omega arith);
+    begins = λ i after less. absurd (omega arith);
+  },
+)
 
 pub returns : goal.returns
 returns g c =

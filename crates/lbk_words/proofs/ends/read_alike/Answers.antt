@@ -5,7 +5,6 @@ pub alike-preserved : goal.alike-preserved
 alike-preserved g c =
     let i = c.alike.invariant in
     let next = c.in-Some.ensures.next in
-    let end = c.in-Some.ensures.end in
     let t = c.taken-next.ensures in
     let grows = next.read.grows in
     let within = next.read.within in
