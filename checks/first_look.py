@@ -3,7 +3,6 @@
 Its messages for mistakes are compared with those of the proved program. A stand-in for `rt` shows what would be built,
 and on which input it would run; with the argument --build the real program is built and run.
 """
-import resource
 import shutil
 import subprocess
 import sys
@@ -43,7 +42,6 @@ WORDS = [
     ["mark", *FILES, "--sign", "|", "--sign", "+"], ["mark", *FILES, "--sign"], ["show", *FILES, "--name", "x"],
     ["replay", "--kind"],
 ]  # fmt: skip
-SECONDS = 1  # of processor time
 SAID = ("nothing of this run is proved", "./lbk --prove", "rt ci")
 # The interpreter of `rt try` has no answer for a program that reads files, and is given one step.
 INTERPRETER = ["--steps", "1"]
@@ -54,12 +52,6 @@ echo 'lbk: handed-over-5: byte 3: a fault' >&2
 echo 'run=ended status=1 proved=no' >&2
 printf '==> handed-over-4 <==\\n==> handed-over-4\\nwrote'
 """
-
-
-def seconds_taken():
-    """The processor time of all that this process started and that has ended."""
-    used = resource.getrusage(resource.RUSAGE_CHILDREN)
-    return used.ru_utime + used.ru_stime
 
 
 class Clone:
@@ -80,10 +72,8 @@ class Clone:
 
     def run(self, words, given=b"", **more):
         (self.room / "words").unlink(missing_ok=True)
-        before = seconds_taken()
         env = {"PATH": str(self.bin), "TRIED": str(self.room), "LC_ALL": "C.UTF-8"}
-        ended = run_program([self.top / "lbk", *words], given, cwd=self.room / "place", env=env, **more)
-        return ended, seconds_taken() - before
+        return run_program([self.top / "lbk", *words], given, cwd=self.room / "place", env=env, **more)
 
     def tried(self):
         """The words that the stand-in was given, or None."""
@@ -109,22 +99,20 @@ def told_at_once(tally, clone, program):
     """What is told before anything is built is what the program tells."""
     mistakes = [[task, *FILES, *more.split()] for task, more, _, _ in MISTAKES]
     for words in WORDS + mistakes:
-        ended, seconds = clone.run(words)
+        ended = clone.run(words)
         wanted = run_program([program, *words], cwd=clone.room / "place")
         fault = None
         if clone.tried() is not None:
             fault = "something was built"
         elif ended != wanted:
             fault = f"{shown(ended.err or ended.out)} with status {ended.status}, not {shown(wanted.err or wanted.out)} with {wanted.status}"
-        elif seconds > SECONDS:
-            fault = f"{seconds:.1f} s"
         tally.tell(f"at once: {shown(' '.join(words))}", fault)
 
 
 def handed_over(tally, clone):
     """What is built runs on the files that the words name, texts among them, and on standard input where it is
     wanted."""
-    ended, _ = clone.run(["mark", "--ucd", "ucd", "text", "--limit=9", "other"], b"not to be read")
+    ended = clone.run(["mark", "--ucd", "ucd", "text", "--limit=9", "other"], b"not to be read")
     words = clone.tried()
     place = clone.room / "place"
     wanted = ["try", *INTERPRETER]
@@ -138,19 +126,19 @@ def handed_over(tally, clone):
     tally.equal("what the program wrote and its status", (ended.out, ended.status), (out, 1))
     head = ended.err.decode().splitlines()[0]
     tally.tell("it is said that nothing is proved, and how to go on", None if all(it in head for it in SAID) else head)
-    ended, _ = clone.run(["--unproved", "mark", "--ucd", "ucd", "text", "--limit=9", "other"])
+    ended = clone.run(["--unproved", "mark", "--ucd", "ucd", "text", "--limit=9", "other"])
     tally.equal("the same is handed over with --unproved", clone.tried(), wanted)
-    ended, _ = clone.run(["mark", *FILES, "-", "text"], b"read")
+    ended = clone.run(["mark", *FILES, "-", "text"], b"read")
     tally.equal("standard input is handed over where it is named", (clone.room / "input").read_bytes(), b"read")
     tally.equal("a name that no file was handed over by stays", ended.err.decode().splitlines()[-1],
         "lbk: handed-over-5: byte 3: a fault")
-    ended, _ = clone.run(["mark", *FILES, "other", "text"])
+    ended = clone.run(["mark", *FILES, "other", "text"])
     tally.equal("a message names the second text", ended.err.decode().splitlines()[-1], "lbk: text: byte 3: a fault")
     tally.equal("a line of the text that looks like one of --names stays", ended.out, out)
-    ended, _ = clone.run(["replay", "--names", *FILES, "te\u202ext"])
+    ended = clone.run(["replay", "--names", *FILES, "te\u202ext"])
     tally.equal("a line of --names has the name of the text", ended.out,
         b"==> te\\u{202e}xt <==\n==> handed-over-4\nwrote")
-    ended, _ = clone.run([], b"ab")
+    ended = clone.run([], b"ab")
     tally.equal("no words: standard input is handed over", (clone.tried(), (clone.room / "input").read_bytes()),
         (["try", *INTERPRETER, "--"], b"ab"))
 
@@ -165,7 +153,7 @@ def too_much(tally, clone):
     ):
         with open(big, "wb") as it:
             it.truncate(size)
-        ended, _ = clone.run(words, given)
+        ended = clone.run(words, given)
         is_told = ended.status == 70 and ended.err.count(b"\n") == 1 and b"./lbk --prove" in ended.err
         tally.tell(name, None if is_told and clone.tried() is None else f"status {ended.status}, {shown(ended.err)}")
 
@@ -174,7 +162,7 @@ def without_tools(tally, clone):
     """Without Python 3 or the kit there is one plain line."""
     for name, tool in (("Python 3", "python3"), ("the kit", "rt")):
         (clone.bin / tool).rename(clone.bin / "hidden")
-        ended, _ = clone.run(["mark", *FILES])
+        ended = clone.run(["mark", *FILES])
         is_told = ended.status == 70 and ended.err.startswith(b"lbk: ") and ended.err.count(b"\n") == 1
         tally.tell(f"without {name}", None if is_told else f"status {ended.status}, {shown(ended.err)}")
         (clone.bin / "hidden").rename(clone.bin / tool)
