@@ -1,10 +1,10 @@
 //! The scalars of two to four bytes, read without a call.
 
-ghost use Rattle.std.specs.Prelude.{◌≡◌, ℕ, ◌<◌, ◌≤◌, true, get_or, length, IfSome};
+ghost use Rattle.std.specs.Prelude.{◌≡◌, ◌⊎◌, ℕ, ◌<◌, ◌≤◌, true, get_or, length, IfSome};
 ghost use Rattle.bstr.specs.Utf8.{code_of_2, continues, decoded, good};
 ghost use Rattle.lbk_words.specs.Widths.{IsWidth};
 
-use lbk_scalars::{MARKS_OF_THREE, is_continuation, joined, takes_three};
+use lbk_scalars::{MARKS_OF_THREE, is_continuation, joined, scalar_of_led_three, takes_three};
 
 /// A scalar value and how many bytes it takes.
 #[derive(Clone, Copy)]
@@ -55,19 +55,20 @@ pub(crate) fn scalar_of_three(bytes: &[u8]) -> Option<Coded>
     })
 }
 
-/// The same of bytes that begin with a scalar, if their first one begins one of three bytes.
+/// The scalar at the front of bytes that begin with one, if its first byte begins one of three bytes, or, where `SIZE` is
+/// 4, one of three or four.
 #[inline(always)]
-pub(crate) fn scalar_of_led_three(bytes: &[u8]) -> Option<Coded>
-    requires enough { 3 ≤ length bytes.now }
+pub(crate) fn scalar_of_led<const SIZE: usize>(bytes: &[u8]) -> Option<Coded>
+    requires size { (SIZE ≡ 3) ⊎ (SIZE ≡ 4) }
+    requires enough { SIZE ≤ length bytes.now }
     requires stands { 0xDF ≤ get_or bytes.now 0 0 → (code size : ℕ) × (decoded bytes.now ≡ good code size) }
-    ensures reads { IfSome result (λ scalar. decoded bytes.now ≡ good scalar.code scalar.size) }
-    ensures size { IfSome result (λ scalar. scalar.size ≡ 3) }
+    ensures { IfSome result (λ scalar. decoded bytes.now ≡ good scalar.code scalar.size) }
 {
-    if let Some(code) = lbk_scalars::scalar_of_led_three(bytes) {
-        Some(Coded { code, size: 3 })
-    } else {
-        None
+    if SIZE == 4 {
+        return scalar_of_led_wide(bytes);
     }
+    let code = scalar_of_led_three(bytes)?;
+    Some(Coded { code, size: 3 })
 }
 
 /// How the bytes of a scalar count in its code, by how many they are.
@@ -112,6 +113,26 @@ pub(crate) fn scalar_of_wide(bytes: &[u8]) -> Option<Coded>
     }
     Some(Coded {
         code: (two * 64 + u32::from(third)) * width.third + fourth - width.marks,
+        size: width.size as usize,
+    })
+}
+
+/// The same of bytes that begin with a scalar, as its first byte tells.
+#[inline(always)]
+fn scalar_of_led_wide(bytes: &[u8]) -> Option<Coded>
+    requires enough { 4 ≤ length bytes.now }
+    requires stands { 0xDF ≤ get_or bytes.now 0 0 → (code size : ℕ) × (decoded bytes.now ≡ good code size) }
+    ensures { IfSome result (λ scalar. decoded bytes.now ≡ good scalar.code scalar.size) }
+{
+    let first = bytes[0];
+    if first < 0xE0 {
+        return None;
+    }
+    let width = width_of(first);
+    let fourth = u32::from(bytes[3].wrapping_sub(0x80)) * width.fourth;
+    let two = u32::from(first) * 64 + u32::from(bytes[1]);
+    Some(Coded {
+        code: (two * 64 + u32::from(bytes[2])) * width.third + fourth - width.marks,
         size: width.size as usize,
     })
 }

@@ -22,6 +22,9 @@ const FEW: usize = 4;
 /// The first byte value with which few letters of two bytes begin, or longer ones do.
 const LONG: u8 = 0xDC;
 
+/// The first byte value with which a scalar of three bytes begins.
+const WIDE: u8 = 0xE0;
+
 /// How far a text is looked at for a long scalar: one of three bytes or more that is no letter told by bits. Near it steps
 /// tell ends as fast as bits do.
 const SOON: usize = 20;
@@ -91,6 +94,10 @@ pub fn fill_parts<L: Letters, S: PartSlot>(
         }
         if here.at == text.len() {
             break;
+        }
+        if let Some(noted) = lone_at(near, here.row, text, here.at) {
+            here = taken(here, noted, out);
+            continue;
         }
         let noted = noted_at(letters, near, here.row, bytes, here.at);
         let read = taken(here, noted, out);
@@ -165,6 +172,22 @@ fn noted_alike<const SIZE: usize>(
         },
         is_letter: told.is_letter,
     })
+}
+
+/// The same of a scalar of one byte, where one of three or four follows: most words are between two of these.
+#[inline(always)]
+fn lone_at(near: &NearScalars, row: usize, text: &str, at: usize) -> Option<Noted>
+    requires place { (row < 43) × (at < length text.now) }
+    requires met { (letter : ℕ → Bool) × AreMet letter near.now }
+    ensures next { IfSome result (λ noted. IsNextStep text.now row at noted.next) }
+    ensures told { IfSome result (λ noted. (letter : ℕ → Bool) → AreMet letter near.now
+        → noted.is_letter ≡ letter noted.next.code) }
+{
+    let bytes = text.as_bytes();
+    if bytes.len() - at < 2 || bytes[at + 1] < WIDE {
+        return None;
+    }
+    noted_alike::<1>(near, row, text, at)
 }
 
 /// Goes on behind a scalar with this code: if that has four bytes, by those of three and four, else by those of one.

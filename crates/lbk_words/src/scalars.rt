@@ -7,7 +7,7 @@ ghost use Rattle.lbk_words.specs.Places.{IsReadAt};
 ghost use Rattle.lbk_words.specs.Rows.{answer_number};
 ghost use Rattle.lbk_words.specs.Words.{scalars_on};
 
-use crate::decoding::{Coded, scalar_of_few, scalar_of_led_three, scalar_of_three, scalar_of_wide};
+use crate::decoding::{Coded, scalar_of_few, scalar_of_led, scalar_of_three, scalar_of_wide};
 use crate::kinds::kind_of;
 use crate::step_table::ANSWERS;
 use bstr::decode_lossy;
@@ -53,20 +53,18 @@ pub(crate) fn scalar_of_size<const SIZE: usize>(text: &str, at: usize) -> Option
     if SIZE == 1 {
         return one_at(text.as_bytes(), at);
     }
-    if SIZE == 3 {
-        return three_of(text, at);
-    }
-    wide_at(text.as_bytes(), at)
+    led_at::<SIZE>(text, at)
 }
 
-/// The scalar at a byte of a text, where it takes three, as its first byte tells.
+/// The scalar at a byte of a text, where it takes three, or, where `SIZE` is 4, three or four, as its first byte tells.
 #[inline(always)]
-fn three_of(text: &str, at: usize) -> Option<Scalar>
-    requires { at + 3 ≤ length text.now }
+fn led_at<const SIZE: usize>(text: &str, at: usize) -> Option<Scalar>
+    requires size { (SIZE ≡ 3) ⊎ (SIZE ≡ 4) }
+    requires place { at + SIZE ≤ length text.now }
     ensures { IfSome result (λ scalar. IsReadAt text.now at scalar.code scalar.end) }
 {
     let bytes = text.as_bytes();
-    let scalar = scalar_of_led_three(&bytes[at..])?;
+    let scalar = scalar_of_led::<SIZE>(&bytes[at..])?;
     Some(placed(bytes, at, scalar))
 }
 

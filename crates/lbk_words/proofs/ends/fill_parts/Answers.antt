@@ -83,3 +83,21 @@ returns-clause-parts g c =
     let threes = c.read_alike-here.ensures.reads letter i.met c.args.from c.args.out.now i.reads in
     reading-ended g.S.PartSlot.made letter c.args.text.now c.args.from c.args.out.now here out _ threes (omega (arith, c.if-here-text.true))
     (take_more_set out here.count put (omega (arith, c.read_alike-here.ensures.within.2, c.read_alike-here.auto.out, c.if-here-out.false)) ∙ ap (λ x. take here.count out ++ x ∷ []) c.put.ensures)
+
+pub scalars-preserved-in-Some : goal.scalars-preserved-in-Some
+scalars-preserved-in-Some g c =
+    let letter = g.L.Letters.letter_of c.args.letters.now in
+    let i = c.scalars.invariant in
+    let o = c.read_alike-here.ensures in
+    let t = c.taken-here.ensures in
+    let next = c.in-Some.ensures.next in
+    let threes = o.reads letter i.met c.args.from c.args.out.now i.reads in
+    record {
+      few = omega (arith, next.step.next, t.place.1);
+      within = (omega (arith, t.start.1, t.place.0, next.read.grows), omega (arith, t.place.0, next.read.within));
+      onward = (omega (arith, i.onward, o.onward, t.place.0, next.read.grows), omega (arith, i.onward, o.starts, t.starts));
+      count = omega (arith, t.count, o.within.2, c.if-here-out.false, c.read_alike-here.auto.out, c.taken-here.auto.out);
+      len = c.taken-here.auto.out ∙ c.read_alike-here.auto.out ∙ i.len;
+      met = i.met;
+      reads = t.reads letter c.args.text.now c.args.from c.args.out.now (record { next = next; told = c.in-Some.ensures.told letter i.met }) threes;
+    }
