@@ -26,8 +26,17 @@ pub(crate) fn scalar_of_few(bytes: &[u8]) -> Option<Coded>
     if 0xE0 <= first {
         return scalar_of_three(bytes);
     }
-    let next = bytes[1];
-    if !is_continuation(next) {
+    scalar_of_two(bytes)
+}
+
+/// The scalar of two bytes at the front of two bytes or more.
+#[inline(always)]
+fn scalar_of_two(bytes: &[u8]) -> Option<Coded>
+    requires { 2 ≤ length bytes.now }
+    ensures { IfSome result (λ scalar. decoded bytes.now ≡ good scalar.code scalar.size) }
+{
+    let (first, next) = (bytes[0], bytes[1]);
+    if first < 0xC2 || 0xDF < first || !is_continuation(next) {
         return None;
     }
     Some(Coded {
@@ -55,15 +64,18 @@ pub(crate) fn scalar_of_three(bytes: &[u8]) -> Option<Coded>
     })
 }
 
-/// The scalar at the front of bytes that begin with one, if its first byte begins one of three bytes, or, where `SIZE` is
-/// 4, one of three or four.
+/// The scalar at the front of bytes that begin with one, if its first byte begins one of two bytes or three (`SIZE`), or,
+/// where `SIZE` is 4, one of three or four.
 #[inline(always)]
 pub(crate) fn scalar_of_led<const SIZE: usize>(bytes: &[u8]) -> Option<Coded>
-    requires size { (SIZE ≡ 3) ⊎ (SIZE ≡ 4) }
+    requires size { (SIZE ≡ 2) ⊎ (SIZE ≡ 3) ⊎ (SIZE ≡ 4) }
     requires enough { SIZE ≤ length bytes.now }
     requires stands { 0xDF ≤ get_or bytes.now 0 0 → (code size : ℕ) × (decoded bytes.now ≡ good code size) }
     ensures { IfSome result (λ scalar. decoded bytes.now ≡ good scalar.code scalar.size) }
 {
+    if SIZE == 2 {
+        return scalar_of_two(bytes);
+    }
     if SIZE == 4 {
         return scalar_of_led_wide(bytes);
     }

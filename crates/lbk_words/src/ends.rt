@@ -143,7 +143,7 @@ fn noted_at<L: Letters>(
 }
 
 /// The same, where it takes the bytes that `scalar_of_size` reads, it was met before, and no step depends on what follows
-/// it.
+/// it. One of two bytes is not taken where the part ends, since bits may tell what follows.
 #[inline(always)]
 fn noted_alike<const SIZE: usize>(
     near: &NearScalars,
@@ -151,7 +151,7 @@ fn noted_alike<const SIZE: usize>(
     text: &str,
     at: usize,
 ) -> Option<Noted>
-    requires size { (SIZE ≡ 1) ⊎ (SIZE ≡ 3) ⊎ (SIZE ≡ 4) }
+    requires size { (SIZE ≡ 1) ⊎ (SIZE ≡ 2) ⊎ (SIZE ≡ 3) ⊎ (SIZE ≡ 4) }
     requires place { (row < 43) × (at + SIZE ≤ length text.now) }
     requires met { (letter : ℕ → Bool) × AreMet letter near.now }
     ensures next { IfSome result (λ noted. IsNextStep text.now row at noted.next) }
@@ -161,7 +161,7 @@ fn noted_alike<const SIZE: usize>(
     let scalar = scalar_of_size::<SIZE>(text, at)?;
     let told = near.kept(scalar.code)?;
     let step = step_of_kind(row, told.kind);
-    if step.asks {
+    if step.asks || (SIZE == 2 && step.cuts) {
         return None;
     }
     Some(Noted {
@@ -190,7 +190,8 @@ fn lone_at(near: &NearScalars, row: usize, text: &str, at: usize) -> Option<Note
     noted_alike::<1>(near, row, text, at)
 }
 
-/// Goes on behind a scalar with this code: if that has four bytes, by those of three and four, else by those of one.
+/// Goes on behind a scalar with this code: if that has four bytes, by those of three and four, if it has two, by those of
+/// two, else by those of one.
 #[inline(always)]
 fn read_behind<S: PartSlot>(
     code: u32,
@@ -208,11 +209,15 @@ fn read_behind<S: PartSlot>(
     if 0xFFFF < code {
         return read_alike::<4, S>(near, text, from, out);
     }
+    if 0x7F < code && code < 0x800 {
+        return read_alike::<2, S>(near, text, from, out);
+    }
     read_alike::<1, S>(near, text, from, out)
 }
 
-/// Goes on by scalars of one byte, a few, or of three (`SIZE`), since those of one size come in runs, or, where `SIZE` is
-/// 4, by those of three and four, of which emoji consist: until another one comes, or there may be no slot for the next.
+/// Goes on by scalars of one byte, a few, of two or of three (`SIZE`), since those of one size come in runs, or, where
+/// `SIZE` is 4, by those of three and four, of which emoji consist: until another one comes, or there may be no slot for
+/// the next.
 #[inline(always)]
 fn read_alike<const SIZE: usize, S: PartSlot>(
     near: &NearScalars,
@@ -222,7 +227,7 @@ fn read_alike<const SIZE: usize, S: PartSlot>(
 ) -> Reading
     requires few { length text.now < 2 ^ 32 }
     requires place { (from.start < from.at) × (from.at ≤ length text.now) × (from.count ≤ length out.old) }
-    requires size { (SIZE ≡ 1) ⊎ (SIZE ≡ 3) ⊎ (SIZE ≡ 4) }
+    requires size { (SIZE ≡ 1) ⊎ (SIZE ≡ 2) ⊎ (SIZE ≡ 3) ⊎ (SIZE ≡ 4) }
     requires row { from.row < 43 }
     requires met { (letter : ℕ → Bool) × AreMet letter near.now }
     ensures { ReadsOn S.made near.now text.now from out.old result out.new }

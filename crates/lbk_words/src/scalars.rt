@@ -42,11 +42,11 @@ pub(crate) fn scalar_at(text: &[u8], at: usize) -> Scalar
     placed(text, at, scalar)
 }
 
-/// The scalar at a byte of a text, where it takes one or three (`SIZE`), as its first byte tells, or, where `SIZE` is 4,
-/// three or four.
+/// The scalar at a byte of a text, where it takes one byte, two or three (`SIZE`), as its first byte tells, or, where
+/// `SIZE` is 4, three or four.
 #[inline(always)]
 pub(crate) fn scalar_of_size<const SIZE: usize>(text: &str, at: usize) -> Option<Scalar>
-    requires size { (SIZE ≡ 1) ⊎ (SIZE ≡ 3) ⊎ (SIZE ≡ 4) }
+    requires size { (SIZE ≡ 1) ⊎ (SIZE ≡ 2) ⊎ (SIZE ≡ 3) ⊎ (SIZE ≡ 4) }
     requires place { at + SIZE ≤ length text.now }
     ensures { IfSome result (λ scalar. IsReadAt text.now at scalar.code scalar.end) }
 {
@@ -56,10 +56,10 @@ pub(crate) fn scalar_of_size<const SIZE: usize>(text: &str, at: usize) -> Option
     led_at::<SIZE>(text, at)
 }
 
-/// The scalar at a byte of a text, where it takes three, or, where `SIZE` is 4, three or four, as its first byte tells.
+/// The same of a scalar of more than one byte.
 #[inline(always)]
 fn led_at<const SIZE: usize>(text: &str, at: usize) -> Option<Scalar>
-    requires size { (SIZE ≡ 3) ⊎ (SIZE ≡ 4) }
+    requires size { (SIZE ≡ 2) ⊎ (SIZE ≡ 3) ⊎ (SIZE ≡ 4) }
     requires place { at + SIZE ≤ length text.now }
     ensures { IfSome result (λ scalar. IsReadAt text.now at scalar.code scalar.end) }
 {
