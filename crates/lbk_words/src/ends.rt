@@ -174,7 +174,7 @@ fn noted_alike<const SIZE: usize>(
     })
 }
 
-/// The same of a scalar of one byte, where one of three or four follows: most words are between two of these.
+/// The same of a scalar of one byte, where one of three or four follows, or nothing: so most words among these end.
 #[inline(always)]
 fn lone_at(near: &NearScalars, row: usize, text: &str, at: usize) -> Option<Noted>
     requires place { (row < 43) × (at < length text.now) }
@@ -184,7 +184,7 @@ fn lone_at(near: &NearScalars, row: usize, text: &str, at: usize) -> Option<Note
         → noted.is_letter ≡ letter noted.next.code) }
 {
     let bytes = text.as_bytes();
-    if bytes.len() - at < 2 || bytes[at + 1] < WIDE {
+    if at + 1 < bytes.len() && bytes[at + 1] < WIDE {
         return None;
     }
     noted_alike::<1>(near, row, text, at)
