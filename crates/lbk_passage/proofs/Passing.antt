@@ -6,13 +6,15 @@ use Rattle.std.proofs.Math.Utf8.{scalars}
 use Rattle.std.proofs.lemmas.Bool.{cases_lt, false≢true}
 use Rattle.std.proofs.lemmas.List.{drop_more, get_or-drop, get_or_append_left, length-take-le, take-append-drop}
 use Rattle.std.proofs.lemmas.Str.{encode_ascii, encode_same, encodes-append, encodes-chars, encodes_same, IsCharBoundary-at_seam, IsCharBoundary-from_drop, IsUtf8-between, IsUtf8-encode, IsUtf8-take}
+use Rattle.lbk_masks.specs.Sets.{is_set}
 use Rattle.lbk_rules.specs.Classes.{CR, LF}
 use Rattle.lbk_rules.specs.FirstBytes.{first_byte}
 use Rattle.lbk_rules.specs.declared.Class.{Class}
 use Rattle.lbk_rules.specs.declared.Cell.{Cell}
 use Rattle.lbk_passage.proofs.ReadLemmas.{reads}
 use Rattle.lbk_passage.specs.Gathering.{Reaches, StopsBefore}
-use Rattle.lbk_passage.specs.Flags.{AreQuiet, ArePassed, Passes, is_end}
+use Rattle.lbk_rules.specs.Ends.{ends_line}
+use Rattle.lbk_passage.specs.Flags.{AreCalm, AreQuiet, ArePassed, Passes, is_end}
 use Rattle.lbk_passage.specs.Stays.{ends_at, last_class}
 use Rattle.lbk_passage.specs.declared.reach.Reach.{Reach}
 use Rattle.lbk_passage.proofs.Booleans.{both-left, both-right}
@@ -24,19 +26,66 @@ pub calm : (last : Option Class) (next : Class) → is_end last ≡ false → en
 calm None next quiet = refl
 calm (Some last) next quiet = ap (λ b. b && not (CR last && LF next)) quiet
 
+-- a scalar begins at a byte that is not quiet
+pub place-loud : (cell : ℕ → Cell) (is_quiet : List Bool) (piece : List ℕ) (k : ℕ) → AreQuiet cell is_quiet → k ≤ length piece
+    → slice_index_or is_quiet (slice_index_or piece k 0) false ≡ false → IsCharBoundary piece k
+place-loud cell is_quiet piece k are within loud = (
+  within,
+  λ below high. elim (cases_lt (slice_index_or piece k 0) 192) [
+    | inl low ↦ absurd (false≢true (sym loud ∙ are.later (slice_index_or piece k 0) high low))
+    | inr enough ↦ enough
+  ],
+)
+
 -- where bytes were passed up to one that is not quiet, or up to a place where a scalar begins, one begins
 pub place-passed : (cell : ℕ → Cell) (is_quiet : List Bool) (piece : List ℕ) (k end : ℕ) → AreQuiet cell is_quiet → IsCharBoundary piece end → k ≤ end
     → (k < end → slice_index_or is_quiet (slice_index_or piece k 0) false ≡ false) → IsCharBoundary piece k
 place-passed cell is_quiet piece k end are place within stops = elim (cases_lt k end) [
-  | inl less ↦ (
-    omega (arith, within, place.0),
-    λ below high. elim (cases_lt (slice_index_or piece k 0) 192) [
-      | inl low ↦ absurd (false≢true (sym (stops less) ∙ are.later (slice_index_or piece k 0) high low))
-      | inr enough ↦ enough
-    ],
-  )
+  | inl less ↦ place-loud cell is_quiet piece k are (omega (arith, within, place.0)) (stops less)
   | inr enough ↦ let same : end ≡ k = omega (arith, enough, within) in subst (IsCharBoundary piece) same place
 ]
+
+-- the byte at which a scalar stands
+begins-at : (piece : List ℕ) (k c : ℕ) (more : List ℕ) → drop k piece ≡ encode_utf8 c ++ more → slice_index_or piece k 0 ≡ first_byte c
+begins-at piece k c more splits =
+    let here : k ≡ k + 0 = omega arith in
+    ap (λ n. slice_index_or piece n 0) here ∙ sym (get_or-drop k piece 0 0) ∙ ap (λ l. slice_index_or l 0 0) splits
+    ∙ get_or_append_left (encode_utf8 c) more 0 0 (some_bytes c)
+
+-- no line must end behind the scalars that begin with quiet bytes
+pub calm-passed : (cell : ℕ → Cell) (is_quiet : List Bool) (piece : List ℕ) (start end : ℕ) → AreQuiet cell is_quiet
+    → ArePassed is_quiet piece start end → AreCalm cell piece start end
+calm-passed cell is_quiet piece start end are passed k c more from to scalar splits =
+    are.first c scalar (ap (λ b. slice_index_or is_quiet b false) (sym (begins-at piece k c more splits)) ∙ passed k from to)
+
+-- nor behind these, and then those
+pub calm-joined : (cell : ℕ → Cell) (piece : List ℕ) (start seam end : ℕ) → AreCalm cell piece start seam → AreCalm cell piece seam end
+    → AreCalm cell piece start end
+calm-joined cell piece start seam end these those k c more from to scalar splits = elim (cases_lt k seam) [
+  | inl before ↦ these k c more from before scalar splits
+  | inr behind ↦ those k c more (omega (arith, behind)) to scalar splits
+]
+
+-- nor behind one that begins with a quiet byte
+pub calm-quiet : (cell : ℕ → Cell) (is_quiet : List Bool) (piece : List ℕ) (at : ℕ) → AreQuiet cell is_quiet
+    → slice_index_or is_quiet (slice_index_or piece at 0) false ≡ true → AreCalm cell piece at (at + 1)
+calm-quiet cell is_quiet piece at are quiet = calm-passed cell is_quiet piece at (at + 1) are
+    (λ k from to. let same : k ≡ at = omega (arith, from, to) in ap (λ n. slice_index_or is_quiet (slice_index_or piece n 0) false) same ∙ quiet)
+
+-- nor behind those that begin at bytes whose bits are not set
+pub calm-block : (cell : ℕ → Cell) (piece : List ℕ) (start left count : ℕ)
+    → ((i : ℕ) → i < 64 → is_set left i ≡ false → AreCalm cell piece (start + i) (start + i + 1))
+    → count ≤ 64 → ((i : ℕ) → i < count → is_set left i ≡ false) → AreCalm cell piece start (start + count)
+calm-block cell piece start left count each few none k c more from to scalar splits =
+    each (k - start) (omega (arith, to, few, from)) (none (k - start) (omega (arith, to, from))) k c more (omega (arith, from)) (omega (arith, from)) scalar splits
+
+-- nor behind the one that was read at a place
+pub calm-read : (cell : ℕ → Cell) (piece : List ℕ) (at c : ℕ) (more : List ℕ) → drop at piece ≡ encode_utf8 c ++ more
+    → ends_line (cell c).class ≡ false → AreCalm cell piece at (at + 1)
+calm-read cell piece at c more splits none k d rest from to scalar other =
+    let same : k ≡ at = omega (arith, from, to) in
+    let it = encode_same c d more rest (sym splits ∙ ap (λ n. drop n piece) (sym same) ∙ other) in
+    ap (λ x. ends_line (cell x).class) (sym it.0) ∙ none
 
 -- a scalar of one byte at the front of a text
 pub chars-byte : (text : List ℕ) → IsUtf8 text → 0 < length text → slice_index_or text 0 0 < 128
@@ -121,31 +170,26 @@ module _ {cell : ℕ → Cell} {first : Option Class} {piece : List ℕ} {room :
       (passes.last_is ∙ ap (last_class cell first) same ∙ last_class-append cell first (chars rest) (c ∷ []))
       passes
 
-  -- all scalars up to a place where one begins, where each of their bytes tells that a line must end behind none
-  pub Passes-quiet : (is_quiet : List Bool) → AreQuiet cell is_quiet → (next : ℕ) → IsCharBoundary piece next → next ≤ room
+  -- all scalars up to a place where one begins, where a line must end behind none
+  pub Passes-calm : (next : ℕ) → IsCharBoundary piece next → next ≤ room
       → (cs : List ℕ) (len : ℕ) (last : Option Class) → Passes cell first piece room len last → is_end last ≡ false
-      → scalars cs ≡ true → drop len piece ≡ encode_utf8_all cs → len ≤ next → ArePassed is_quiet piece len next
+      → scalars cs ≡ true → drop len piece ≡ encode_utf8_all cs → len ≤ next → AreCalm cell piece len next
       → (final : Option Class) × Passes cell first piece room next final
-  Passes-quiet is_quiet are next there within [] len last passes calm_last all splits before passed =
+  Passes-calm next there within [] len last passes calm_last all splits before calm_here =
       let none : 0 ≡ length piece - len = sym (ap length splits) ∙ length-drop len piece in
       let same : len ≡ next = omega (arith, none, there.0) in
       (last, subst (λ n. Passes cell first piece room n last) same passes)
-  Passes-quiet is_quiet are next there within (c ∷ cs) len last passes calm_last all splits before passed = elim (cases_lt len next) [
+  Passes-calm next there within (c ∷ cs) len last passes calm_last all splits before calm_here = elim (cases_lt len next) [
     | inl less ↦
         let more = encode_utf8_all cs in
-        let size = length (encode_utf8 c) in
         let r = reads piece more len c utf8 passes.place splits in
-        let some = some_bytes c in
-        let here : len ≡ len + 0 = omega arith in
-        let begins : slice_index_or piece len 0 ≡ first_byte c =
-        ap (λ k. slice_index_or piece k 0) here ∙ sym (get_or-drop len piece 0 0) ∙ ap (λ l. slice_index_or l 0 0) splits ∙ get_or_append_left (encode_utf8 c) more 0 0 some in
-        let quiet = are.first c (both-left _ _ all) (ap (λ b. slice_index_or is_quiet b false) (sym begins) ∙ passed len (omega arith) less) in
+        let quiet = calm_here len c more (omega arith) less (both-left _ _ all) splits in
         let ends = fits piece utf8 len next c more passes.place there less splits in
         let at : length piece - length more ≤ next = omega (arith, r.next_is, ends) in
-        Passes-quiet is_quiet are next there within cs (length piece - length more) (Some (cell c).class)
+        Passes-calm next there within cs (length piece - length more) (Some (cell c).class)
         (Passes-more more passes splits (calm last (cell c).class calm_last) (omega (arith, at)))
         quiet (both-right _ _ all) r.rest at
-        (λ k from to. passed k (omega (arith, from, r.next_is)) to)
+        (λ k d rest from to. calm_here k d rest (omega (arith, from, r.next_is)) to)
     | inr not_less ↦ let same : len ≡ next = omega (arith, not_less) in (last, subst (λ n. Passes cell first piece room n last) same passes)
   ]
 

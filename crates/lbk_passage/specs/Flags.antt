@@ -1,8 +1,10 @@
 -- What bytes tell of scalars: that no line must end behind them, and that they are letters.
-use Rattle.std.specs.Prelude.{◌≡◌, ℕ, ◌<◌, ◌≤◌, Bool, true, false, List, ◌++◌, Option, Some, None, length}
-use Rattle.std.specs.Prelude.{slice_index_or, encode_utf8_all, drop}
+use Rattle.std.specs.Prelude.{◌≡◌, ℕ, ◌<◌, ◌≤◌, Bool, true, false, not, List, ◌++◌, Option, Some, None, length}
+use Rattle.std.specs.Prelude.{slice_index_or, encode_utf8, encode_utf8_all, drop}
 use Rattle.std.specs.Char.{IsScalar}
 use Rattle.std.specs.Str.{chars, IsCharBoundary}
+use Rattle.lbk_masks.specs.Sets.{is_in}
+use Rattle.lbk_masks.specs.declared.halves.HalfSets.{HalfSets}
 use Rattle.lbk_rules.specs.declared.Class.{Class}
 use Rattle.lbk_rules.specs.declared.Cell.{Cell}
 use Rattle.lbk_rules.specs.Ends.{ends_line}
@@ -19,6 +21,15 @@ pub record AreQuiet (cell : ℕ → Cell) (is_quiet : List Bool) : Type 0 where
 abbrev pub ArePassed : List Bool → List ℕ → ℕ → ℕ → Type 0
 ArePassed is_quiet bytes start end = (k : ℕ) → start ≤ k → k < end
     → slice_index_or is_quiet (slice_index_or bytes k 0) false ≡ true
+
+-- these sets have all bytes that have false in the list, and no others
+abbrev pub AreLoud : HalfSets → List Bool → Type 0
+AreLoud sets is_quiet = (byte : ℕ) → byte < 256 → is_in sets 255 byte ≡ not (slice_index_or is_quiet byte false)
+
+-- a line must end behind none of the scalars that begin from the place `start` to the place `end`
+abbrev pub AreCalm : (ℕ → Cell) → List ℕ → ℕ → ℕ → Type 0
+AreCalm cell piece start end = (k c : ℕ) (more : List ℕ) → start ≤ k → k < end → IsScalar c
+    → drop k piece ≡ encode_utf8 c ++ more → ends_line (cell c).class ≡ false
 
 -- up to which length the first byte tells of a piece whether it is a word: any where it begins letters and numbers alone
 abbrev pub length_told : Bool → ℕ

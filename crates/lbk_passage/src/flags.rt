@@ -1,8 +1,11 @@
 //! What bytes tell of the scalars that they belong to.
 
 ghost use Rattle.std.specs.Prelude.{◌≡◌, ◌+◌, ◌<◌, ◌≤◌, true, false, length, slice_index_or};
-ghost use Rattle.lbk_passage.specs.Flags.{AreLetters, AreQuiet, ArePassed, length_told};
+ghost use Rattle.std.specs.Option.{ForSome};
+ghost use Rattle.lbk_masks.specs.Sets.{is_in};
+ghost use Rattle.lbk_passage.specs.Flags.{AreLetters, AreLoud, AreQuiet, ArePassed, length_told};
 
+use lbk_masks::HalfSets;
 use lbk_rules::CellSource;
 
 /// How many bytes are a scalar by themselves.
@@ -13,6 +16,9 @@ const FIRST: u8 = 0xC0;
 
 /// How many bytes are examined in one turn.
 const TURN: usize = 8;
+
+/// All of eight sets of bytes.
+pub const ALL_SETS: u8 = 0xFF;
 
 /// More bytes than a piece has.
 const ANY_LENGTH: u32 = u32::MAX;
@@ -27,6 +33,9 @@ pub struct ByteFlags {
     /// are letters or numbers, so that the piece is a word, else one byte. So one comparison tells both, and what the
     /// piece is.
     lengths_told: [u32; 256],
+    /// Sets that have all bytes that are not quiet, and no others, if their halves tell them.
+    loud: Option<HalfSets>,
+    ghost are_loud: { ForSome loud (λ sets. AreLoud sets is_quiet) },
 }
 
 impl ByteFlags {
@@ -35,10 +44,20 @@ impl ByteFlags {
         ensures quiet { AreQuiet (C.cell_of cells.now) result.is_quiet }
         ensures letters { AreLetters (C.cell_of cells.now) result.lengths_told }
     {
+        let is_quiet = quiet_bytes(cells);
         ByteFlags {
-            is_quiet: quiet_bytes(cells),
+            is_quiet,
             lengths_told: lengths_told(cells),
+            loud: loud_bytes(&is_quiet),
         }
+    }
+
+    /// Sets that have all bytes that are not quiet, and no others, if their halves tell them.
+    #[inline(always)]
+    pub fn loud(&self) -> Option<&HalfSets>
+        ensures { ForSome result (λ sets. AreLoud sets.now self.now.is_quiet) }
+    {
+        self.loud.as_ref()
     }
 
     /// Up to where the bytes from `start` on are quiet, `end` at most.
@@ -107,6 +126,45 @@ fn quiet_bytes<C: CellSource>(cells: &C) -> [bool; 256]
         byte += 1;
     }
     is_quiet
+}
+
+/// Sets that have all bytes that are not quiet, and no others. None come where their halves are those of others, too:
+/// then each byte is looked up.
+fn loud_bytes(is_quiet: &[bool; 256]) -> Option<HalfSets>
+    ensures { ForSome result (λ sets. AreLoud sets is_quiet.now) }
+{
+    let sets = loud_halves(is_quiet);
+    for byte in 0..256 {
+        if is_in(&sets, byte) == is_quiet[byte] {
+            return None;
+        }
+    }
+    Some(sets)
+}
+
+/// Sets of the halves of all bytes that are not quiet. Those with one high half share a set.
+fn loud_halves(is_quiet: &[bool; 256]) -> HalfSets {
+    let mut sets = HalfSets {
+        low: [0; 16],
+        high: [0; 16],
+    };
+    for byte in 0..256 {
+        if !is_quiet[byte] {
+            let set = 1 << (byte / 16 % 8);
+            sets.low[byte % 16] |= set;
+            sets.high[byte / 16] |= set;
+        }
+    }
+    sets
+}
+
+/// Whether a byte is in one of these sets.
+#[inline(always)]
+fn is_in(sets: &HalfSets, byte: usize) -> bool
+    requires { byte < 256 }
+    ensures { result ≡ is_in sets.now ALL_SETS byte }
+{
+    sets.low[byte & 15] & sets.high[byte / 16 & 15] & ALL_SETS != 0
 }
 
 /// For each byte up to which length it tells of a piece that begins with it whether it is a word.

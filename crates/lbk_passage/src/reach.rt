@@ -1,12 +1,18 @@
 //! How far a paragraph reaches into a piece of text.
 
-ghost use Rattle.std.specs.Prelude.{◌≡◌, ℕ, ◌≤◌, IsCharBoundary, Option};
+ghost use Rattle.std.specs.Prelude.{◌≡◌, ℕ, ◌+◌, ◌<◌, ◌≤◌, false, not, IsCharBoundary, Option, length, slice_index_or};
+ghost use Rattle.lbk_masks.specs.Sets.{is_set};
 ghost use Rattle.lbk_rules.specs.declared.Class.{Class};
-ghost use Rattle.lbk_passage.specs.Flags.{Passes, is_end};
+ghost use Rattle.lbk_passage.specs.Flags.{AreCalm, Passes, is_end};
 
 use crate::ends::ends_at;
+use crate::flags::ALL_SETS;
 use crate::known::KnownCells;
+use lbk_masks::{first_set, without_first};
 use lbk_rules::{CellSource, Class};
+
+/// How many bytes are examined together.
+const BLOCK: usize = 64;
 
 /// Why a paragraph reaches no further into a piece.
 #[derive(Clone, Copy, PartialEq, Eq, Debug)]
@@ -81,8 +87,8 @@ pub fn reach_in<C: CellSource>(
     }
 }
 
-/// Passes over scalars up to the byte `most`, where their bytes tell that a line must end after none of them, nor after
-/// the one before them.
+/// Passes over scalars up to the byte `most` after which no line must end, nor after the one before them. It may stop
+/// before others, but not often.
 #[inline(always)]
 fn pass_quiet<C: CellSource>(
     known: &KnownCells<'_, C>,
@@ -100,7 +106,8 @@ fn pass_quiet<C: CellSource>(
     if is_end(here.last) {
         return here;
     }
-    let len = known.flags.past_quiet(piece.as_bytes(), here.len, most);
+    let calm = past_calm(known, piece, here.len, most);
+    let len = known.flags.past_quiet(piece.as_bytes(), calm, most);
     if len == here.len {
         return here;
     }
@@ -111,6 +118,64 @@ fn pass_quiet<C: CellSource>(
         len,
         last: Some(known.cells.cell(last).class),
     }
+}
+
+/// Up to where a line must end after none of the scalars that begin from `start` on, `most` at most: as far as whole
+/// blocks of bytes go.
+#[inline(always)]
+fn past_calm<C: CellSource>(
+    known: &KnownCells<'_, C>,
+    piece: &str,
+    start: usize,
+    most: usize,
+) -> usize
+    requires order { start ≤ most }
+    requires most { IsCharBoundary piece.now most }
+    ensures within { (start ≤ result) × (result ≤ most) }
+    ensures calm { AreCalm (C.cell_of known.now.cells.now) piece.now start result }
+{
+    let Some(sets) = known.flags.loud() else {
+        return start;
+    };
+    let bytes = piece.as_bytes();
+    let mut at = start;
+    while most - at >= BLOCK {
+        let loud = sets.members(ALL_SETS, &bytes[at..]);
+        let end = past_calm_block(known, piece, at, loud);
+        if end < at + BLOCK {
+            return end;
+        }
+        at = end;
+    }
+    at
+}
+
+/// The same of a block of bytes, where the bits of `loud` tell which of them are not quiet.
+#[inline(always)]
+fn past_calm_block<C: CellSource>(
+    known: &KnownCells<'_, C>,
+    piece: &str,
+    start: usize,
+    loud: u64,
+) -> usize
+    requires within { start + 64 ≤ length piece.now }
+    requires told { (i : ℕ) → i < 64 → is_set loud i
+        ≡ not (slice_index_or known.now.flags.is_quiet (slice_index_or piece.now (start + i) 0) false) }
+    ensures within { (start ≤ result) × (result ≤ start + 64) }
+    ensures calm { AreCalm (C.cell_of known.now.cells.now) piece.now start result }
+{
+    let mut left = loud;
+    while 0 < left {
+        let at = start + first_set(left);
+        let Some(c) = piece[at..].chars().next() else {
+            return at;
+        };
+        if known.cells.cell(c).class.ends_line() {
+            return at;
+        }
+        left = without_first(left);
+    }
+    start + BLOCK
 }
 
 /// Whether a line must end after a scalar of this class, if there is one, unless a line feed follows.
