@@ -1,6 +1,7 @@
 pub mod AheadLemmas
 pub mod UnitLemmas
 pub mod WideLemmas
+pub mod LedLemmas
 pub mod LoopLemmas
 pub mod OrderLemmas
 pub mod PieceLemmas

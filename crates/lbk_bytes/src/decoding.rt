@@ -4,7 +4,7 @@ ghost use Rattle.std.specs.Prelude.{◌≡◌, ℕ, ◌<◌, ◌≤◌, true, ge
 ghost use Rattle.bstr.specs.Utf8.{code_of_2, code_of_3, code_of_4, continues, decoded, good, or_replacement, second};
 ghost use Rattle.lbk_bytes.specs.Widths.{longer_by};
 
-use lbk_scalars::{MARKS_OF_THREE, is_continuation, joined, scalar_of_led_three, takes_three};
+use lbk_scalars::{MARKS_OF_THREE, is_continuation, joined, takes_three};
 
 /// A scalar value and how many bytes it takes.
 #[derive(Clone, Copy)]
@@ -66,23 +66,41 @@ pub(crate) fn scalar_of_three(bytes: &[u8]) -> Option<Scalar>
     })
 }
 
-/// The same of three bytes of well-formed text. The compiler knows the code to be one of the first plane by its 16 bits, so it leaves
-/// out what is done for others.
+/// The same of two bytes of well-formed text, where the first byte alone is looked at.
 #[inline(always)]
-pub(crate) fn scalar_led(bytes: &[u8]) -> Option<Scalar>
+pub(crate) fn scalar_of_led_two(bytes: &[u8]) -> Option<Scalar>
+    requires enough { 1 < length bytes.now }
+    requires stands { 0xC0 ≤ get_or bytes.now 0 0 → (code size : ℕ) × (decoded bytes.now ≡ good code size) }
+    ensures reads { IfSome result (λ scalar. decoded bytes.now ≡ good scalar.code scalar.size) }
+    ensures size { IfSome result (λ scalar. scalar.size ≡ 2) }
+{
+    let first = bytes[0];
+    if first < 0xC2 || 0xDF < first {
+        return None;
+    }
+    Some(Scalar {
+        code: code_of_two(first, bytes[1]),
+        size: 2,
+    })
+}
+
+/// The same of three. The compiler knows the code to be one of the first plane by its 16 bits, so it leaves out what is
+/// done for others.
+#[inline(always)]
+pub(crate) fn scalar_of_led_three(bytes: &[u8]) -> Option<Scalar>
     requires enough { 2 < length bytes.now }
-    requires stands { 0xDF ≤ get_or bytes.now 0 0 → (code size : ℕ) × (decoded bytes.now ≡ good code size) }
+    requires stands { 0xC0 ≤ get_or bytes.now 0 0 → (code size : ℕ) × (decoded bytes.now ≡ good code size) }
     ensures reads { IfSome result (λ scalar. decoded bytes.now ≡ good scalar.code scalar.size) }
     ensures size { IfSome result (λ scalar. scalar.size ≡ 3) }
 {
-    if let Some(code) = scalar_of_led_three(bytes) {
-        Some(Scalar {
-            code: u32::from(code as u16),
-            size: 3,
-        })
-    } else {
-        None
+    let first = bytes[0];
+    if first < 0xE0 || 0xEF < first {
+        return None;
     }
+    Some(Scalar {
+        code: u32::from(code_of_three(first, bytes[1], bytes[2]) as u16),
+        size: 3,
+    })
 }
 
 /// The same of four bytes, which are joined before they are looked at, as three are.

@@ -8,7 +8,7 @@ use crate::fill_state::FillState;
 use crate::pieces::pieces;
 use crate::target::Target;
 use crate::tries::begins_emoji;
-use crate::width::{Four, LedThree, One, Three, ThreeOrFour, Two, Width};
+use crate::width::{Four, LedThree, LedTwo, One, Three, ThreeOrFour, Two, Width};
 use lbk_rules::{HELD, KindSource, Rows, step_at};
 
 /// Takes scalars and ill-formed bytes that begin before a byte, up to a held position or the text's last bytes,
@@ -139,16 +139,15 @@ pub(crate) fn runs<const SURE: bool, T: Target, K: KindSource>(
         return past;
     }
     let first = text[past.at];
-    if first < 0xE0 {
-        return any_run::<SURE, Two, T, K>(target, kinds, steps, past, stop, text, out);
-    }
     if 0xEF < first {
         return any_run::<SURE, Four, T, K>(target, kinds, steps, past, stop, text, out);
     }
-    if SURE {
-        return sure_run::<LedThree, T, K>(target, kinds, steps, past, stop, text, out);
+    match (SURE, first < 0xE0) {
+        (true, true) => sure_run::<LedTwo, T, K>(target, kinds, steps, past, stop, text, out),
+        (true, false) => sure_run::<LedThree, T, K>(target, kinds, steps, past, stop, text, out),
+        (false, true) => run::<true, Two, T, K>(target, kinds, steps, past, stop, text, out),
+        (false, false) => run::<true, Three, T, K>(target, kinds, steps, past, stop, text, out),
     }
-    run::<true, Three, T, K>(target, kinds, steps, past, stop, text, out)
 }
 
 /// A run as `run` takes it, or as `sure_run` does.

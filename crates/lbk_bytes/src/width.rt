@@ -5,7 +5,8 @@ ghost use Rattle.std.specs.Prelude.{◌≡◌, ℕ, ◌+◌, ◌<◌, ◌≤◌,
 ghost use Rattle.bstr.specs.Utf8.{decoded, good};
 
 use crate::decoding::{
-    Scalar, scalar_led, scalar_of_four, scalar_of_one, scalar_of_three, scalar_of_two,
+    Scalar, scalar_of_four, scalar_of_led_three, scalar_of_led_two, scalar_of_one, scalar_of_three,
+    scalar_of_two,
 };
 use crate::leads::scalar_by_lead;
 
@@ -89,6 +90,32 @@ impl Width for Two {
     }
 }
 
+/// Two, in well-formed text, where the first byte alone is looked at.
+pub(crate) struct LedTwo;
+
+impl Width for LedTwo {
+    ghost most_more = { 1 };
+
+    ghost least_size = { 2 };
+
+    ghost known = { λ text. IsUtf8 text };
+
+    #[inline(always)]
+    fn more() -> usize {
+        1
+    }
+
+    #[inline(always)]
+    fn least() -> usize {
+        2
+    }
+
+    #[inline(always)]
+    fn scalar_at(text: &[u8], at: usize) -> Option<Scalar> {
+        scalar_of_led_two(&text[at..])
+    }
+}
+
 /// Three.
 pub(crate) struct Three;
 
@@ -137,7 +164,7 @@ impl Width for LedThree {
 
     #[inline(always)]
     fn scalar_at(text: &[u8], at: usize) -> Option<Scalar> {
-        scalar_led(&text[at..])
+        scalar_of_led_three(&text[at..])
     }
 }
 
