@@ -17,3 +17,4 @@ pub mod Leads
 pub mod Marking
 -- Terms of other crates.
 pub mod Terms
+pub mod Roomy

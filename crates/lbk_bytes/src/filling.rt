@@ -6,17 +6,19 @@ ghost use Rattle.lbk_bytes.specs.Bytes.{with_break};
 ghost use Rattle.lbk_bytes.specs.Order.{AreBreaks, AreInOrder};
 ghost use Rattle.lbk_bytes.specs.Reached.{Ahead, IsInOrder, Reached};
 ghost use Rattle.lbk_bytes.specs.Shown.{given_in};
-ghost use Rattle.lbk_bytes.specs.Steps.{Fills, FillsIn, GoesIn, IsInText};
+ghost use Rattle.lbk_bytes.specs.Roomy.{BreaksOn, Holds};
+ghost use Rattle.lbk_bytes.specs.Steps.{Fills, FillsIn, GoesIn, IsInText, IsSure, MayStep};
 
 use crate::block_marks::{BLOCK, LEAST};
 use crate::blocks::blocks;
 use crate::fill_state::FillState;
 use crate::held::take_ones;
 use crate::raw_break::RawBreak;
+use crate::roomy::roomy;
 use crate::stepping::{emoji, mixed, quick, scalars};
 use crate::target::{AmpleBreaks, Breaks};
 use crate::tries::{are_near, begins_emoji, next_try};
-use lbk_rules::{FlatTable, KindSource, Profile, rows_of, shows_break};
+use lbk_rules::{FlatTable, KindSource, Profile, Rows, rows_of, shows_break};
 
 /// Goes on until the block is full or the text ends, and writes the breaks before the scalars taken after those in
 /// the front of the block. In a text of fewer than 64 bytes the scalars that no block takes are gone over here, with
@@ -264,9 +266,33 @@ fn common_part<const MASKS: bool, const SURE: bool, K: KindSource>(
     let there = blocks::<MASKS, K>(table, steps, here, text, out);
     let until = next_try::<MASKS>(there.at, text);
     Part {
-        here: quick::<SURE, Breaks, K>(Breaks, table, steps, there, until, text, out),
+        here: singles::<SURE, K>(table, steps, there, until, text, out),
         until,
     }
+}
+
+/// Takes scalars and ill-formed bytes as `quick` does, and before them those that `roomy` takes.
+#[inline(always)]
+fn singles<const SURE: bool, K: KindSource>(
+    table: &K,
+    steps: &Rows,
+    start: FillState,
+    stop: usize,
+    text: &[u8],
+    out: &mut [RawBreak],
+) -> FillState
+    requires steps { MayStep Holds steps.now text.now stop out.old start }
+    requires sure { IsSure SURE steps.now text.now }
+    ensures { BreaksOn steps.now (K.kinds_of table.now) text.now stop out.old start out.new result }
+{
+    if SURE {
+        let here = roomy(table, steps, start, stop, text, out);
+        if stop <= here.at {
+            return here;
+        }
+        return quick::<true, Breaks, K>(Breaks, table, steps, here, stop, text, out);
+    }
+    quick::<false, Breaks, K>(Breaks, table, steps, start, stop, text, out)
 }
 
 /// Writes the verdict of a number after the breaks in the front of the block, and returns how many these are now: one

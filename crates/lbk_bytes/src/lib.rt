@@ -19,6 +19,7 @@ mod one_word;
 mod pieces;
 mod profiles;
 mod raw_break;
+mod roomy;
 mod stepping;
 mod target;
 mod tries;

@@ -112,7 +112,7 @@ pub(crate) struct AmpleBreaks;
 impl Target for AmpleBreaks {
     type Entry = RawBreak;
 
-    ghost fits = { λ _ out count at stop. count + stop < length out + at };
+    ghost fits = { λ _ out count at stop. (count ≤ length out) × (count + stop < length out + at) };
 
     ghost takes = { λ _ out count at. count < length out };
 
