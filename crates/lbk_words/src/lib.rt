@@ -18,6 +18,7 @@ mod parts;
 mod scalars;
 mod step_table;
 mod steps;
+mod tries;
 mod word;
 mod zeros;
 
