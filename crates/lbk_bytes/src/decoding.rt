@@ -103,6 +103,30 @@ pub(crate) fn scalar_of_led_three(bytes: &[u8]) -> Option<Scalar>
     })
 }
 
+/// The same of three or of four, whichever the first byte says.
+#[inline(always)]
+pub(crate) fn scalar_of_led_three_or_four(bytes: &[u8]) -> Option<Scalar>
+    requires enough { 3 < length bytes.now }
+    requires stands { 0xC0 ≤ get_or bytes.now 0 0 → (code size : ℕ) × (decoded bytes.now ≡ good code size) }
+    ensures reads { IfSome result (λ scalar. decoded bytes.now ≡ good scalar.code scalar.size) }
+    ensures size { IfSome result (λ scalar. 3 ≤ scalar.size) }
+{
+    let (first, next, third) = (bytes[0], bytes[1], bytes[2]);
+    if first < 0xE0 {
+        return None;
+    }
+    if first < 0xF0 {
+        return Some(Scalar {
+            code: code_of_three(first, next, third),
+            size: 3,
+        });
+    }
+    Some(Scalar {
+        code: code_of_four(first, next, third, bytes[3]),
+        size: 4,
+    })
+}
+
 /// The same of four bytes, which are joined before they are looked at, as three are.
 #[inline(always)]
 pub(crate) fn scalar_of_four(bytes: &[u8]) -> Option<Scalar>

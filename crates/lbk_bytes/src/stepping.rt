@@ -8,7 +8,9 @@ use crate::fill_state::FillState;
 use crate::pieces::pieces;
 use crate::target::Target;
 use crate::tries::begins_emoji;
-use crate::width::{Four, LedThree, LedTwo, One, Three, ThreeOrFour, Two, Width};
+use crate::width::{
+    Four, LedThree, LedThreeOrFour, LedTwo, One, Three, ThreeOrFour, Two, Width,
+};
 use lbk_rules::{HELD, KindSource, Rows, step_at};
 
 /// Takes scalars and ill-formed bytes that begin before a byte, up to a held position or the text's last bytes,
@@ -118,7 +120,8 @@ pub(crate) fn emoji_and_scalars<T: Target, K: KindSource>(
 }
 
 /// A run of scalars of one byte, and then one of those that the next byte may begin. Each may be empty. `SURE`: the text
-/// is well-formed and the steps are those of the first profile, so less is looked at.
+/// is well-formed and the steps are those of the first profile, so less is looked at, and behind a scalar of four bytes
+/// those of three are taken with those of four: emoji consist of both.
 #[inline(always)]
 pub(crate) fn runs<const SURE: bool, T: Target, K: KindSource>(
     target: T,
@@ -134,25 +137,26 @@ pub(crate) fn runs<const SURE: bool, T: Target, K: KindSource>(
     ensures { StepsOn (T.fits target) (T.in_order target) (T.reached target) steps.now (K.kinds_of kinds.now) text.now
         stop out.old start out.new result }
 {
-    let past = any_run::<SURE, One, T, K>(target, kinds, steps, start, stop, text, out);
+    let past = one_run::<SURE, T, K>(target, kinds, steps, start, stop, text, out);
     if stop <= past.at {
         return past;
     }
     let first = text[past.at];
-    if 0xEF < first {
-        return any_run::<SURE, Four, T, K>(target, kinds, steps, past, stop, text, out);
-    }
-    match (SURE, first < 0xE0) {
-        (true, true) => sure_run::<LedTwo, T, K>(target, kinds, steps, past, stop, text, out),
-        (true, false) => sure_run::<LedThree, T, K>(target, kinds, steps, past, stop, text, out),
-        (false, true) => run::<true, Two, T, K>(target, kinds, steps, past, stop, text, out),
-        (false, false) => run::<true, Three, T, K>(target, kinds, steps, past, stop, text, out),
+    match (SURE, first < 0xE0, first < 0xF0) {
+        (true, true, _) => sure_run::<LedTwo, T, K>(target, kinds, steps, past, stop, text, out),
+        (true, _, true) => sure_run::<LedThree, T, K>(target, kinds, steps, past, stop, text, out),
+        (true, _, _) => {
+            sure_run::<LedThreeOrFour, T, K>(target, kinds, steps, past, stop, text, out)
+        }
+        (false, true, _) => run::<true, Two, T, K>(target, kinds, steps, past, stop, text, out),
+        (false, _, true) => run::<true, Three, T, K>(target, kinds, steps, past, stop, text, out),
+        (false, _, _) => run::<true, Four, T, K>(target, kinds, steps, past, stop, text, out),
     }
 }
 
-/// A run as `run` takes it, or as `sure_run` does.
+/// A run of scalars of one byte, as `run` takes it, or as `sure_run` does.
 #[inline(always)]
-fn any_run<const SURE: bool, W: Width, T: Target, K: KindSource>(
+fn one_run<const SURE: bool, T: Target, K: KindSource>(
     target: T,
     kinds: &K,
     steps: &Rows,
@@ -163,14 +167,13 @@ fn any_run<const SURE: bool, W: Width, T: Target, K: KindSource>(
 ) -> FillState
     requires steps { MayStep (T.fits target) steps.now text.now stop out.old start }
     requires sure { SURE ≡ true → steps.now ≡ steps_in First }
-    requires known { W.known text.now }
     ensures { StepsOn (T.fits target) (T.in_order target) (T.reached target) steps.now (K.kinds_of kinds.now) text.now
         stop out.old start out.new result }
 {
     if SURE {
-        return sure_run::<W, T, K>(target, kinds, steps, start, stop, text, out);
+        return sure_run::<One, T, K>(target, kinds, steps, start, stop, text, out);
     }
-    run::<true, W, T, K>(target, kinds, steps, start, stop, text, out)
+    run::<true, One, T, K>(target, kinds, steps, start, stop, text, out)
 }
 
 /// A run in well-formed text, by the steps of the first profile: no position is held. How far there is room is counted

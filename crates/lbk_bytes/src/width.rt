@@ -5,8 +5,8 @@ ghost use Rattle.std.specs.Prelude.{◌≡◌, ℕ, ◌+◌, ◌<◌, ◌≤◌,
 ghost use Rattle.bstr.specs.Utf8.{decoded, good};
 
 use crate::decoding::{
-    Scalar, scalar_of_four, scalar_of_led_three, scalar_of_led_two, scalar_of_one, scalar_of_three,
-    scalar_of_two,
+    Scalar, scalar_of_four, scalar_of_led_three, scalar_of_led_three_or_four, scalar_of_led_two,
+    scalar_of_one, scalar_of_three, scalar_of_two,
 };
 use crate::leads::scalar_by_lead;
 
@@ -217,5 +217,31 @@ impl Width for ThreeOrFour {
     #[inline(always)]
     fn scalar_at(text: &[u8], at: usize) -> Option<Scalar> {
         scalar_by_lead(&text[at..])
+    }
+}
+
+/// Three or four, in well-formed text, where the first byte alone is looked at.
+pub(crate) struct LedThreeOrFour;
+
+impl Width for LedThreeOrFour {
+    ghost most_more = { 3 };
+
+    ghost least_size = { 3 };
+
+    ghost known = { λ text. IsUtf8 text };
+
+    #[inline(always)]
+    fn more() -> usize {
+        3
+    }
+
+    #[inline(always)]
+    fn least() -> usize {
+        3
+    }
+
+    #[inline(always)]
+    fn scalar_at(text: &[u8], at: usize) -> Option<Scalar> {
+        scalar_of_led_three_or_four(&text[at..])
     }
 }
