@@ -1,20 +1,7 @@
--- Scalars in well-formed text, by their first byte.
-use Rattle.std.proofs.Common.{◌≡◌, ℕ, ◌+◌, ◌<◌, ◌≤◌, ◌==◌, Bool, true, false, cond, nat_lt, List, drop, get_or, length, slice_range, refl, ap, ◌∙◌, arith}
-use Rattle.std.specs.Str.{IsUtf8}
+-- Scalars of four bytes in well-formed text, by their first byte.
+use Rattle.std.proofs.Common.{◌≡◌, ℕ, ◌+◌, ◌≤◌, ◌==◌, Bool, true, false, cond, nat_lt, refl, arith}
 use Rattle.std.proofs.lemmas.Bool.Decides.{nat_tests}
-use Rattle.std.proofs.lemmas.List.{get_or-drop, length-drop, take_all}
-use Rattle.bstr.specs.Utf8.{bad, code_of_2, code_of_3, code_of_4, continues, decoded, decoded_by, good, second}
-use Rattle.lbk_scalars.proofs.StandLemmas.{stands-at}
-
--- a scalar stands in what is left of a text if its first byte begins one
-pub stands-rest : (text : List ℕ) (at : ℕ) → IsUtf8 text → at < length text → 0xC0 ≤ get_or (slice_range text at (length text)) 0 0
-    → (code size : ℕ) × (decoded (slice_range text at (length text)) ≡ good code size)
-stands-rest text at utf8 inside led =
-    let rest : slice_range text at (length text) ≡ drop at text = take_all _ (drop at text) (omega (arith, length-drop at text)) in
-    let first = ap (λ l. get_or l 0 0) rest ∙ get_or-drop at text 0 0 in
-    let same : at + 0 ≡ at = omega arith in
-    let stands = stands-at text at utf8 inside (omega (arith, led, first, ap (λ n. get_or text n 0) same)) in
-    (stands.0, stands.1, ap decoded rest ∙ stands.2)
+use Rattle.bstr.specs.Utf8.{bad, code_of_2, code_of_3, code_of_4, continues, decoded_by, good, second}
 
 -- bytes that decode and begin with a byte of four are such a byte and three that may follow it
 pub shape-four : (n b c d e code size : ℕ) → 0xF0 ≤ b → decoded_by n b c d e ≡ good code size

@@ -15,6 +15,6 @@ pub mod Blocks
 pub mod Widths
 pub mod Leads
 pub mod Marking
+pub mod Roomy
 -- Terms of other crates.
 pub mod Terms
-pub mod Roomy

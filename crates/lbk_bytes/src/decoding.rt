@@ -1,8 +1,9 @@
 //! Scalars and ill-formed bytes, read without a call.
 
-ghost use Rattle.std.specs.Prelude.{◌≡◌, ℕ, ◌<◌, ◌≤◌, true, get_or, length, IfSome};
+ghost use Rattle.std.specs.Prelude.{◌≡◌, ◌<◌, ◌≤◌, true, length, IfSome};
 ghost use Rattle.bstr.specs.Utf8.{code_of_2, code_of_3, code_of_4, continues, decoded, good, or_replacement, second};
 ghost use Rattle.lbk_bytes.specs.Widths.{longer_by};
+ghost use Rattle.lbk_scalars.specs.Stands.{StandsFrom};
 
 use lbk_scalars::{MARKS_OF_THREE, is_continuation, joined, takes_three};
 
@@ -70,7 +71,7 @@ pub(crate) fn scalar_of_three(bytes: &[u8]) -> Option<Scalar>
 #[inline(always)]
 pub(crate) fn scalar_of_led_two(bytes: &[u8]) -> Option<Scalar>
     requires enough { 1 < length bytes.now }
-    requires stands { 0xC0 ≤ get_or bytes.now 0 0 → (code size : ℕ) × (decoded bytes.now ≡ good code size) }
+    requires stands { StandsFrom 0xC0 bytes.now }
     ensures reads { IfSome result (λ scalar. decoded bytes.now ≡ good scalar.code scalar.size) }
     ensures size { IfSome result (λ scalar. scalar.size ≡ 2) }
 {
@@ -89,7 +90,7 @@ pub(crate) fn scalar_of_led_two(bytes: &[u8]) -> Option<Scalar>
 #[inline(always)]
 pub(crate) fn scalar_of_led_three(bytes: &[u8]) -> Option<Scalar>
     requires enough { 2 < length bytes.now }
-    requires stands { 0xC0 ≤ get_or bytes.now 0 0 → (code size : ℕ) × (decoded bytes.now ≡ good code size) }
+    requires stands { StandsFrom 0xC0 bytes.now }
     ensures reads { IfSome result (λ scalar. decoded bytes.now ≡ good scalar.code scalar.size) }
     ensures size { IfSome result (λ scalar. scalar.size ≡ 3) }
 {
@@ -107,7 +108,7 @@ pub(crate) fn scalar_of_led_three(bytes: &[u8]) -> Option<Scalar>
 #[inline(always)]
 pub(crate) fn scalar_of_led_three_or_four(bytes: &[u8]) -> Option<Scalar>
     requires enough { 3 < length bytes.now }
-    requires stands { 0xC0 ≤ get_or bytes.now 0 0 → (code size : ℕ) × (decoded bytes.now ≡ good code size) }
+    requires stands { StandsFrom 0xC0 bytes.now }
     ensures reads { IfSome result (λ scalar. decoded bytes.now ≡ good scalar.code scalar.size) }
     ensures size { IfSome result (λ scalar. 3 ≤ scalar.size) }
 {

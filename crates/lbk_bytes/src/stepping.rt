@@ -8,9 +8,7 @@ use crate::fill_state::FillState;
 use crate::pieces::pieces;
 use crate::target::Target;
 use crate::tries::begins_emoji;
-use crate::width::{
-    Four, LedThree, LedThreeOrFour, LedTwo, One, Three, ThreeOrFour, Two, Width,
-};
+use crate::width::{Four, LedThree, LedThreeOrFour, LedTwo, One, Three, ThreeOrFour, Two, Width};
 use lbk_rules::{HELD, KindSource, Rows, step_at};
 
 /// Takes scalars and ill-formed bytes that begin before a byte, up to a held position or the text's last bytes,

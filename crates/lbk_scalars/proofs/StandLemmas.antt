@@ -9,6 +9,7 @@ use Rattle.std.proofs.lemmas.Str.{IsUtf8-drop}
 use lib.Utf8.{scalars}
 use Rattle.bstr.specs.Utf8.{bad, code_of_2, code_of_3, code_of_4, continues, decoded, decoded_by, good, second}
 use Rattle.bstr.proofs.lemmas.EncodeLemmas.{decoded-encode}
+use Rattle.lbk_scalars.specs.Stands.{StandsFrom}
 
 -- a scalar stands wherever a byte of a text may begin one
 pub stands-at : (text : List ℕ) (at : ℕ) → IsUtf8 text → at < length text → 192 ≤ get_or text at 0
@@ -22,23 +23,14 @@ stands-at text at utf8 inside begins =
     by (c ∷ cs) all is =
         (c, length (encode_utf8 c), ap decoded (sym is) ∙ decoded-encode c (encode_utf8_all cs) (and_parts _ _ all).0)
 
--- a byte from DF on begins one
-pub stands-led : (text : List ℕ) (at : ℕ) → IsUtf8 text → at < length text → 0xDF ≤ get_or text at 0
-    → (code size : ℕ) × (decoded (drop at text) ≡ good code size)
-stands-led text at utf8 inside led = stands-at text at utf8 inside (omega (arith, led))
-
--- what is left of a text, as a slice has it
-rest-of : (text : List ℕ) (at : ℕ) → slice_range text at (length text) ≡ drop at text
-rest-of text at = take_all (length text - at) (drop at text) (omega (arith, length-drop at text))
-
--- the same of what is left
-pub stands-led-rest : (text : List ℕ) (at : ℕ) → IsUtf8 text → at < length text → 0xDF ≤ get_or (slice_range text at (length text)) 0 0
-    → (code size : ℕ) × (decoded (slice_range text at (length text)) ≡ good code size)
-stands-led-rest text at utf8 inside led =
-    let rest = rest-of text at in
+-- a byte that is no less than one that may begin one begins one in what is left of a text
+pub stands-rest : (least : ℕ) → 0xC0 ≤ least → (text : List ℕ) (at : ℕ) → IsUtf8 text → at < length text
+    → StandsFrom least (slice_range text at (length text))
+stands-rest least begins text at utf8 inside led =
+    let rest : slice_range text at (length text) ≡ drop at text = take_all _ (drop at text) (omega (arith, length-drop at text)) in
     let first = ap (λ l. get_or l 0 0) rest ∙ get_or-drop at text 0 0 in
     let same : at + 0 ≡ at = omega arith in
-    let stands = stands-led text at utf8 inside (omega (arith, led, first, ap (λ n. get_or text n 0) same)) in
+    let stands = stands-at text at utf8 inside (omega (arith, begins, led, first, ap (λ n. get_or text n 0) same)) in
     (stands.0, stands.1, ap decoded rest ∙ stands.2)
 
 -- three bytes that decode begin with a byte of three, and each may follow the one before

@@ -1,15 +1,16 @@
 //! The bytes that scalars of three are made of, read without a call.
 #![tactic(auto)]
 
-ghost use Rattle.std.specs.Prelude.{◌≡◌, ℕ, ◌+◌, ◌*◌, ◌<◌, ◌≤◌, ◌⊎◌, false, true, get_or, length, IfSome};
+ghost use Rattle.std.specs.Prelude.{◌≡◌, ℕ, ◌+◌, ◌*◌, ◌<◌, ◌≤◌, ◌⊎◌, false, true, length, IfSome};
 ghost use Rattle.bstr.specs.Utf8.{continues, decoded, good};
+ghost use Rattle.lbk_scalars.specs.Stands.{StandsFrom};
 
 /// The code of the scalar at the front of some bytes, which begin with one, if it has three. What they spell tells it: no
 /// scalar of two bytes or of four spells as much.
 #[inline(always)]
 pub fn scalar_of_led_three(bytes: &[u8]) -> Option<u32>
     requires enough { 3 ≤ length bytes.now }
-    requires stands { 0xDF ≤ get_or bytes.now 0 0 → (code size : ℕ) × (decoded bytes.now ≡ good code size) }
+    requires stands { StandsFrom 0xDF bytes.now }
     ensures reads { IfSome result (λ code. decoded bytes.now ≡ good code 3) }
     ensures none { result ≡ None → (code : ℕ) → ¬ (decoded bytes.now ≡ good code 3) }
     ensures few { IfSome result (λ code. code < 0x1_0000) }

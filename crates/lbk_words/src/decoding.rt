@@ -1,7 +1,8 @@
 //! The scalars of two to four bytes, read without a call.
 
-ghost use Rattle.std.specs.Prelude.{◌≡◌, ◌⊎◌, ℕ, ◌<◌, ◌≤◌, true, get_or, length, IfSome};
+ghost use Rattle.std.specs.Prelude.{◌≡◌, ◌⊎◌, ◌<◌, ◌≤◌, true, length, IfSome};
 ghost use Rattle.bstr.specs.Utf8.{code_of_2, continues, decoded, good};
+ghost use Rattle.lbk_scalars.specs.Stands.{StandsFrom};
 ghost use Rattle.lbk_words.specs.Widths.{IsWidth};
 
 use lbk_scalars::{MARKS_OF_THREE, is_continuation, joined, scalar_of_led_three, takes_three};
@@ -70,7 +71,7 @@ pub(crate) fn scalar_of_three(bytes: &[u8]) -> Option<Coded>
 pub(crate) fn scalar_of_led<const SIZE: usize>(bytes: &[u8]) -> Option<Coded>
     requires size { (SIZE ≡ 2) ⊎ (SIZE ≡ 3) ⊎ (SIZE ≡ 4) }
     requires enough { SIZE ≤ length bytes.now }
-    requires stands { 0xDF ≤ get_or bytes.now 0 0 → (code size : ℕ) × (decoded bytes.now ≡ good code size) }
+    requires stands { StandsFrom 0xDF bytes.now }
     ensures { IfSome result (λ scalar. decoded bytes.now ≡ good scalar.code scalar.size) }
 {
     if SIZE == 2 {
@@ -133,7 +134,7 @@ pub(crate) fn scalar_of_wide(bytes: &[u8]) -> Option<Coded>
 #[inline(always)]
 fn scalar_of_led_wide(bytes: &[u8]) -> Option<Coded>
     requires enough { 4 ≤ length bytes.now }
-    requires stands { 0xDF ≤ get_or bytes.now 0 0 → (code size : ℕ) × (decoded bytes.now ≡ good code size) }
+    requires stands { StandsFrom 0xDF bytes.now }
     ensures { IfSome result (λ scalar. decoded bytes.now ≡ good scalar.code scalar.size) }
 {
     let first = bytes[0];

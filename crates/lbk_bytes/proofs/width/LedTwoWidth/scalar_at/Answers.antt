@@ -1,6 +1,6 @@
 use Rattle.std.proofs.Common.{arith}
-use Rattle.lbk_bytes.proofs.LedLemmas.{stands-rest}
+use Rattle.lbk_scalars.proofs.StandLemmas.{stands-rest}
 use Rattle.lbk_bytes.proofs.width.LedTwoWidth.scalar_at.Goals as goal
 
 pub scalar_of_led_two-requires-clause-stands : goal.scalar_of_led_two-requires-clause-stands
-scalar_of_led_two-requires-clause-stands c = stands-rest c.args.text.now c.args.at c.requires.known (omega arith)
+scalar_of_led_two-requires-clause-stands c = stands-rest 0xC0 (omega arith) c.args.text.now c.args.at c.requires.known (omega arith)
