@@ -1,7 +1,6 @@
 pub mod AheadLemmas
 pub mod UnitLemmas
 pub mod WideLemmas
-pub mod LedLemmas
 pub mod LoopLemmas
 pub mod OrderLemmas
 pub mod PieceLemmas

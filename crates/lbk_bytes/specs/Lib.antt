@@ -13,7 +13,6 @@ pub mod Reached
 pub mod Steps
 pub mod Blocks
 pub mod Widths
-pub mod Leads
 pub mod Marking
 pub mod Roomy
 -- Terms of other crates.

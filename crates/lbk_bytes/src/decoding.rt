@@ -1,18 +1,11 @@
 //! Scalars and ill-formed bytes, read without a call.
 
 ghost use Rattle.std.specs.Prelude.{◌≡◌, ◌<◌, ◌≤◌, true, length, IfSome};
-ghost use Rattle.bstr.specs.Utf8.{code_of_2, code_of_3, code_of_4, continues, decoded, good, or_replacement, second};
+ghost use Rattle.bstr.specs.Utf8.{code_of_3, code_of_4, continues, decoded, good, or_replacement, second};
 ghost use Rattle.lbk_bytes.specs.Widths.{longer_by};
 ghost use Rattle.lbk_scalars.specs.Stands.{StandsFrom};
 
-use lbk_scalars::{MARKS_OF_THREE, is_continuation, joined, takes_three};
-
-/// A scalar value and how many bytes it takes.
-#[derive(Clone, Copy)]
-pub(crate) struct Scalar {
-    pub(crate) code: u32,
-    pub(crate) size: usize,
-}
+use lbk_scalars::{Scalar, code_of_two, is_continuation, joined};
 
 /// The scalar of one byte at the front of some (Unicode Standard, table 3-7). None comes where none stands there.
 #[inline(always)]
@@ -28,42 +21,6 @@ pub(crate) fn scalar_of_one(bytes: &[u8]) -> Option<Scalar>
     Some(Scalar {
         code: u32::from(first),
         size: 1,
-    })
-}
-
-/// The same of two bytes.
-#[inline(always)]
-pub(crate) fn scalar_of_two(bytes: &[u8]) -> Option<Scalar>
-    requires { 1 < length bytes.now }
-    ensures reads { IfSome result (λ scalar. decoded bytes.now ≡ good scalar.code scalar.size) }
-    ensures size { IfSome result (λ scalar. scalar.size ≡ 2) }
-{
-    let first = bytes[0];
-    if first < 0xC2 || 0xDF < first || !is_continuation(bytes[1]) {
-        return None;
-    }
-    Some(Scalar {
-        code: code_of_two(first, bytes[1]),
-        size: 2,
-    })
-}
-
-/// The same of three bytes. They are joined before they are looked at, since then the compiler widens each as it is
-/// read.
-#[inline(always)]
-pub(crate) fn scalar_of_three(bytes: &[u8]) -> Option<Scalar>
-    requires { 2 < length bytes.now }
-    ensures reads { IfSome result (λ scalar. decoded bytes.now ≡ good scalar.code scalar.size) }
-    ensures size { IfSome result (λ scalar. scalar.size ≡ 3) }
-{
-    let (first, next, last) = (bytes[0], bytes[1], bytes[2]);
-    let spelled = joined(joined(u32::from(first), next), last);
-    if !is_continuation(next) || !is_continuation(last) || !takes_three(spelled) {
-        return None;
-    }
-    Some(Scalar {
-        code: spelled - MARKS_OF_THREE,
-        size: 3,
     })
 }
 
@@ -101,30 +58,6 @@ pub(crate) fn scalar_of_led_three(bytes: &[u8]) -> Option<Scalar>
     Some(Scalar {
         code: u32::from(code_of_three(first, bytes[1], bytes[2]) as u16),
         size: 3,
-    })
-}
-
-/// The same of three or of four, whichever the first byte says.
-#[inline(always)]
-pub(crate) fn scalar_of_led_three_or_four(bytes: &[u8]) -> Option<Scalar>
-    requires enough { 3 < length bytes.now }
-    requires stands { StandsFrom 0xC0 bytes.now }
-    ensures reads { IfSome result (λ scalar. decoded bytes.now ≡ good scalar.code scalar.size) }
-    ensures size { IfSome result (λ scalar. 3 ≤ scalar.size) }
-{
-    let (first, next, third) = (bytes[0], bytes[1], bytes[2]);
-    if first < 0xE0 {
-        return None;
-    }
-    if first < 0xF0 {
-        return Some(Scalar {
-            code: code_of_three(first, next, third),
-            size: 3,
-        });
-    }
-    Some(Scalar {
-        code: code_of_four(first, next, third, bytes[3]),
-        size: 4,
     })
 }
 
@@ -246,15 +179,6 @@ fn takes_four(spelled: u32) -> bool
     ensures { result ≡ true → (0x3C9_2080 ≤ spelled) × (spelled < 0x3D9_2080) }
 {
     0x3C9_207F < spelled && spelled < 0x3D9_2080
-}
-
-#[inline(always)]
-fn code_of_two(first: u8, next: u8) -> u32
-    requires first { (0xC0 ≤ first) × (first < 0xE0) }
-    requires next { continues next ≡ true }
-    ensures { result ≡ code_of_2 first next }
-{
-    (u32::from(first) - 0xC0) * 64 + (u32::from(next) - 0x80)
 }
 
 #[inline(always)]

@@ -11,7 +11,6 @@ mod ends;
 mod fill_state;
 mod filling;
 mod held;
-mod leads;
 mod mark_blocks;
 mod marking;
 mod marks;

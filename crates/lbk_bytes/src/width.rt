@@ -4,11 +4,8 @@
 ghost use Rattle.std.specs.Prelude.{◌≡◌, ℕ, ◌+◌, ◌<◌, ◌≤◌, List, IfSome, IsUtf8, length, slice_range};
 ghost use Rattle.bstr.specs.Utf8.{decoded, good};
 
-use crate::decoding::{
-    Scalar, scalar_of_four, scalar_of_led_three, scalar_of_led_three_or_four, scalar_of_led_two,
-    scalar_of_one, scalar_of_three, scalar_of_two,
-};
-use crate::leads::scalar_by_lead;
+use crate::decoding::{scalar_of_four, scalar_of_led_three, scalar_of_led_two, scalar_of_one};
+use lbk_scalars::{Scalar, scalar_of_led_wide, scalar_of_three, scalar_of_two, scalar_of_wide};
 
 /// How many bytes a scalar takes.
 pub(crate) trait Width {
@@ -216,7 +213,7 @@ impl Width for ThreeOrFour {
 
     #[inline(always)]
     fn scalar_at(text: &[u8], at: usize) -> Option<Scalar> {
-        scalar_by_lead(&text[at..])
+        scalar_of_wide(&text[at..])
     }
 }
 
@@ -242,6 +239,6 @@ impl Width for LedThreeOrFour {
 
     #[inline(always)]
     fn scalar_at(text: &[u8], at: usize) -> Option<Scalar> {
-        scalar_of_led_three_or_four(&text[at..])
+        scalar_of_led_wide(&text[at..])
     }
 }

@@ -1,2 +1,3 @@
 -- What only carries proofs.
 pub mod Stands
+pub mod Widths

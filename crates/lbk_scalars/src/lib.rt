@@ -1,9 +1,15 @@
-//! The bytes that scalars of three are made of, read without a call.
+//! The scalars of two to four bytes, read without a call.
 #![tactic(auto)]
 
 ghost use Rattle.std.specs.Prelude.{◌≡◌, ℕ, ◌+◌, ◌*◌, ◌<◌, ◌≤◌, ◌⊎◌, false, true, length, IfSome};
 ghost use Rattle.bstr.specs.Utf8.{continues, decoded, good};
 ghost use Rattle.lbk_scalars.specs.Stands.{StandsFrom};
+
+mod scalar;
+mod wide;
+
+pub use scalar::{Scalar, code_of_two, scalar_of_three, scalar_of_two};
+pub use wide::{scalar_of_led_wide, scalar_of_wide};
 
 /// The code of the scalar at the front of some bytes, which begin with one, if it has three. What they spell tells it: no
 /// scalar of two bytes or of four spells as much.

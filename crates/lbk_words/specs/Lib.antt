@@ -12,4 +12,3 @@ pub mod Rows
 pub mod Filling
 pub mod Blocks
 pub mod Ends
-pub mod Widths

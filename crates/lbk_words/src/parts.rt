@@ -7,7 +7,7 @@ ghost use Rattle.lbk_words.specs.Places.{IsReadAt};
 ghost use Rattle.lbk_words.specs.Rows.{IsStep};
 ghost use Rattle.lbk_words.specs.Words.{scalars_on};
 
-use crate::scalars::{Scalar, scalar_at, three_at, wide_at};
+use crate::scalars::{ScalarAt, scalar_at, three_at, wide_at};
 use crate::steps::{Step, first_row, is_word, next_step, step_of, step_of_byte, step_unasked};
 use crate::word::{Filled, Word};
 
@@ -86,7 +86,7 @@ fn near_of<const FOURS: bool>(text: &[u8], stop: usize) -> usize
 
 /// The scalar at a byte, where it takes three bytes, or with `FOURS` three or four.
 #[inline(always)]
-fn quick_at<const FOURS: bool>(text: &[u8], at: usize) -> Option<Scalar>
+fn quick_at<const FOURS: bool>(text: &[u8], at: usize) -> Option<ScalarAt>
     requires here { at < length text.now }
     requires enough { FOURS ≡ true → at + 4 ≤ length text.now }
     ensures { IfSome result (λ scalar. IsReadAt text.now at scalar.code scalar.end) }

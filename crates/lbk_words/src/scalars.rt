@@ -7,14 +7,15 @@ ghost use Rattle.lbk_words.specs.Places.{IsReadAt};
 ghost use Rattle.lbk_words.specs.Rows.{answer_number};
 ghost use Rattle.lbk_words.specs.Words.{scalars_on};
 
-use crate::decoding::{Coded, scalar_of_few, scalar_of_led, scalar_of_three, scalar_of_wide};
+use crate::decoding::{scalar_of_few, scalar_of_led};
 use crate::kinds::kind_of;
 use crate::step_table::ANSWERS;
 use bstr::decode_lossy;
+use lbk_scalars::{Scalar, scalar_of_three, scalar_of_wide};
 
 /// A scalar of a text.
 #[derive(Clone, Copy)]
-pub(crate) struct Scalar {
+pub(crate) struct ScalarAt {
     /// Its number.
     pub(crate) code: u32,
     /// The byte after it.
@@ -24,7 +25,7 @@ pub(crate) struct Scalar {
 
 /// The scalar at a byte of a text: U+FFFD for the longest piece there that begins none (Unicode Standard, section 3.9).
 #[inline(always)]
-pub(crate) fn scalar_at(text: &[u8], at: usize) -> Scalar
+pub(crate) fn scalar_at(text: &[u8], at: usize) -> ScalarAt
     requires { at < length text.now }
     ensures { IsReadAt text.now at result.code result.end }
 {
@@ -34,7 +35,7 @@ pub(crate) fn scalar_at(text: &[u8], at: usize) -> Scalar
     let rest = &text[at..];
     let Some(scalar) = scalar_of_few(rest) else {
         let scalar = any_scalar(rest);
-        return Scalar {
+        return ScalarAt {
             code: scalar.code,
             end: at + scalar.size,
         };
@@ -45,7 +46,7 @@ pub(crate) fn scalar_at(text: &[u8], at: usize) -> Scalar
 /// The scalar at a byte of a text, where it takes one byte, two or three (`SIZE`), as its first byte tells, or, where
 /// `SIZE` is 4, three or four.
 #[inline(always)]
-pub(crate) fn scalar_of_size<const SIZE: usize>(text: &str, at: usize) -> Option<Scalar>
+pub(crate) fn scalar_of_size<const SIZE: usize>(text: &str, at: usize) -> Option<ScalarAt>
     requires size { (SIZE ≡ 1) ⊎ (SIZE ≡ 2) ⊎ (SIZE ≡ 3) ⊎ (SIZE ≡ 4) }
     requires place { at + SIZE ≤ length text.now }
     ensures { IfSome result (λ scalar. IsReadAt text.now at scalar.code scalar.end) }
@@ -58,7 +59,7 @@ pub(crate) fn scalar_of_size<const SIZE: usize>(text: &str, at: usize) -> Option
 
 /// The same of a scalar of more than one byte.
 #[inline(always)]
-fn led_at<const SIZE: usize>(text: &str, at: usize) -> Option<Scalar>
+fn led_at<const SIZE: usize>(text: &str, at: usize) -> Option<ScalarAt>
     requires size { (SIZE ≡ 2) ⊎ (SIZE ≡ 3) ⊎ (SIZE ≡ 4) }
     requires place { at + SIZE ≤ length text.now }
     ensures { IfSome result (λ scalar. IsReadAt text.now at scalar.code scalar.end) }
@@ -70,7 +71,7 @@ fn led_at<const SIZE: usize>(text: &str, at: usize) -> Option<Scalar>
 
 /// The scalar at a byte of a text, where it takes one.
 #[inline(always)]
-fn one_at(text: &[u8], at: usize) -> Option<Scalar>
+fn one_at(text: &[u8], at: usize) -> Option<ScalarAt>
     requires { at < length text.now }
     ensures reads { IfSome result (λ scalar. IsReadAt text.now at scalar.code scalar.end) }
     ensures end { IfSome result (λ scalar. scalar.end ≡ at + 1) }
@@ -79,7 +80,7 @@ fn one_at(text: &[u8], at: usize) -> Option<Scalar>
     if 0x80 <= byte {
         return None;
     }
-    Some(Scalar {
+    Some(ScalarAt {
         code: u32::from(byte),
         end: at + 1,
     })
@@ -87,7 +88,7 @@ fn one_at(text: &[u8], at: usize) -> Option<Scalar>
 
 /// The scalar at a byte of a text, where it takes three.
 #[inline(always)]
-pub(crate) fn three_at(text: &[u8], at: usize) -> Option<Scalar>
+pub(crate) fn three_at(text: &[u8], at: usize) -> Option<ScalarAt>
     requires { at + 3 ≤ length text.now }
     ensures reads { IfSome result (λ scalar. IsReadAt text.now at scalar.code scalar.end) }
     ensures end { IfSome result (λ scalar. scalar.end ≡ at + 3) }
@@ -98,7 +99,7 @@ pub(crate) fn three_at(text: &[u8], at: usize) -> Option<Scalar>
 
 /// The scalar at a byte of a text, where it takes three or four, with no jump on which.
 #[inline(always)]
-pub(crate) fn wide_at(text: &[u8], at: usize) -> Option<Scalar>
+pub(crate) fn wide_at(text: &[u8], at: usize) -> Option<ScalarAt>
     requires { at + 4 ≤ length text.now }
     ensures { IfSome result (λ scalar. IsReadAt text.now at scalar.code scalar.end) }
 {
@@ -108,13 +109,13 @@ pub(crate) fn wide_at(text: &[u8], at: usize) -> Option<Scalar>
 
 /// The scalar that stands at a byte of a text.
 #[inline(always)]
-fn placed(text: &[u8], at: usize, scalar: Coded) -> Scalar
+fn placed(text: &[u8], at: usize, scalar: Scalar) -> ScalarAt
     requires inside { at < length text.now }
     requires stands { decoded (slice_range text.now at (length text.now)) ≡ good scalar.code scalar.size }
     ensures reads { IsReadAt text.now at result.code result.end }
     ensures end { result.end ≡ at + scalar.size }
 {
-    Scalar {
+    ScalarAt {
         code: scalar.code,
         end: at + scalar.size,
     }
@@ -122,13 +123,13 @@ fn placed(text: &[u8], at: usize, scalar: Coded) -> Scalar
 
 /// The scalar at the front of some bytes, by a call, which serves scalars of four bytes and ill-formed text.
 #[inline(never)]
-fn any_scalar(bytes: &[u8]) -> Coded
+fn any_scalar(bytes: &[u8]) -> Scalar
     requires { 0 < length bytes.now }
     ensures code { result.code ≡ or_replacement (decoded bytes.now).char }
     ensures size { result.size ≡ (decoded bytes.now).size }
 {
     let (c, size) = decode_lossy(bytes);
-    Coded {
+    Scalar {
         code: c as u32,
         size,
     }

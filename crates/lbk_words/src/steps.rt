@@ -9,7 +9,7 @@ ghost use Rattle.lbk_words.specs.Rows.{IsFirstRow, IsStep, row_word, step_number
 ghost use Rattle.lbk_words.specs.Words.{scalars_on};
 
 use crate::kinds::kind_of;
-use crate::scalars::{Scalar, answer_ahead, scalar_at};
+use crate::scalars::{ScalarAt, answer_ahead, scalar_at};
 use crate::step_table::{ARE_WORDS, FIRST_ROWS, STEPS};
 
 /// How many rows there are. A row is what the rules ask of a part so far, and whether the part has a letter or a
@@ -41,7 +41,7 @@ pub(crate) struct NextStep {
 
 /// The row of a part of one scalar.
 #[inline(always)]
-pub(crate) fn first_row(first: Scalar) -> usize
+pub(crate) fn first_row(first: ScalarAt) -> usize
     ensures { IsFirstRow first.code result }
 {
     first_row_of(kind_of(first.code) as usize)
@@ -81,7 +81,7 @@ pub(crate) fn next_step(row: usize, text: &[u8], at: usize) -> NextStep
 
 /// What the next scalar of a text makes of a part of this row.
 #[inline(always)]
-pub(crate) fn step_of(row: usize, next: Scalar, text: &[u8]) -> Step
+pub(crate) fn step_of(row: usize, next: ScalarAt, text: &[u8]) -> Step
     requires { row < 43 }
     ensures { IsStep row next.code (value_at (significant (scalars_on text.now next.end)) 0) result }
 {

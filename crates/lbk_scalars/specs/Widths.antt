@@ -1,6 +1,6 @@
 -- How the bytes of a scalar of three bytes or four count in its code.
 use Rattle.std.specs.Prelude.{◌≡◌, ℕ, ◌<◌, ◌≤◌, ◌⊎◌}
-use Rattle.lbk_words.specs.declared.decoding.Width.{Width}
+use Rattle.lbk_scalars.specs.declared.wide.Width.{Width}
 
 -- by its first byte, which is from E0 on
 abbrev pub IsWidth : ℕ → Width → Type 0
