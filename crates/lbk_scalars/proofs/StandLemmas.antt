@@ -1,5 +1,5 @@
 -- Where scalars stand in well-formed text.
-use Rattle.std.proofs.Common.{◌≡◌, ℕ, ◌+◌, ◌-◌, ◌*◌, ◌<◌, ◌≤◌, ◌==◌, Bool, cond, nat_lt, refl, true, false, List, [], ◌∷◌, drop, get_or, length, slice_range, sym, ap, ◌∙◌, arith}
+use Rattle.std.proofs.Common.{◌≡◌, ℕ, ◌+◌, ◌-◌, ◌*◌, ◌<◌, ◌≤◌, ◌⊎◌, ◌==◌, Bool, cond, nat_lt, refl, true, false, List, [], ◌∷◌, drop, get_or, length, slice_range, sym, ap, ◌∙◌, arith}
 use Rattle.std.specs.Str.{IsUtf8, encode_utf8_all}
 use Rattle.std.specs.Char.{encode_utf8}
 use Rattle.std.proofs.lemmas.Bool.{and_parts}
@@ -33,8 +33,34 @@ stands-rest least begins text at utf8 inside led =
     let stands = stands-at text at utf8 inside (omega (arith, begins, led, first, ap (λ n. get_or text n 0) same)) in
     (stands.0, stands.1, ap decoded rest ∙ stands.2)
 
+-- two bytes that decode are a byte of two and one that may follow it
+pub shape-two : (n b c d e code : ℕ) → decoded_by n b c d e ≡ good code 2
+    → (0xC2 ≤ b) × (b < 0xE0) × (continues c ≡ true)
+shape-two n b c d e code is = by (n == 0) (nat_lt b 0x80) (nat_lt b 0xC2) (nat_lt 0xF4 b) (nat_lt n 2) (second b c) (nat_lt b 0xE0)
+    (nat_lt n 3) (continues d) (nat_lt b 0xF0) (nat_lt n 4) (continues e) refl refl refl is
+  where
+    by : (x0 x1 x2 x3 x4 s x5 x6 k x7 x8 l : Bool) → nat_lt b 0xC2 ≡ x2 → nat_lt b 0xE0 ≡ x5 → second b c ≡ s
+        → cond x0 (bad 0) (cond x1 (good b 1) (cond x2 (bad 1) (cond x3 (bad 1) (cond x4 (bad 1)
+        (cond s (cond x5 (good (code_of_2 b c) 2) (cond x6 (bad 2)
+        (cond k (cond x7 (good (code_of_3 b c d) 3) (cond x8 (bad 3) (cond l (good (code_of_4 b c d e) 4) (bad 3)))) (bad 2)))) (bad 1)))))) ≡ good code 2
+        → (0xC2 ≤ b) × (b < 0xE0) × (continues c ≡ true)
+    by true x1 x2 x3 x4 s x5 x6 k x7 x8 l least most sec is = absurd (grind arith)
+    by false true x2 x3 x4 s x5 x6 k x7 x8 l least most sec is = absurd (grind arith)
+    by false false true x3 x4 s x5 x6 k x7 x8 l least most sec is = absurd (grind arith)
+    by false false false true x4 s x5 x6 k x7 x8 l least most sec is = absurd (grind arith)
+    by false false false false true s x5 x6 k x7 x8 l least most sec is = absurd (grind arith)
+    by false false false false false false x5 x6 k x7 x8 l least most sec is = absurd (grind arith)
+    by false false false false false true false true k x7 x8 l least most sec is = absurd (grind arith)
+    by false false false false false true false false false x7 x8 l least most sec is = absurd (grind arith)
+    by false false false false false true false false true true x8 l least most sec is = absurd (grind arith)
+    by false false false false false true false false true false true l least most sec is = absurd (grind arith)
+    by false false false false false true false false true false false true least most sec is = absurd (grind arith)
+    by false false false false false true false false true false false false least most sec is = absurd (grind arith)
+    by false false false false false true true x6 k x7 x8 l least most sec is =
+        (grind (arith, nat_tests, least), grind (arith, nat_tests, most), grind (arith, nat_tests, sec, most))
+
 -- three bytes that decode begin with a byte of three, and each may follow the one before
-shape-three : (n b c d e code : ℕ) → decoded_by n b c d e ≡ good code 3
+pub shape-three : (n b c d e code : ℕ) → decoded_by n b c d e ≡ good code 3
     → (0xE0 ≤ b) × (b < 0xF0) × (second b c ≡ true) × (continues d ≡ true)
 shape-three n b c d e code is = by (n == 0) (nat_lt b 0x80) (nat_lt b 0xC2) (nat_lt 0xF4 b) (nat_lt n 2) (second b c) (nat_lt b 0xE0)
     (nat_lt n 3) (continues d) (nat_lt b 0xF0) (nat_lt n 4) (continues e) refl refl refl refl is
@@ -68,3 +94,15 @@ spelled-three n b c d e code is =
     (grind (arith, nat_tests, narrowed), grind (arith, nat_tests, narrowed), grind (arith, nat_tests, follows), grind (arith, nat_tests, follows)) in
     let narrow : b ≡ 0xE0 → 0xA0 ≤ c = λ e. grind (arith, nat_tests, narrowed) in
     (grind (arith), omega (arith, shape.0, shape.1, range))
+
+-- three bytes of a scalar are not those of a surrogate
+pub spelled-no-surrogate : (n b c d e code : ℕ) → decoded_by n b c d e ≡ good code 3
+    → ((b * 64 + c) * 64 + d < 0xE_F880) ⊎ (0xF_0080 ≤ (b * 64 + c) * 64 + d)
+spelled-no-surrogate n b c d e code is =
+    let shape = shape-three n b c d e code is in
+    let narrowed = shape.2 in
+    let follows = shape.3 in
+    let range : (0x80 ≤ c) × (c < 0xC0) × (0x80 ≤ d) × (d < 0xC0) =
+    (grind (arith, nat_tests, narrowed), grind (arith, nat_tests, narrowed), grind (arith, nat_tests, follows), grind (arith, nat_tests, follows)) in
+    let narrow : b ≡ 0xED → c < 0xA0 = λ e. grind (arith, nat_tests, narrowed) in
+    grind (arith)

@@ -1,6 +1,6 @@
 //! The scalars of two bytes and of three, where any bytes may stand (Unicode Standard, table 3-7).
 
-ghost use Rattle.std.specs.Prelude.{◌≡◌, ◌<◌, ◌≤◌, true, length, IfSome};
+ghost use Rattle.std.specs.Prelude.{◌≡◌, ℕ, ◌<◌, ◌≤◌, true, length, IfSome};
 ghost use Rattle.bstr.specs.Utf8.{code_of_2, continues, decoded, good};
 
 use crate::{MARKS_OF_THREE, is_continuation, joined, takes_three};
@@ -19,6 +19,7 @@ pub fn scalar_of_two(bytes: &[u8]) -> Option<Scalar>
     requires { 2 ≤ length bytes.now }
     ensures reads { IfSome result (λ scalar. decoded bytes.now ≡ good scalar.code scalar.size) }
     ensures size { IfSome result (λ scalar. scalar.size ≡ 2) }
+    ensures none { result ≡ None → (code : ℕ) → ¬ (decoded bytes.now ≡ good code 2) }
 {
     let first = bytes[0];
     if first < 0xC2 || 0xDF < first || !is_continuation(bytes[1]) {
@@ -37,6 +38,7 @@ pub fn scalar_of_three(bytes: &[u8]) -> Option<Scalar>
     requires { 3 ≤ length bytes.now }
     ensures reads { IfSome result (λ scalar. decoded bytes.now ≡ good scalar.code scalar.size) }
     ensures size { IfSome result (λ scalar. scalar.size ≡ 3) }
+    ensures none { result ≡ None → (code : ℕ) → ¬ (decoded bytes.now ≡ good code 3) }
 {
     let (first, next, last) = (bytes[0], bytes[1], bytes[2]);
     let spelled = joined(joined(u32::from(first), next), last);

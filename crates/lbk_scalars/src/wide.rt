@@ -1,9 +1,9 @@
 //! The scalars of three bytes and of four, read alike.
 
-ghost use Rattle.std.specs.Prelude.{◌≡◌, ◌<◌, ◌≤◌, length, IfSome};
+ghost use Rattle.std.specs.Prelude.{◌≡◌, ℕ, ◌<◌, ◌≤◌, get_or, length, IfSome};
 ghost use Rattle.bstr.specs.Utf8.{decoded, good};
 ghost use Rattle.lbk_scalars.specs.Stands.{StandsFrom};
-ghost use Rattle.lbk_scalars.specs.Widths.{IsWidth};
+ghost use Rattle.lbk_scalars.specs.Widths.{IsPlainLead, IsWidth};
 
 use crate::is_continuation;
 use crate::scalar::Scalar;
@@ -35,6 +35,8 @@ pub fn scalar_of_wide(bytes: &[u8]) -> Option<Scalar>
     requires { 4 ≤ length bytes.now }
     ensures reads { IfSome result (λ scalar. decoded bytes.now ≡ good scalar.code scalar.size) }
     ensures size { IfSome result (λ scalar. 3 ≤ scalar.size) }
+    ensures none { result ≡ None → IsPlainLead (get_or bytes.now 0 0) → (code size : ℕ)
+        → ¬ (decoded bytes.now ≡ good code size) }
 {
     let (first, next, third) = (bytes[0], bytes[1], bytes[2]);
     if first < 0xE1 || 0xF3 < first || first == 0xED {
@@ -62,6 +64,7 @@ pub fn scalar_of_led_wide(bytes: &[u8]) -> Option<Scalar>
     requires stands { StandsFrom 0xDF bytes.now }
     ensures reads { IfSome result (λ scalar. decoded bytes.now ≡ good scalar.code scalar.size) }
     ensures size { IfSome result (λ scalar. 3 ≤ scalar.size) }
+    ensures none { result ≡ None → get_or bytes.now 0 0 < 0xE0 }
 {
     let first = bytes[0];
     if first < 0xE0 {
