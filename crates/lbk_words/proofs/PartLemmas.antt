@@ -7,10 +7,13 @@ use Rattle.bstr.specs.Utf8.{Decoded, decoded, or_replacement, pieces}
 use Rattle.ucd_breaks.specs.WordBreak.{word_break}
 use Rattle.lbk_words.specs.declared.ends.Reading.{Reading}
 use Rattle.lbk_words.specs.declared.ends.Noted.{Noted}
+use Rattle.lbk_words.specs.declared.near.NearScalars.{NearScalars}
 use Rattle.lbk_words.specs.declared.word.Filled.{Filled}
 use Rattle.lbk_words.specs.Contexts.{context_after, context_of}
 use Rattle.lbk_words.specs.Letters.{is_letter_or_number}
-use Rattle.lbk_words.specs.Ends.{AreParts, FillsParts, IsEnd, IsNoted, IsNotedStep, IsReading, PartEnd, parts_by}
+use Rattle.lbk_words.specs.Ends.{AreParts, FillsParts, IsEnd, IsNoted, IsNotedStep, IsReading, PartEnd, ReadsOn, parts_by}
+use Rattle.lbk_words.specs.Filling.{IsInRow}
+use Rattle.lbk_words.specs.Near.{AreMet}
 use Rattle.lbk_words.specs.Places.{IsFirstPiece, IsReadAt}
 use Rattle.lbk_words.specs.Rows.{row_word}
 use Rattle.lbk_words.specs.Words.{scalars_of}
@@ -136,6 +139,31 @@ module _ {X : Type 0} (made : ℕ → ℕ → Bool → X) (letter : ℕ → Bool
   reading-taken here out new noted n r kept put is few =
       subst (λ m. IsReading made letter text from old (record { count = here.count + m; start = if noted.next.step.cuts then here.at else here.start; at = noted.next.end; row = noted.next.step.next; has_letter = noted.is_letter || (here.has_letter && not noted.next.step.cuts) }) new) (sym few)
       (reading-by here out new noted noted.next.step.cuts r kept put is refl)
+
+  -- more scalars of the part so far are read
+  pub reading-joined : (here there : Reading) (out : List X) → IsReading made letter text from old here out
+      → (there.count ≡ here.count) × (there.start ≡ here.start)
+      → IsInRow text here.start there.at there.row × IsNoted letter text here.start there.at there.has_letter
+      → IsReading made letter text from old there out
+  reading-joined here there out r same part = record {
+    fills =
+        subst (λ n. FillsParts made letter text from old (record { count = n; at = there.start }) out) (sym same.0)
+        (subst (λ s. FillsParts made letter text from old (record { count = here.count; at = s }) out) (sym same.1) r.fills);
+    part = subst (λ s. IsInRow text s there.at there.row) (sym same.1) part.0;
+    noted = subst (λ s. IsNoted letter text s there.at there.has_letter) (sym same.1) part.1;
+  }
+
+-- scalars are read, and then more
+pub reads-more : {X : Type 0} (made : ℕ → ℕ → Bool → X) (near : NearScalars) (text : List ℕ) (from mid to : Reading) (old some new : List X)
+    → length some ≡ length old → ReadsOn made near text from old mid some → ReadsOn made near text mid some to new → ReadsOn made near text from old to new
+reads-more made near text from mid to old some new len before after =
+    record {
+      reads = λ letter met start first r. after.reads letter met start first (before.reads letter met start first r);
+      onward = (omega (arith, before.onward.0, after.onward.0), omega (arith, before.onward.1, after.onward.1));
+      starts = omega (arith, before.starts, after.starts);
+      within = (after.within.0, after.within.1, omega (arith, after.within.2, len));
+      row = after.row;
+    }
 
 -- the last byte of a text is a part, if it is a scalar by itself
 pub lone-part : (text : List ℕ) (at : ℕ) → length text ≡ at + 1 → slice_index text at < 128 → (is_word : Bool) × IsFirstPiece text at (at + 1) is_word

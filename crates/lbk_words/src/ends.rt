@@ -2,8 +2,8 @@
 
 ghost use Rattle.std.specs.Prelude.{◌≡◌, ℕ, ◌+◌, ◌-◌, ◌*◌, ◌<◌, ◌≤◌, ◌⊎◌, ◌^◌, List, Bool, true, get_or, length, IfSome};
 ghost use Rattle.lbk_masks.specs.Sets.{is_set};
-ghost use Rattle.lbk_words.specs.Ends.{AreEnds, AreTold, FillsParts, IsNotedStep, IsReading, ReadsOn, is_pair};
-ghost use Rattle.lbk_words.specs.Filling.{IsNextStep};
+ghost use Rattle.lbk_words.specs.Ends.{AreEnds, AreTold, FillsParts, IsNoted, IsNotedStep, IsReading, ReadsOn, is_pair};
+ghost use Rattle.lbk_words.specs.Filling.{IsInRow, IsNextStep};
 ghost use Rattle.lbk_words.specs.Near.{AreMet};
 
 use crate::blocks::{BLOCK, Wides, marks_of, wides_of};
@@ -11,6 +11,7 @@ use crate::letters::{Letters, PartSlot};
 use crate::near::NearScalars;
 use crate::parts::one_of;
 use crate::scalars::{scalar_at, scalar_of_size};
+use crate::step_table::LETTER_ROW;
 use crate::steps::{NextStep, first_row_of, step_by_kind, step_of_kind};
 use crate::tries::{SOON, may_tell};
 use crate::word::Filled;
@@ -73,7 +74,7 @@ pub fn fill_parts<L: Letters, S: PartSlot>(
         has_letter: told.is_letter,
     };
     'scalars: loop {
-        here = read_alike::<3, S>(near, text, here, out);
+        here = read_threes(near, text, here, out);
         if here.count == out.len() {
             return Filled {
                 count: here.count,
@@ -220,11 +221,95 @@ fn read_alike<const SIZE: usize, S: PartSlot>(
     requires met { (letter : ℕ → Bool) × AreMet letter near.now }
     ensures { ReadsOn S.made near.now text.now from out.old result out.new }
 {
-    let room = out.len() - from.count;
+    let stop = stop_of::<SIZE>(from.at, out.len() - from.count, text.len());
+    read_up_to::<SIZE, S>(near, text, from, out, stop)
+}
+
+/// Goes on by scalars of three bytes, as `read_alike` does. Behind a letter, those of its part are read in a loop that
+/// writes nothing.
+#[inline(always)]
+fn read_threes<S: PartSlot>(near: &NearScalars, text: &str, from: Reading, out: &mut [S]) -> Reading
+    requires few { length text.now < 2 ^ 32 }
+    requires place { (from.start < from.at) × (from.at ≤ length text.now) × (from.count ≤ length out.old) }
+    requires row { from.row < 43 }
+    requires met { (letter : ℕ → Bool) × AreMet letter near.now }
+    ensures { ReadsOn S.made near.now text.now from out.old result out.new }
+{
+    let stop = stop_of::<3>(from.at, out.len() - from.count, text.len());
+    let mut here = from;
+    if here.at < stop {
+        let Some(noted) = noted_alike::<3>(near, here.row, text, here.at) else {
+            return here;
+        };
+        here = taken(here, noted, out);
+        if here.row == LETTER_ROW {
+            here = read_joined(near, text, here);
+        }
+    }
+    read_up_to::<3, S>(near, text, here, out, stop)
+}
+
+/// Goes on by scalars of three bytes that were met, until a part ends before one.
+#[inline(always)]
+fn read_joined(near: &NearScalars, text: &str, from: Reading) -> Reading
+    requires place { (from.start < from.at) × (from.at ≤ length text.now) }
+    requires row { from.row < 43 }
+    requires met { (letter : ℕ → Bool) × AreMet letter near.now }
+    ensures reads { (letter : ℕ → Bool) → AreMet letter near.now → IsInRow text.now from.start from.at from.row
+        → IsNoted letter text.now from.start from.at from.has_letter
+        → IsInRow text.now from.start result.at result.row
+        × IsNoted letter text.now from.start result.at result.has_letter }
+    ensures same { (result.count ≡ from.count) × (result.start ≡ from.start) }
+    ensures place { (from.at ≤ result.at) × (result.at ≤ length text.now) × (result.row < 43) }
+{
+    let stop = text.len().saturating_sub(2);
+    let mut here = from;
+    'joined: while here.at < stop {
+        let Some(noted) = noted_alike::<3>(near, here.row, text, here.at) else {
+            break;
+        };
+        let step = noted.next.step;
+        if step.cuts {
+            break;
+        }
+        here.at = noted.next.end;
+        here.row = step.next;
+        here.has_letter = noted.is_letter | here.has_letter;
+    }
+    here
+}
+
+/// Up to where scalars of `SIZE` bytes may begin, from a byte on: there is a slot for each, and its bytes are there.
+#[inline(always)]
+fn stop_of<const SIZE: usize>(at: usize, room: usize, len: usize) -> usize
+    requires { (SIZE ≡ 1) ⊎ (SIZE ≡ 2) ⊎ (SIZE ≡ 3) ⊎ (SIZE ≡ 4) }
+    ensures room { result ≤ at + room }
+    ensures inside { (place : ℕ) → place < result → place + SIZE ≤ len }
+{
     let most = if SIZE == 1 { SOON.min(room) } else { room };
     // A sum that wraps is less, so the loop ends sooner.
-    let far = from.at.wrapping_add(most);
-    let stop = far.min(text.len().saturating_sub(SIZE - 1));
+    let far = at.wrapping_add(most);
+    far.min(len.saturating_sub(SIZE - 1))
+}
+
+/// Goes on by scalars of `SIZE` bytes, which begin before a byte, until another one comes.
+#[inline(always)]
+fn read_up_to<const SIZE: usize, S: PartSlot>(
+    near: &NearScalars,
+    text: &str,
+    from: Reading,
+    out: &mut [S],
+    stop: usize,
+) -> Reading
+    requires few { length text.now < 2 ^ 32 }
+    requires place { (from.start < from.at) × (from.at ≤ length text.now) × (from.count ≤ length out.old) }
+    requires size { (SIZE ≡ 1) ⊎ (SIZE ≡ 2) ⊎ (SIZE ≡ 3) ⊎ (SIZE ≡ 4) }
+    requires row { from.row < 43 }
+    requires met { (letter : ℕ → Bool) × AreMet letter near.now }
+    requires room { from.count + stop ≤ length out.old + from.at }
+    requires inside { (place : ℕ) → place < stop → place + SIZE ≤ length text.now }
+    ensures { ReadsOn S.made near.now text.now from out.old result out.new }
+{
     let mut here = from;
     'alike: while here.at < stop {
         let Some(noted) = noted_alike::<SIZE>(near, here.row, text, here.at) else {

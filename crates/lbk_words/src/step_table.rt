@@ -185,6 +185,9 @@ pub(crate) static FIRST_ROWS: [u8; 32] = [
     9, 1, 10, 11, 12, 13, 14, 15, 11, 5, 14, 1, 1, 1, 1, 1,
 ];
 
+// The row of a part of one ALetter that is a letter or a number.
+pub(crate) const LETTER_ROW: usize = 14;
+
 // Whether a part of the row is a word.
 #[rattlefmt::skip]
 pub(crate) static ARE_WORDS: [bool; 43] = [

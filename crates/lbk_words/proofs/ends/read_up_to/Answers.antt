@@ -1,5 +1,5 @@
 use Rattle.std.proofs.Common.{◌∙◌, arith}
-use Rattle.lbk_words.proofs.ends.read_alike.Goals as goal
+use Rattle.lbk_words.proofs.ends.read_up_to.Goals as goal
 
 pub alike-preserved : goal.alike-preserved
 alike-preserved g c =

@@ -2,7 +2,7 @@ use Rattle.std.proofs.Common.{ℕ, ◌≡◌, ◌+◌, ◌-◌, ◌<◌, ◌≤�
 use Rattle.lbk_words.specs.declared.word.Filled.{Filled}
 use Rattle.lbk_words.specs.Ends.{IsReading}
 use Rattle.lbk_words.specs.Near.{AreMet}
-use Rattle.lbk_words.proofs.ends.read_alike.Given as goal
+use Rattle.lbk_words.proofs.ends.read_up_to.Given as goal
 
 abbrev pub invariant-alike : goal.invariant-alike
 invariant-alike g l = record {
