@@ -6,13 +6,14 @@ ghost use Rattle.lbk_bytes.specs.Blocks.{AreEnded, AreInside, AreLeft, AreMarks,
 ghost use Rattle.lbk_bytes.specs.Blocks.{row_before};
 ghost use Rattle.lbk_bytes.specs.Reached.{Ahead, IsInOrder, Reached};
 ghost use Rattle.lbk_bytes.specs.Shown.{given_in};
-ghost use Rattle.lbk_bytes.specs.Steps.{FillsOn, GoesIn, IsInText, MayFill};
+ghost use Rattle.lbk_bytes.specs.Steps.{FillsOn, GoesIn, IsInText, IsSure, MayFill};
 
 use crate::block_marks::{BLOCK, Marks, behind_byte, is_told_behind, kept_up_to, marks_ahead};
 use crate::fill_state::FillState;
 use crate::filling::put;
 use crate::raw_break::RawBreak;
-use crate::stepping::{runs, stray};
+use crate::stepping::runs;
+use crate::strays::stray;
 use crate::target::Breaks;
 use lbk_masks::{first_set, kept_from, without_first};
 use lbk_rules::{KindSource, Neighbours, Rows, place_by, step_at};
@@ -30,16 +31,17 @@ pub(crate) struct BlockState {
 
 /// Takes blocks of bytes, as many as come one after the other, up to a scalar that no step takes, or from which on
 /// few bytes are left, or many of them to steps. Without masks it takes none. It stands apart, so that what single
-/// scalars need stays in registers.
+/// scalars need stays in registers. `SURE`: the text is well-formed and the steps are those of the first profile.
 #[inline(never)]
-pub(crate) fn blocks<const MASKS: bool, K: KindSource>(
+pub(crate) fn blocks<const MASKS: bool, const SURE: bool, K: KindSource>(
     kinds: &K,
     steps: &Rows,
     start: FillState,
     text: &[u8],
     out: &mut [RawBreak],
 ) -> FillState
-    requires { MayFill steps.now text.now out.old start }
+    requires stands { MayFill steps.now text.now out.old start }
+    requires sure { IsSure SURE steps.now text.now }
     ensures { FillsOn steps.now (K.kinds_of kinds.now) (K.pairs_of kinds.now) text.now out.old start out.new result }
 {
     if !MASKS {
@@ -52,7 +54,7 @@ pub(crate) fn blocks<const MASKS: bool, K: KindSource>(
     }
     loop {
         let from = here.at;
-        here = block(kinds, steps, here, text, out);
+        here = block::<SURE, K>(kinds, steps, here, text, out);
         if here.at - from < BLOCK {
             return here;
         }
@@ -61,14 +63,15 @@ pub(crate) fn blocks<const MASKS: bool, K: KindSource>(
 
 /// Takes the bytes of one block: those that its marks tell by them, and the others by steps.
 #[inline(always)]
-fn block<K: KindSource>(
+fn block<const SURE: bool, K: KindSource>(
     kinds: &K,
     steps: &Rows,
     start: FillState,
     text: &[u8],
     out: &mut [RawBreak],
 ) -> FillState
-    requires { MayFill steps.now text.now out.old start }
+    requires stands { MayFill steps.now text.now out.old start }
+    requires sure { IsSure SURE steps.now text.now }
     ensures { FillsOn steps.now (K.kinds_of kinds.now) (K.pairs_of kinds.now) text.now out.old start out.new result }
 {
     let Some(marks) = marks_ahead(kinds.pairs(), start.at, text) else {
@@ -81,7 +84,7 @@ fn block<K: KindSource>(
         if end <= there.at {
             return there;
         }
-        here = stray(Breaks, kinds, steps, there, text, out);
+        here = stray::<SURE, Breaks, K>(Breaks, kinds, steps, there, text, out);
         if here.at == there.at {
             return here;
         }

@@ -142,7 +142,7 @@ fn short<const MASKS: bool, K: KindSource>(
     let steps = rows_of(profile);
     let mut here = start;
     if MASKS && LEAST <= left && are_near(&text[start.at..]) {
-        here = copied(blocks::<MASKS, K>(table, steps, start, text, out));
+        here = copied(blocks::<MASKS, false, K>(table, steps, start, text, out));
     }
     scalars::<false, Breaks, K>(Breaks, table, steps, here, text.len(), text, out)
 }
@@ -263,7 +263,7 @@ fn common_part<const MASKS: bool, const SURE: bool, K: KindSource>(
         → Reached profile cell (text.now ++ more) all result.here (given_in out.new result.here.count) }
 {
     let steps = rows_of(profile);
-    let there = blocks::<MASKS, K>(table, steps, here, text, out);
+    let there = blocks::<MASKS, SURE, K>(table, steps, here, text, out);
     let until = next_try::<MASKS>(there.at, text);
     Part {
         here: singles::<SURE, K>(table, steps, there, until, text, out),

@@ -20,6 +20,7 @@ mod profiles;
 mod raw_break;
 mod roomy;
 mod stepping;
+mod strays;
 mod target;
 mod tries;
 mod unit;

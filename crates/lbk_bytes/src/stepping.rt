@@ -268,7 +268,7 @@ fn taken<const HOLDS: bool, W: Width, T: Target, K: KindSource>(
 
 /// Does the same where the text may end within a scalar of this width.
 #[inline(always)]
-fn taken_whole<const HOLDS: bool, W: Width, T: Target, K: KindSource>(
+pub(crate) fn taken_whole<const HOLDS: bool, W: Width, T: Target, K: KindSource>(
     target: T,
     kinds: &K,
     steps: &Rows,
@@ -291,7 +291,7 @@ fn taken_whole<const HOLDS: bool, W: Width, T: Target, K: KindSource>(
 
 /// Does the same with a scalar of more than one byte, of the width that its first byte says.
 #[inline(always)]
-fn taken_wide<const HOLDS: bool, T: Target, K: KindSource>(
+pub(crate) fn taken_wide<const HOLDS: bool, T: Target, K: KindSource>(
     target: T,
     kinds: &K,
     steps: &Rows,
@@ -313,29 +313,6 @@ fn taken_wide<const HOLDS: bool, T: Target, K: KindSource>(
         return taken_whole::<HOLDS, Three, T, K>(target, kinds, steps, here, text, out);
     }
     taken_whole::<HOLDS, Two, T, K>(target, kinds, steps, here, text, out)
-}
-
-/// Takes the scalar at a byte, with no loop where it has more than one, or what else `runs` takes there.
-#[inline(always)]
-pub(crate) fn stray<T: Target, K: KindSource>(
-    target: T,
-    kinds: &K,
-    steps: &Rows,
-    here: FillState,
-    text: &[u8],
-    out: &mut [T::Entry],
-) -> FillState
-    requires steps { MayStep (T.fits target) steps.now text.now (here.at + 1) out.old here }
-    ensures { StepsOn (T.fits target) (T.in_order target) (T.reached target) steps.now (K.kinds_of kinds.now) text.now
-        (here.at + 1) out.old here out.new result }
-{
-    if 0x80 <= text[here.at] && !target.is_full(out, here.count) {
-        let taken = taken_wide::<true, T, K>(target, kinds, steps, here, text, out);
-        if let Some(next) = taken {
-            return next;
-        }
-    }
-    runs::<false, T, K>(target, kinds, steps, here, here.at + 1, text, out)
 }
 
 /// Takes common scalars that begin before a byte, as `scalars` does. In a few bytes a loop for each width would cost

@@ -3,8 +3,11 @@ use Rattle.lbk_rules.specs.Rows.{steps_in}
 use Rattle.lbk_bytes.proofs.StepLemmas.{told-as}
 use Rattle.lbk_bytes.proofs.filling.common_part.Goals as goal
 
-pub blocks-there-requires : goal.blocks-there-requires
-blocks-there-requires g c = (c.requires.stands.0, c.requires.stands.1, omega (arith, c.requires.stands.2), (c.args.profile, c.rows_of-steps.ensures))
+pub blocks-there-requires-clause-stands : goal.blocks-there-requires-clause-stands
+blocks-there-requires-clause-stands g c = (c.requires.stands.0, c.requires.stands.1, omega (arith, c.requires.stands.2), (c.args.profile, c.rows_of-steps.ensures))
+
+pub blocks-there-requires-clause-sure : goal.blocks-there-requires-clause-sure
+blocks-there-requires-clause-sure g c = λ is. let sure = c.requires.sure is in (c.rows_of-steps.ensures ∙ ap steps_in sure.0, sure.1)
 
 pub singles-requires-clause-sure : goal.singles-requires-clause-sure
 singles-requires-clause-sure g c = λ is. let sure = c.requires.sure is in (c.rows_of-steps.ensures ∙ ap steps_in sure.0, sure.1)
