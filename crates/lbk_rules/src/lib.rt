@@ -1,4 +1,3 @@
-//! The interface to the rules of line breaking: Unicode Standard Annex #14, Unicode 15.0, and to what applies them.
 //!
 //! A text is a list of [`Cell`]s, one for each scalar, from a [`CellSource`]. [`decide`] returns, for a position in it,
 //! whether the line may break, must break or must not, and the rule that decided; [`Machine`] and [`LateMachine`] do so
@@ -9,6 +8,7 @@
 //! `lbk_passage` finds the breaks of a text in memory, and is faster still.
 #![tactic(auto)]
 
+mod after_breaks;
 mod cell_table;
 mod class_labels;
 mod first_bytes;
@@ -33,6 +33,7 @@ pub use pages::CellPages;
 pub use source::{CellSource, FOUR_PLANES};
 
 // Positions decided, at once or cell by cell.
+pub use after_breaks::verdicts_after_a_break;
 pub use lbk_uax14::{
     Break, End, Kind, LateMachine, Machine, Out, Profile, Rule, Verdict, annex, decide, decide_all,
     decide_all_in, decide_in, laws,
