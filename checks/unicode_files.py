@@ -7,6 +7,8 @@ from checks.harness import TOP
 
 NAMES = ["LineBreak.txt", "EastAsianWidth.txt", "extracted/DerivedGeneralCategory.txt", "emoji/emoji-data.txt"]
 OPTIONS = ["--line-break", "--east-asian", "--category", "--emoji"]
+# Texts and a test beside them in the whole database.
+TEXTS = ["NamesList.txt", "Index.txt", "emoji/emoji-test.txt", "auxiliary/LineBreakTest.txt", "PropList.txt"]
 MISSING = "the published files of Unicode 15.0 (Debian's package unicode-data; elsewhere UNICODE_DATA names their folder)"
 
 
@@ -18,6 +20,11 @@ def published():
         return None
     with open(first, encoding="utf-8") as file:
         return folder if "LineBreak-15.0.0" in file.readline() else None
+
+
+def lacking(folder):
+    """Those of the texts that a folder with the four files lacks."""
+    return [it for it in TEXTS if not (folder / it).is_file()]
 
 
 def property_files():

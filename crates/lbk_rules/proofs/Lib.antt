@@ -30,4 +30,9 @@ pub mod FlatLemmas
 pub mod AlikeLemmas
 pub mod RowChecks
 pub mod RowLemmas
+pub mod RestartChecks
+pub mod RestartLemmas
 pub mod ReadLemmas
+pub mod UnicodeRuns
+pub mod UnicodeTables
+pub mod UnicodeNumbers

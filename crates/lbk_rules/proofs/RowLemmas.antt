@@ -13,7 +13,7 @@ use Rattle.lbk_rules.specs.Rows.{IsPlace, IsStepFrom, left_at, row_left, sample,
 use Rattle.lbk_rules.proofs.AlikeLemmas.{facts-alike, from_cells-alike}
 use Rattle.lbk_rules.proofs.KindsLemmas.{kind-cell, kind-few}
 use Rattle.lbk_rules.proofs.LeftLemmas.{left_Decides}
-use Rattle.lbk_rules.proofs.RowChecks.{AreRight, each_below, is_copy, leads_right, row_right, rows_from_0, rows_from_114, rows_from_19, rows_from_38, rows_from_57, rows_from_76, rows_from_95, same_next, shows_right}
+use Rattle.lbk_rules.proofs.RowChecks.{each_below, is_copy, leads_right, row_right, rows_from_0, rows_from_114, rows_from_19, rows_from_38, rows_from_57, rows_from_76, rows_from_95, same_next, shows_right}
 
 pub each_below-at : (p : ℕ → Bool) (n j : ℕ) → each_below p n ≡ true → j < n → p j ≡ true
 unfolding each_below
@@ -25,27 +25,27 @@ each_below-at p (suc n) j h lt =
       | inr last ↦ let at : n ≡ j = omega arith in subst (λ k. p k ≡ true) at parts.0
     ]
 
--- some rows from one on
-block : (from many row : ℕ) → AreRight from many → from ≤ row → row < from + many → row_right row ≡ true
-block from many row all least below =
-    let same : from + (row - from) ≡ row = omega arith in
-    subst (λ k. row_right k ≡ true) same (each_below-at (λ j. row_right (from + j)) many (row - from) all (omega arith))
+-- each number of so many from one on passes
+pub each-from : (p : ℕ → Bool) (from many n : ℕ) → each_below (λ j. p (from + j)) many ≡ true → from ≤ n → n < from + many → p n ≡ true
+each-from p from many n all least below =
+    let same : from + (n - from) ≡ n = omega arith in
+    subst (λ k. p k ≡ true) same (each_below-at (λ j. p (from + j)) many (n - from) all (omega arith))
 
 all_right : (row : ℕ) → row < 128 → row_right row ≡ true
 all_right row few =
     elim (cases_lt row 19) [
-      | inl below ↦ block 0 19 row rows_from_0 (omega arith) (omega arith)
+      | inl below ↦ each-from row_right 0 19 row rows_from_0 (omega arith) (omega arith)
       | inr from_19 ↦ elim (cases_lt row 38) [
-        | inl below ↦ block 19 19 row rows_from_19 (omega arith) (omega arith)
+        | inl below ↦ each-from row_right 19 19 row rows_from_19 (omega arith) (omega arith)
         | inr from_38 ↦ elim (cases_lt row 57) [
-          | inl below ↦ block 38 19 row rows_from_38 (omega arith) (omega arith)
+          | inl below ↦ each-from row_right 38 19 row rows_from_38 (omega arith) (omega arith)
           | inr from_57 ↦ elim (cases_lt row 76) [
-            | inl below ↦ block 57 19 row rows_from_57 (omega arith) (omega arith)
+            | inl below ↦ each-from row_right 57 19 row rows_from_57 (omega arith) (omega arith)
             | inr from_76 ↦ elim (cases_lt row 95) [
-              | inl below ↦ block 76 19 row rows_from_76 (omega arith) (omega arith)
+              | inl below ↦ each-from row_right 76 19 row rows_from_76 (omega arith) (omega arith)
               | inr from_95 ↦ elim (cases_lt row 114) [
-                | inl below ↦ block 95 19 row rows_from_95 (omega arith) (omega arith)
-                | inr from_114 ↦ block 114 14 row rows_from_114 (omega arith) (omega arith)
+                | inl below ↦ each-from row_right 95 19 row rows_from_95 (omega arith) (omega arith)
+                | inr from_114 ↦ each-from row_right 114 14 row rows_from_114 (omega arith) (omega arith)
               ]
             ]
           ]

@@ -15,6 +15,7 @@ pub use Rattle.lbk_uax14.specs.Joins
 pub use Rattle.lbk_uax14.specs.Once
 pub use Rattle.lbk_uax14.specs.Normal
 pub mod Cells
+pub mod Unicode
 pub mod ClassLabels
 -- What only carries proofs.
 pub use Rattle.lbk_uax14.specs.Answers

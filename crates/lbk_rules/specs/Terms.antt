@@ -15,4 +15,4 @@ pub use Rattle.lbk_uax14.specs.LateFits.{waiting}
 pub use Rattle.lbk_uax14.specs.Normal.{normal, normals}
 pub use Rattle.lbk_uax14.specs.Sides.{Side}
 pub use Rattle.lbk_uax14.specs.Units.{nearest, units_after}
-pub use Rattle.lbk_uax14.specs.Verdict.{verdict_in}
+pub use Rattle.lbk_uax14.specs.Verdict.{verdict_between_in, verdict_in}

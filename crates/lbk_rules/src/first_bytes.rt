@@ -6,7 +6,7 @@ ghost use Rattle.lbk_rules.specs.FirstBytes.{AreTold, first_byte};
 ghost use Rattle.lbk_uax14.specs.Pages.{AreSame};
 ghost use Rattle.lbk_uax14.specs.declared.cells.Cell.{Cell};
 
-use crate::runs::CellRun;
+use lbk_uax14::Cell;
 
 /// For each byte what is known of all scalars that begin with it.
 #[derive(Clone, Copy, Debug, Drop)]
@@ -28,18 +28,18 @@ impl FirstBytes {
         }
     }
 
-    /// Takes in the scalars of one more range, from the code `first` on: what does not hold of them is not known of
-    /// their first bytes any more.
-    pub(crate) fn add(&mut self, first: u32, run: &CellRun)
-        requires { (first ≤ 0x10FFFF) × (run.now.last ≤ 0x10FFFF) }
-        ensures { (cell : ℕ → Cell) → AreSame cell first run.now.last run.now.cell → AreTold cell self.old first
-            → AreTold cell self.new (run.now.last + 1) }
+    /// Takes in the scalars of one more range, which have this cell: what does not hold of them is not known of their
+    /// first bytes any more.
+    pub(crate) fn add(&mut self, first: u32, last: u32, cell: Cell)
+        requires { (first ≤ 0x10FFFF) × (last ≤ 0x10FFFF) }
+        ensures { (cells : ℕ → Cell) → AreSame cells first last cell → AreTold cells self.old first
+            → AreTold cells self.new (last + 1) }
     {
-        if run.cell.class.ends_line() {
-            leave_out(&mut self.are_quiet, first, run.last);
+        if cell.class.ends_line() {
+            leave_out(&mut self.are_quiet, first, last);
         }
-        if !run.cell.letter {
-            leave_out(&mut self.are_letters, first, run.last);
+        if !cell.letter {
+            leave_out(&mut self.are_letters, first, last);
         }
     }
 }

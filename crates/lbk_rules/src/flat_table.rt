@@ -9,11 +9,14 @@ ghost use Rattle.lbk_rules.specs.FlatTable.{digest_of_bytes, digest_with};
 ghost use Rattle.lbk_rules.specs.Neighbours.{AreNeighboursOf};
 ghost use Rattle.lbk_rules.specs.CellOfTables.{cell_of_tables};
 ghost use Rattle.lbk_rules.specs.Terms.{Cell, normal};
+ghost use Rattle.lbk_rules.specs.Unicode.{unicode_cell};
 
 use crate::kind_source::KindSource;
 use crate::kind_table::KindTable;
 use crate::kinds::KINDS;
 use crate::neighbours::Neighbours;
+use crate::unicode::fill_kinds;
+use crate::unicode_runs::{UNICODE_DIGEST, UNICODE_NEIGHBOURS};
 use lbk_uax14::Cell;
 use lbk_ucd::Tables;
 use std::alloc::{AllocError, Global};
@@ -58,6 +61,21 @@ impl FlatTable {
         self.kinds.copy_from_slice(&kinds.kinds);
         self.complete();
         Ok(())
+    }
+
+    /// Fills the table with the values of Unicode 15.0.0 (UAX #14, section 6). It reads no file, allocates nothing, and
+    /// does not fail.
+    #[tactic(auto, unfolding(crate::specs::FlatTable::digest_of))]
+    pub fn fill_unicode(&mut self)
+        ensures table { IsFlatOf self.new unicode_cell }
+        ensures whole { IsWhole self.new }
+        ensures kinds { AreKindsAlone self.new unicode_cell }
+        ensures neighbours { AreNeighboursOf self.new.kinds self.new.pairs }
+    {
+        fill_kinds(&mut self.kinds);
+        self.pairs = UNICODE_NEIGHBOURS;
+        self.layout = LAYOUT;
+        self.digest = UNICODE_DIGEST;
     }
 
     /// Makes it the whole table of the kinds that it has, whatever else it had, and returns whether they are kinds. If

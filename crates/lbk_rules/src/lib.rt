@@ -1,3 +1,4 @@
+//! The interface to the rules of line breaking: Unicode Standard Annex #14, Unicode 15.0, and to what applies them.
 //!
 //! A text is a list of [`Cell`]s, one for each scalar, from a [`CellSource`]. [`decide`] returns, for a position in it,
 //! whether the line may break, must break or must not, and the rule that decided; [`Machine`] and [`LateMachine`] do so
@@ -24,6 +25,9 @@ mod runs;
 mod source;
 mod stepper;
 mod steps;
+mod unicode;
+mod unicode_kinds;
+mod unicode_runs;
 mod walk;
 
 // Cells, and the sources of them.
@@ -31,6 +35,7 @@ pub use class_labels::class_label;
 pub use lbk_uax14::{Cell, Class, Quote, resolve};
 pub use pages::CellPages;
 pub use source::{CellSource, FOUR_PLANES};
+pub use unicode::UnicodeCells;
 
 // Positions decided, at once or cell by cell.
 pub use after_breaks::verdicts_after_a_break;

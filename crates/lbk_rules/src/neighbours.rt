@@ -45,12 +45,12 @@ const CLASS_OF_KIND: [u8; KINDS] = [
 /// The set of each class on the left of two neighbours. The first thing is that by which a byte is special after each
 /// other, the second that by which it is after some, and the others are rectangles that cover the breaks: all of some
 /// classes after all of some others.
-const LEFT: [u8; 16] = [
+pub(crate) const LEFT: [u8; 16] = [
     0, 1, 181, 253, 245, 181, 3, 1, 17, 3, 131, 145, 149, 149, 1, 163,
 ];
 
 /// The set of each class on the right of two neighbours.
-const RIGHT: [u8; 16] = [1, 0, 72, 8, 10, 8, 72, 108, 92, 236, 8, 8, 72, 8, 104, 8];
+pub(crate) const RIGHT: [u8; 16] = [1, 0, 72, 8, 10, 8, 72, 108, 92, 236, 8, 8, 72, 8, 104, 8];
 
 /// What is known of bytes that stand side by side.
 #[repr(C)]

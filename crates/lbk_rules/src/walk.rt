@@ -43,7 +43,7 @@ impl<'a, C: CellRuns, const MOST: usize> Walk<'a, C, MOST> {
         let run = source.cell_run(0, Places::START);
         kinds.fill_to(MOST.min(run.last as usize + 1), run.cell)?;
         let mut first_bytes = FirstBytes::of_none();
-        first_bytes.add(0, &run);
+        first_bytes.add(0, run.last, run.cell);
         Ok(Walk {
             source,
             first: 0,
@@ -80,7 +80,7 @@ impl<'a, C: CellRuns, const MOST: usize> CellWalk for Walk<'a, C, MOST> {
         let run = self.source.cell_run(first, self.run.places);
         let end = MOST.min(run.last as usize + 1);
         self.kinds.fill_to(end, run.cell)?;
-        self.first_bytes.add(first, &run);
+        self.first_bytes.add(first, run.last, run.cell);
         self.first = first;
         self.run = run;
         Ok(())
