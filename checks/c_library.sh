@@ -4,11 +4,11 @@
 #
 #     scripts/check c-library -- TEXT..
 #
-# The examples have to write the segments that `lbk segment` writes, in both profiles, over the published files of
-# Unicode 15.0 (on Debian the package unicode-data, elsewhere the folder that UNICODE_DATA names) and each TEXT. Where
-# these files are not there, they go by those of the stored runs. It needs cc, python3, binutils and pkg-config. gcc,
-# clang, g++, clang++, cmake, rustc and cargo (and another cargo in /usr/bin) are used where they are; what was not
-# there is said.
+# The examples have to write the segments that `lbk segment` writes, in both profiles, of short texts, of each TEXT, and of
+# the published files of Unicode 15.0 (on Debian the package unicode-data, elsewhere the folder that UNICODE_DATA
+# names), which they also compare with the built-in table. It needs cc, python3, binutils and pkg-config. gcc, clang,
+# g++, clang++, cmake, rustc and cargo (and another cargo in /usr/bin) are used where they are; what was not there is
+# said.
 set -u
 top=$(cd "$(dirname "${BASH_SOURCE[0]}")/.." && pwd)
 ucd=${UNICODE_DATA:-/usr/share/unicode}
@@ -65,16 +65,24 @@ folder=$(pkg-config --variable=libdir lbk)
 read -ra flags <<< "$(pkg-config --cflags lbk)"
 read -ra links <<< "$(pkg-config --libs lbk)"
 
-# The four property files, and texts that `lbk segment` takes.
+# Four property files, those of the stored runs where the published ones are not there, and texts that `lbk segment`
+# takes.
 oracle=()
 names=(LineBreak.txt EastAsianWidth.txt extracted/DerivedGeneralCategory.txt emoji/emoji-data.txt)
 texts=()
 published=
+test_lines=
 if [ -r "$ucd/LineBreak.txt" ] && head -n 1 "$ucd/LineBreak.txt" | grep -q 'LineBreak-15.0.0'; then
     published=yes
     files=("${names[@]/#/$ucd/}")
     export LBK_DATABASE=$ucd
-    texts=("$ucd/NamesList.txt" "$ucd/LineBreak.txt" "$ucd/auxiliary/LineBreakTest.txt" "$ucd/emoji/emoji-data.txt")
+    for name in NamesList.txt LineBreak.txt auxiliary/LineBreakTest.txt emoji/emoji-data.txt; do
+        if [ -r "$ucd/$name" ]; then texts+=("$ucd/$name"); else left_out "$name as a text: it is not in $ucd"; fi
+    done
+fi
+if [ -n "$published" ] && [ -r "$ucd/auxiliary/LineBreakTest.txt" ] && [ -r "$ucd/auxiliary/WordBreakProperty.txt" ] \
+    && [ -r "$ucd/auxiliary/WordBreakTest.txt" ]; then
+    test_lines=$here/test-lines
     # The lines of the published test as text: each line's scalars, and a line feed.
     python3 - "$ucd/auxiliary/LineBreakTest.txt" > "$here/test-lines" << 'PYTHON'
 import sys
@@ -83,7 +91,7 @@ for line in open(sys.argv[1], encoding="utf-8"):
     codes = [word for word in line.partition("#")[0].split() if word not in "×÷"]
     sys.stdout.buffer.write(("".join(chr(int(code, 16)) for code in codes) + "\n").encode("utf-8", "replace"))
 PYTHON
-    texts+=("$here/test-lines")
+    texts+=("$test_lines")
     oracle=(random published scalars)
     "$top/checks/word_oracle.py" "$ucd" random 40000 1 "$here/random" > "$here/random-words" \
         || report 'word_oracle, random bytes' "status $?"
@@ -91,8 +99,10 @@ PYTHON
         || report 'word_oracle, the published test' "status $?"
     "$top/checks/word_oracle.py" "$ucd" scalars "$here/scalars" > "$here/scalars-words" \
         || report 'word_oracle, each scalar' "status $?"
+elif [ -n "$published" ]; then
+    left_out "the published tests of breaks and words, which are not in $ucd/auxiliary: Debian's package unicode-data"
 else
-    left_out "the published files of Unicode 15.0, which are in the package unicode-data; the stored runs' files are taken"
+    left_out "the published files of Unicode 15.0, as texts and to compare with: Debian's package unicode-data"
     files=("${names[@]##*/}")
     files=("${files[@]/#/$top/crates/lbk/data/}")
 fi
@@ -101,10 +111,8 @@ printf 'ab, (cd) \xe2\x80\x98ef\xe2\x80\x99\r\n\xe4\xb8\x80\xe4\xb8\x80 1,5 %%\n
 texts+=("$here/few" "$here/nothing" "$@")
 for profile in 1 2; do
     for number in "${!texts[@]}"; do
-        "$top/crates/lbk/out/lbk" segment --line-break "${files[0]}" --east-asian "${files[1]}" \
-            --category "${files[2]}" --emoji "${files[3]}" \
-            --limit 16777216 --profile $profile < "${texts[number]}" > "$here/all" \
-                || report "lbk segment of ${texts[number]}" "status $?"
+        "$top/crates/lbk/out/lbk" segment --unicode 15.0 --limit 16777216 --profile $profile \
+            < "${texts[number]}" > "$here/all" || report "lbk segment of ${texts[number]}" "status $?"
         sed -n '/^S /p' "$here/all" > "$here/wanted-$profile-$number"
         sed -n '/^W /p' "$here/all" > "$here/words-$number"
     done
@@ -133,7 +141,7 @@ compare() {
     shift
     for profile in 1 2; do
         for number in "${!texts[@]}"; do
-            if ! "$@" "${files[@]}" $profile < "${texts[number]}" > "$here/out" 2> "$here/log" \
+            if ! "$@" $profile < "${texts[number]}" > "$here/out" 2> "$here/log" \
                 || ! cmp -s "$here/out" "$here/wanted-$profile-$number"; then
                 wrong="profile $profile of ${texts[number]}: $(diff "$here/wanted-$profile-$number" "$here/out" | sed -n 2p)"
             fi
@@ -148,7 +156,7 @@ compare() {
 try_words() {
     local what=$1 program=$2 wrong='' number room
     if [ ${#oracle[@]} = 0 ]; then
-        left_out "$what: the words of texts, which go by the published files"
+        left_out "$what: the words of texts, which go by the published files (Debian's package unicode-data)"
         return
     fi
     for number in "${!texts[@]}"; do
@@ -213,22 +221,22 @@ try_c() {
     done
     compare "$1: breaks.c" "$here/built/breaks-$1"
     python3 -c 'import array, sys; sys.stdout.buffer.write(array.array("H", [97, 98, 32, 0xD83D, 0xDE00, 32, 99, 10, 100]))' \
-        | "$here/built/utf16-$1" "${files[@]}" > "$here/out" 2> "$here/log"
+        | "$here/built/utf16-$1" > "$here/out" 2> "$here/log"
     wrong=$(cut -d ' ' -f 1 "$here/out" | tr '\n' ' ')
     report "$1: utf16.c" "$([ "$wrong" = '3 6 8 9 ' ] && echo yes || echo "it wrote $wrong")"
     try_words "$1: words.c" "$here/built/words-$1"
     count "$1: edges.c" "$here/built/edges-$1"
     count "$1: fuzz.c" "$here/built/fuzz-$1" 5000 1 "${files[@]}"
-    count "$1: streams.c" "$here/built/streams-$1" 20000 1 "${files[@]}"
-    count "$1: streams_utf16.c" "$here/built/streams_utf16-$1" 20000 1 "${files[@]}"
+    count "$1: streams.c" "$here/built/streams-$1" 20000 1
+    count "$1: streams_utf16.c" "$here/built/streams_utf16-$1" 20000 1
     count "$1: blocks.c" "$here/built/blocks-$1" 20000 1
-    count "$1: cuts.c" "$here/built/cuts-$1" 5000 1 "${files[@]}"
-    count "$1: units.c" "$here/built/units-$1" 20000 1 "${files[@]}" ${published:+"$here/test-lines"}
-    count "$1: marks.c" "$here/built/marks-$1" 20000 1 "${files[@]}" "${texts[@]}"
-    count "$1: chunks.c" "$here/built/chunks-$1" 100000 1 "${files[@]}" "${texts[@]}"
+    count "$1: cuts.c" "$here/built/cuts-$1" 5000 1
+    count "$1: units.c" "$here/built/units-$1" 20000 1 ${test_lines:+"$test_lines"}
+    count "$1: marks.c" "$here/built/marks-$1" 20000 1 "${texts[@]}"
+    count "$1: chunks.c" "$here/built/chunks-$1" 100000 1 "${texts[@]}"
     if [ -n "$published" ]; then count "$1: published.c" "$here/built/published-$1" "${files[@]}"; fi
     count "$1: refused.c, each allocation refused" "$here/built/refused-$1" "${files[@]}"
-    count "$1: threads.c" "$here/built/threads-$1" "${files[@]}"
+    count "$1: threads.c" "$here/built/threads-$1"
 }
 
 # refuses COMPILER RANGE: the header has to refuse a range over a temporary, in a program that compiles with another.
@@ -267,7 +275,7 @@ try_cpp() {
             # shellcheck disable=SC2086
             tried "$1: edges.cpp in $version $without" "$1" -std=$version $without "${warnings[@]}" "${checks[@]}" \
                 "${flags[@]}" \
-                "$top/examples/edges.cpp" "${links[@]}" -o "$here/built/edges-cpp-$1" \
+                "$top/examples/edges.cpp" "${links[@]}" -pthread -o "$here/built/edges-cpp-$1" \
                 && count "$1: edges.cpp in $version $without, run" "$here/built/edges-cpp-$1" "$here/edges" \
                     ${LBK_DATABASE:+"$LBK_DATABASE"}
             # shellcheck disable=SC2086
@@ -283,7 +291,9 @@ try_cpp() {
             compare "$1: $name.cpp in $version" "$here/built/$name-cpp-$1"
         done
     done
-    for temporary in 'lbk::breaks(lbk::table::load("/"), "a b")' 'lbk::breaks(std::move(table), "a b")' \
+    for temporary in 'lbk::breaks(static_cast<const std::string>("a b"))' \
+        'lbk::chunks(static_cast<const std::string>("a b"))' \
+        'lbk::breaks(lbk::table::load("/"), "a b")' 'lbk::breaks(std::move(table), "a b")' \
         'lbk::breaks(lbk_table(), "a b")' 'lbk::breaks(table, std::string("a b"))' \
         'lbk::breaks(table, static_cast<const std::string>("a b"))' \
         'lbk::segments(table, static_cast<const std::string>("a b"))' \
@@ -315,74 +325,41 @@ tried 'cc: breaks.c with liblbk.a' cc -std=c99 "${warnings[@]}" "${flags[@]}" "$
     "$prefix/lib/liblbk.a" \
     -o "$here/built/breaks-static"
 compare 'cc: breaks.c with liblbk.a' env -u LD_LIBRARY_PATH "$here/built/breaks-static"
-count 'cc: streams.c, a million random cuttings' "$here/built/streams-cc" 1000000 2 "${files[@]}"
+count 'cc: streams.c, a million random cuttings' "$here/built/streams-cc" 1000000 2
 count 'cc: blocks.c, a million random texts in blocks of words' "$here/built/blocks-cc" 1000000 2
 tried 'cc: units.c with no checkers' cc -std=c99 "${warnings[@]}" "${flags[@]}" "$top/examples/units.c" "${links[@]}" \
     -o "$here/built/units-quick"
-count 'cc: units.c, a million random texts in UTF-16 and UTF-32' "$here/built/units-quick" 1000000 2 "${files[@]}" \
-    ${published:+"$here/test-lines"}
+count 'cc: units.c, a million random texts in UTF-16 and UTF-32' "$here/built/units-quick" 1000000 2 \
+    ${test_lines:+"$test_lines"}
 
-# A table that one process saved is mapped by others.
+# A table of files that one process saved is mapped by others; for the published files it is the built-in one.
 table=$here/table
 tried 'save_table.c: a table is saved' "$here/built/save_table-cc" "$table" "${files[@]}"
 wrong=''
 for number in "${!texts[@]}"; do
     wanted="$(wc -l < "$here/wanted-1-$number") breaks"
     wrote=$("$here/built/save_table-cc" "$table" < "${texts[number]}")
-    [ "$wrote" = "$wanted" ] || wrong="it wrote $wrote and not $wanted for ${texts[number]}"
+    [ -z "$published" ] || [ "$wrote" = "$wanted" ] || wrong="it wrote $wrote and not $wanted for ${texts[number]}"
+    [[ $wrote = *' breaks' ]] || wrong="it wrote $wrote for ${texts[number]}"
 done
-report 'save_table.c: a mapped table gives as many breaks' "${wrong:-yes}"
-
-# libunibreak's calls, by a table and a folder that are whole, and then by those that are not.
-# try_no_table WHAT TABLE LINE: without a table each mark has to say so, and the line to name the file and what to do.
-try_no_table() {
-    local made=
-    [ -e "$2" ] || { : > "$2" && made=yes; }
-    tried "packages/unibreak: build for $1" "$top/packages/unibreak/build" "$2" "$here/without"
-    [ -z "$made" ] || rm "$2"
-    count "packages/unibreak: $1" env LD_LIBRARY_PATH="$here/without/lib" "$here/built/unibreak" no-table
-    report "packages/unibreak: $1 is named once" \
-        "$([ "$(grep '^linebreak: ' "$here/log")" = "linebreak: $3" ] && echo yes || cat "$here/log")"
-}
-unibreak=()
-if [ -n "$published" ] && tried 'packages/unibreak: build' "$top/packages/unibreak/build" "$table" "$here/unibreak" \
-    && tried 'packages/unibreak: test.c' cc -std=c99 "${warnings[@]}" \
-        -I"$here/unibreak/include" "$top/packages/unibreak/test.c" \
-        -L"$here/unibreak/lib" -llbk-unibreak -o "$here/built/unibreak"; then
-    unibreak=(env LD_LIBRARY_PATH="$here/unibreak/lib" "$here/built/unibreak")
-    count 'packages/unibreak: test.c, run' "${unibreak[@]}"
-    tried 'packages/unibreak: build for a folder' "$top/packages/unibreak/build" "$ucd" "$here/unibreak-folder"
-    count 'packages/unibreak: test.c with a folder' env LD_LIBRARY_PATH="$here/unibreak-folder/lib" \
-        "$here/built/unibreak"
-fi
+report 'save_table.c: a mapped table gives breaks' "${wrong:-yes}"
 printf 'x' | dd of="$table" bs=1 seek=100000 conv=notrunc status=none
 "$here/built/save_table-cc" "$table" < "$here/few" > "$here/log" 2>&1
 status=$?
 report 'save_table.c: a table that is not whole is refused' "$([ $status = 1 ] && echo yes || echo "status $status")"
-if [ ${#unibreak[@]} != 0 ]; then
-    remedy='install the files of Unicode 15.0 (Debian: unicode-data)'
-    try_no_table 'a table that is not whole' "$table" \
-        "$table: it is not an intact table: write it with examples/save_table.c of lbk $(pkg-config --modversion lbk)"
-    try_no_table 'no table' "$here/none" \
-        "$here/none: No such file or directory: put the table there that this library was built for"
-    mkdir "$here/files"
-    cp -s "${names[@]/#/$ucd/}" "$here/files"
-    tried 'packages/unibreak: build for four files' "$top/packages/unibreak/build" "$here/files" "$here/unibreak-files"
-    count 'packages/unibreak: test.c with four files' env LD_LIBRARY_PATH="$here/unibreak-files/lib" \
-        "$here/built/unibreak"
-    mkdir "$here/files/extracted"
-    rm "$here/files/DerivedGeneralCategory.txt"
-    try_no_table 'a folder that lacks a file' "$here/files" \
-        "$here/files/extracted/DerivedGeneralCategory.txt: No such file or directory: $remedy"
-    head -n 100 "$ucd/extracted/DerivedGeneralCategory.txt" > "$here/files/extracted/DerivedGeneralCategory.txt"
-    try_no_table 'a folder with a part of a file' "$here/files" \
-        "$here/files/extracted/DerivedGeneralCategory.txt: the file is not the one that Unicode 15.0.0 published: $remedy"
+
+# libunibreak's calls
+if tried 'packages/unibreak: build' "$top/packages/unibreak/build" "$here/unibreak" \
+    && tried 'packages/unibreak: test.c' cc -std=c99 "${warnings[@]}" \
+        -I"$here/unibreak/include" "$top/packages/unibreak/test.c" \
+        -L"$here/unibreak/lib" -llbk-unibreak -o "$here/built/unibreak"; then
+    count 'packages/unibreak: test.c, run' env LD_LIBRARY_PATH="$here/unibreak/lib" "$here/built/unibreak"
 fi
 
 # CMake
 if has cmake; then
     mkdir "$here/cmake"
-    printf 'cmake_minimum_required(VERSION 3.10)\nproject(tried C)\nfind_package(lbk 0.1 REQUIRED)\n' > \
+    printf 'cmake_minimum_required(VERSION 3.10)\nproject(tried C)\nfind_package(lbk 0.2 REQUIRED)\n' > \
         "$here/cmake/CMakeLists.txt"
     for way in lbk static; do
         printf 'add_executable(breaks-%s "%s")\ntarget_link_libraries(breaks-%s lbk::%s)\n' $way \
@@ -398,7 +375,7 @@ if has cmake; then
     if has c++; then
         mkdir "$here/cmake-cpp"
         printf '%s\n' 'cmake_minimum_required(VERSION 3.10)' 'project(tried C CXX)' 'set(CMAKE_CXX_STANDARD 14)' \
-            'find_package(lbk 0.1 REQUIRED)' "add_executable(breaks \"$top/examples/breaks.cpp\")" \
+            'find_package(lbk 0.2 REQUIRED)' "add_executable(breaks \"$top/examples/breaks.cpp\")" \
             'target_link_libraries(breaks lbk::lbk)' > "$here/cmake-cpp/CMakeLists.txt"
         tried 'CMake: find_package in C++14' env -u LD_LIBRARY_PATH cmake -S "$here/cmake-cpp" \
             -B "$here/cmake-cpp/built" -DCMAKE_PREFIX_PATH="$prefix" \
@@ -409,49 +386,43 @@ else
     left_out 'cmake is not there'
 fi
 
-# try_cargo CARGO: the tests and examples of the crate, linked statically, as it does by itself, and to liblbk.so.
+# try_cargo CARGO: the tests and examples of the crate over this library, linked statically, as it does by itself, and to
+# liblbk.so.
 try_cargo() {
-    local way linked name skipped=() crate=(env -C "$top/packages/rust")
-    [ -n "${LBK_DATABASE:-}" ] || skipped=(--skip the_published_files_have_a_table)
+    local way linked name skipped=() crate=(env -C "$top/packages/rust") features=(--features proved,tables)
+    [ -n "${LBK_DATABASE:-}" ] || skipped=(--skip all_characters_have_the_class_of_the_file)
     export CARGO_TARGET_DIR=$here/cargo$1
     for way in static shared; do
         linked=(env -u LD_LIBRARY_PATH)
         [ $way = static ] || linked=(env LBK_SHARED=1)
-        tried "$1: test, $way" "${crate[@]}" "${linked[@]}" "$1" test --offline --locked -- \
-            --include-ignored "${skipped[@]}"
+        tried "$1: test, $way" "${crate[@]}" "${linked[@]}" "$1" test --offline --locked "${features[@]}"
         tried "$1: the examples, $way" "${crate[@]}" "${linked[@]}" "$1" build --offline --locked --release --lib \
-            --examples
+            --examples "${features[@]}"
         for name in breaks parts; do
             compare "$1: $name.rs, $way" "${linked[@]}" "$CARGO_TARGET_DIR/release/examples/$name"
         done
     done
-    tried "$1: build without std" "${crate[@]}" "$1" build --offline --locked --no-default-features
-    if [ -n "${LBK_DATABASE:-}" ]; then
-        tried "$1: embedded" env -C "$top/examples/embedded" UNICODE_DATA="$LBK_DATABASE" "$1" build --offline --locked
-        printf 'ab cd\nef' | env -u LD_LIBRARY_PATH "$CARGO_TARGET_DIR/debug/embedded" > "$here/out" 2> "$here/log"
-        printf '"ab " May 18\n"cd\\n" Must 5\n"ef" Must 3\n' > "$here/wanted"
-        tried "$1: embedded, run" diff "$here/wanted" "$here/out"
-        tried "$1: packages/linebreak" env -C "$top/packages/linebreak" \
-            -u LD_LIBRARY_PATH UNICODE_DATA="$LBK_DATABASE" "$1" test --offline --locked
-    fi
+    tried "$1: packages/linebreak" env -C "$top/packages/linebreak" -u LD_LIBRARY_PATH "$1" test --offline --locked \
+        --features proved -- --include-ignored "${skipped[@]}"
 }
 
 # Rust
-printf '#include <lbk.h>\n#include <stdio.h>\nint main(void) { printf("%%zu", sizeof(lbk_table)); return 0; }\n' > \
-    "$here/size.c"
-tried 'sizeof(lbk_table)' cc "${flags[@]}" "$here/size.c" -o "$here/size" && LBK_TABLE_SIZE=$("$here/size")
-export LBK_TABLE_SIZE
 rlib=$here/liblbk.rlib
 if has cargo; then
     try_cargo cargo
     rlib=$CARGO_TARGET_DIR/release/liblbk.rlib
     if [ -x /usr/bin/cargo ] && [ "$(readlink -f "$(cat "$here/found")")" != /usr/bin/cargo ]; then
         # (it calls the rustc that the path has first)
-        PATH=/usr/bin:$PATH try_cargo /usr/bin/cargo
+        if printf '%s\n' 1.70 "$(/usr/bin/rustc --version | cut -d ' ' -f 2)" | sort -VC; then
+            PATH=/usr/bin:$PATH try_cargo /usr/bin/cargo
+        else
+            left_out 'the rustc in /usr/bin is older than 1.70, which the Rust crate needs with the feature proved'
+        fi
     fi
 elif has rustc; then
     left_out 'cargo is not there, so the tests of the Rust crate'
-    tried 'rustc: the crate' rustc --edition 2021 --crate-type rlib --crate-name lbk --cfg 'feature="std"' -O \
+    tried 'rustc: the crate' rustc --edition 2021 --crate-type rlib --crate-name lbk --cfg 'feature="std"' \
+        --cfg 'feature="proved"' --cfg 'feature="tables"' -O \
         -L "$folder" -l static=lbk "$top/packages/rust/src/lib.rs" -o "$here/liblbk.rlib"
     tried 'rustc: breaks.rs' rustc --edition 2021 -O "$top/examples/breaks.rs" --extern "lbk=$here/liblbk.rlib" \
         -L "$folder" \
@@ -461,35 +432,17 @@ else
     left_out 'rustc is not there'
 fi
 
-# The programs of README.md, docs/c.md and docs/coming-from.md, each in a block after its name, and in the next block
-# what it prints. A block without a name is a part of one of these.
+# The programs of README.md and of the pages, each with what it prints (checks/page_programs.py). They run without files
+# of Unicode.
 try_page() {
-    local name build run
-    if [ -z "${LBK_DATABASE:-}" ]; then
-        left_out 'texts.py, embedded, packages/linebreak and the programs of the pages, which take the published files'
-        return
+    local name build run bare=("$top/scripts/without-unicode-data")
+    if ! "${bare[@]}" true 2> "$here/log"; then
+        left_out 'the programs of the pages without files of Unicode, for which unshare of util-linux makes no namespace here'
+        bare=()
     fi
     mkdir "$here/page"
-    python3 - "$here/page" "$LBK_DATABASE" "$top/README.md" "$top"/docs/{c,coming-from}.md > "$here/programs" << 'PYTHON'
-import re
-import sys
-
-folder, unicode, *pages = sys.argv[1:]
-text = "\n".join(open(page, encoding="utf-8").read() for page in pages)
-# (a name, a program and what it prints)
-shown = re.findall(r"`(\w+\.\w+)`[^`]*\n```(?:c|cpp|rs|py)\n(.*?)```\n\n```text\n(.*?)```\n", text, re.S)
-for name, program, output in shown:
-    with open(f"{folder}/{name}", "w", encoding="utf-8") as file:
-        file.write(program.replace("/usr/share/unicode", unicode))
-    with open(f"{folder}/{name}.wanted", "w", encoding="utf-8") as file:
-        file.write(output)
-    print(name)
-if len(shown) != len({name for name, _, _ in shown}):
-    sys.exit("two programs have one name")
-for block in re.findall(r"^```(?:c|cpp|rs|py)\n(.*?)^```$", text, re.S | re.M):
-    if not any(block in program for _, program, _ in shown):
-        sys.exit("a block has no name, or nothing that it prints, and is no part of a program: " + block)
-PYTHON
+    "$top/checks/page_programs.py" "$here/page" "$top/README.md" \
+        "$top"/docs/{library,c,cpp,rust,python,coming-from}.md > "$here/programs"
     tried 'the pages: each program has a name and an output' [ $? = 0 ]
     while read -r name; do
         run=("./$name.out")
@@ -505,7 +458,7 @@ PYTHON
             left_out "the Python package is not there, so $name of the pages"
         else
             tried "the pages: $name is built" env -C "$here/page" "${build[@]}"
-            (cd "$here/page" && "${run[@]}") > "$here/out" 2>&1
+            (cd "$here/page" && "${bare[@]}" "${run[@]}") > "$here/out" 2>&1
             tried "the pages: $name prints what is shown" diff "$here/page/$name.wanted" "$here/out"
         fi
     done < "$here/programs"
@@ -536,8 +489,8 @@ if [ -e "${libraries[0]}" ] && [ -e "${libraries[1]}" ]; then
 else
     left_out 'the Python package with the checkers of cc, which it has not'
 fi
-if [ -n "${LBK_DATABASE:-}" ]; then tried 'texts.py' python3 "$top/examples/texts.py" "$LBK_DATABASE"; fi
+tried 'texts.py' python3 "$top/examples/texts.py"
 compare 'breaks.py' python3 "$top/examples/breaks.py"
-count 'engine.py' python3 "$top/examples/engine.py" "${files[@]}"
+count 'engine.py' python3 "$top/examples/engine.py"
 try_page
 end

@@ -124,7 +124,7 @@ def parameters(text):
 def calls(texts):
     """What the code exports: the type that each call returns, and those of its parameters."""
     return {
-        name: (header_type(returned), list(parameters(text)))
+        name: (header_type(returned) if returned else "void", list(parameters(text)))
         for source in texts
         for name, text, returned in CALL.findall(source)
     }

@@ -3,8 +3,7 @@
  * The library finds where a line of text may break and where it must, and says which rule decided.
  *
  *     static lbk_table table;                                  1.1 MB: not on a small stack
- *     lbk_fault fault = lbk_read(&table, line_break, line_break_size, ..);
- *     if (fault.cause != LBK_CAUSE_NONE) ..                    once, from four files of the Unicode Character Database
+ *     lbk_unicode(&table);                                     once: the properties of Unicode 15.0, built in
  *
  *     lbk_state state = {0};                                   the start of a text
  *     lbk_break block[64];
@@ -20,7 +19,7 @@
  *     It may be null if the length is 0. No length exceeds PTRDIFF_MAX bytes, as for every object of C.
  *   - Pointers to a table, a state, a stream and limits are not null. They are aligned for their types.
  *   - What a call writes overlaps nothing else that the call is given, and no other thread uses it during the call.
- *     A call writes its state or stream, and its block; lbk_read and lbk_read_published write the table.
+ *     A call writes its state or stream, and its block; those that fill a table write the table.
  *   - A stream has fewer than 2^64 units.
  *
  * Everything else is memory-safe: any bytes in the files, the text, the table, the state and the stream. Each call
@@ -49,11 +48,12 @@ extern "C" {
 /* The version of this header. Versions with the same major number have the same types and calls; while the major
  * number is 0, the minor number must be the same, too. The shared library's name (liblbk.so.0) has the major number. */
 #define LBK_VERSION_MAJOR 0
-#define LBK_VERSION_MINOR 1
+#define LBK_VERSION_MINOR 2
 #define LBK_VERSION_PATCH 0
-#define LBK_VERSION "0.1.0"
+#define LBK_VERSION "0.2.0"
 
-/* The version of Unicode that defines the rules. The files for lbk_read should be of the same version. */
+/* The version of Unicode that defines the rules and the properties of lbk_unicode. The files for lbk_read should be of
+ * the same version. */
 #define LBK_UNICODE_VERSION "15.0"
 
 /* The version of Unicode that lbk_words takes word boundaries, letters and numbers from. */
@@ -159,7 +159,7 @@ typedef struct lbk_neighbours {
     uint16_t rows[256];
 } lbk_neighbours;
 
-/* The properties of all code points: lbk_read fills it, and the other calls decide by it. It has no pointers, only
+/* The properties of all code points: lbk_unicode fills it, and the other calls decide by it. It has no pointers, only
  * numbers in the machine's byte order, so it can be copied, saved, mapped by other processes, and shared.
  *
  * Callers read only `layout`. The other fields differ between layouts.
@@ -168,7 +168,7 @@ typedef struct lbk_neighbours {
  * `pairs` may hide breaks from lbk_breaks and lbk_marks, make lbk_breaks decide as if other text came before, and make
  * lbk_marks set the bits of other offsets. The time stays linear in the size of the text in any case (measured). */
 typedef struct lbk_table {
-    uint64_t layout; /* LBK_LAYOUT in a table that lbk_read filled */
+    uint64_t layout; /* LBK_LAYOUT in a table that is filled */
     uint64_t digest; /* of all that follows, for lbk_check */
     lbk_neighbours pairs;
     uint8_t kinds[LBK_CODES];
@@ -296,8 +296,12 @@ typedef struct lbk_text {
     char text[96];
 } lbk_text;
 
-/* Fills a table from the contents of four files of the Unicode Character Database: LineBreak.txt, EastAsianWidth.txt,
- * DerivedGeneralCategory.txt and emoji-data.txt. Sizes are in bytes.
+/* Fills a table with the properties of LBK_UNICODE_VERSION, which are in the library. The table is, byte for byte, the
+ * one that lbk_read_published fills. The call takes about as long as writing 1.1 MB. Reads no file, allocates nothing. */
+void lbk_unicode(lbk_table *table);
+
+/* Fills a table from the contents of four files of your own, in the form of the Unicode Character Database:
+ * LineBreak.txt, EastAsianWidth.txt, DerivedGeneralCategory.txt and emoji-data.txt. Sizes are in bytes.
  *
  * Returns the first fault of the files. If the cause is LBK_CAUSE_NONE, the table is filled; otherwise it is
  * unchanged. The call takes some 10 ms, and some megabytes of the heap, for the files of Unicode 15.0.
@@ -338,13 +342,14 @@ lbk_text lbk_file_name(uint32_t file);
  * the loop.
  *
  * `text` is UTF-8. Pass the whole text to each call, not the rest of it: `state` says how far earlier calls went. Each
- * break is returned once. The last break of a text is its end, LBK_MUST by rule 3; an empty text has no break.
+ * break is returned once. The last break of a text is its end, LBK_MUST by rule 3; an empty text has no break. The
+ * breaks after a break are those of the text that begins there, moved by its offset: nothing before a break counts.
  *
  *   - Ill-formed bytes are replaced by U+FFFD, as Python's errors="replace" and Rust's from_utf8_lossy do it
  *     (Unicode Standard, section 3.9, "U+FFFD Substitution of Maximal Subparts"). Offsets count the bytes of `text`.
- *   - With LBK_GOES_ON the text goes on after the end of `text`. That end is a break only if a line must end there
- *     whatever follows (LBK_MUST by rule 4 or 5); after a CR it is none, since LF may follow. So the breaks of the
- *     parts that lbk_cut finds are those of the text.
+ *   - With LBK_GOES_ON the text goes on after the end of `text`. That end is a break only if a line must end there by
+ *     what is before it (LBK_MUST by rule 4 or 5). After a CR it is one too: do not cut between CR and LF. lbk_cut
+ *     does not, so the breaks of the parts that it finds are those of the text.
  *   - Returns 0 and leaves the state unchanged if `room` is 0, if the profile is unknown, if the state's `at`
  *     exceeds `size`, and after the end.
  *   - With a corrupt table or state, each break is still LBK_MAY or LBK_MUST by one of the rules, offsets still rise
@@ -602,7 +607,7 @@ lbk_class_label lbk_class(const lbk_table *table, uint32_t scalar);
 lbk_text lbk_version(void);
 
 /* Returns whether a table is intact: its layout is LBK_LAYOUT, and its digest (FNV-1a, 64 bits) is that of its other
- * bytes. It is true for every table that lbk_read of this version filled, and for every copy of one.
+ * bytes. It is true for every table that a call of this version filled, and for every copy of one.
  *
  * It always detects a change of one number. Several accidental changes go unnoticed with a probability of about 1 in
  * 2^64. It does not protect against deliberate changes. A corrupt table is safe to use, but gives wrong breaks. */

@@ -1,9 +1,11 @@
 // lbk.hpp: the breaks of a text as a range. C++17 and later, with exceptions or without (the calls named try_..); lbk.h
 // says what the library does, and lists the preconditions.
 //
-//     lbk::table table = lbk::table::load("/usr/share/unicode");
-//     for (lbk_break found : lbk::breaks(table, text))
+//     for (lbk_break found : lbk::breaks(text))
 //         .. found.at, found.kind, found.rule ..
+//
+// Each range and function decides by the properties of Unicode 15.0, which are in the library, or by a table that it is
+// given first: lbk::breaks(table, text).
 //
 // A kind and a rule are numbers of 8 bits, which std::cout takes for characters: write +found.kind (1 may, 2 must) and
 // lbk::label(found.rule).
@@ -25,7 +27,6 @@
 #include <cstring>
 #include <iterator>
 #include <memory>
-#include <mutex>
 #include <new>
 #include <optional>
 #include <stdexcept>
@@ -133,8 +134,6 @@ struct file_path {
         if (length < 0 || static_cast<std::size_t>(length) >= sizeof text)
             text[0] = 0;
     }
-
-    bool is_there() const noexcept { return ::access(text, F_OK) == 0; }
 };
 
 /// The bytes of a file.
@@ -181,24 +180,6 @@ private:
     }
 };
 
-/// The folders to look for the files in: the one that UNICODE_DATA names, or else those of the system (Debian's and
-/// Fedora's) and of the user.
-inline std::vector<std::string> folders()
-{
-    auto variable = [](const char *name) {
-        const char *value = std::getenv(name);
-        return std::string(value == nullptr ? "" : value);
-    };
-    std::string named = variable("UNICODE_DATA"), home = variable("HOME");
-    if (!named.empty())
-        return {named};
-    std::vector<std::string> all = {"/usr/share/unicode", "/usr/share/unicode/ucd"};
-    for (const std::string &users : {variable("XDG_DATA_HOME"), home.empty() ? home : home + "/.local/share"})
-        if (users[0] == '/' && all.back() != users + "/unicode")
-            all.push_back(users + "/unicode");
-    return all;
-}
-
 } // namespace detail
 
 /// Returns these bytes as a table, without a copy; null if they are not an intact table of this version, or not aligned
@@ -211,11 +192,21 @@ inline const lbk_table *table_in(std::string_view bytes) noexcept
     return lbk_check(made) ? made : nullptr;
 }
 
-/// A table on the heap or in a mapped file. It can be moved, not copied; any number of threads may call its const
-/// functions. Each way to make one throws std::bad_alloc or table_error; its form try_.. returns no value and sets an
-/// error instead.
+/// A table. It can be moved, not copied; any number of threads may call its const functions. Each other way to make one
+/// than unicode() throws std::bad_alloc or table_error; its form try_.. returns no value and sets an error instead.
 class table {
 public:
+    /// Returns the built-in table, of Unicode LBK_UNICODE_VERSION. A process has one, in static memory, which the first
+    /// call fills.
+    static const table &unicode() noexcept
+    {
+        static lbk_table filled;
+        // (never destroyed, so that threads may use it while the process ends)
+        alignas(table) static unsigned char room[sizeof(table)];
+        static const table &made = *new (room) table((lbk_unicode(&filled), &filled), kept);
+        return made;
+    }
+
     /// Makes a table of the bytes of any four files. If `is_strict`, it refuses a truncated file (LBK_CAUSE_CUT): its
     /// first line claims a name that Unicode published, such as `# LineBreak-15.0.0.txt`, and its last is not `# EOF`.
     static std::optional<table> try_read(std::string_view line_break, std::string_view east_asian,
@@ -228,23 +219,19 @@ public:
         return read_by(lbk_read, line_break, east_asian, category, emoji, why);
     }
 
-    /// Makes a table of a folder of the Unicode Character Database, such as "/usr/share/unicode": of its LineBreak.txt,
-    /// EastAsianWidth.txt, extracted/DerivedGeneralCategory.txt and emoji/emoji-data.txt. The last two may also be in
-    /// the folder itself, and all four in its folder ucd. (Unpack an archive UCD.zip first.) The files have to be those
-    /// that Unicode published for LBK_UNICODE_VERSION.
+    /// Makes a table of a folder of the Unicode Character Database: of its LineBreak.txt, EastAsianWidth.txt,
+    /// extracted/DerivedGeneralCategory.txt and emoji/emoji-data.txt. The last two may also be in the folder itself. The
+    /// files have to be those that Unicode published for LBK_UNICODE_VERSION.
     static std::optional<table> try_load(const std::string &folder, error &why) noexcept
     {
         static const char *const names[] = {"LineBreak.txt", "EastAsianWidth.txt", "DerivedGeneralCategory.txt",
             "emoji-data.txt"};
         static const char *const below[] = {"", "", "extracted/", "emoji/"};
-        const detail::file_path ucd(folder.c_str(), "ucd", "");
-        const bool is_below = !detail::file_path(folder.c_str(), "", names[0]).is_there() && ucd.is_there();
-        const char *root = is_below ? ucd.text : folder.c_str();
         detail::file_bytes files[4];
         for (std::uint32_t k = 0; k < 4; k++) {
-            int status = files[k].read({root, below[k], names[k]});
+            int status = files[k].read({folder.c_str(), below[k], names[k]});
             if (status == ENOENT)
-                status = files[k].read({root, "", names[k]});
+                status = files[k].read({folder.c_str(), "", names[k]});
             if (status == ENOMEM)
                 return none(why, error::reason::out_of_memory);
             if (status != 0)
@@ -256,31 +243,6 @@ public:
             why.claim = lbk_claim_text(why.fault.file, files[why.fault.file - 1].view().data(),
                 files[why.fault.file - 1].view().size());
         return made;
-    }
-
-    /// Returns the table of the folder that UNICODE_DATA names, or else of the first of these that has the files:
-    /// /usr/share/unicode, its ucd, and unicode in XDG_DATA_HOME and ~/.local/share. The files are read once per
-    /// process. If they are not found, returns null, and `why` says what to do, and why each folder was refused.
-    static const table *try_find(std::string &why)
-    {
-        static std::mutex alone;
-        static const table *found; // (never freed, so that threads may use it while the process ends)
-        const std::lock_guard<std::mutex> held(alone);
-        why.clear();
-        std::string refusals;
-        for (const std::string &folder : found != nullptr ? std::vector<std::string>() : detail::folders()) {
-            error refused;
-            if (std::optional<table> made = try_load(folder, refused))
-                return found = new table(std::move(*made));
-            refusals += "\n  " + folder + (refused.why == error::reason::out_of_memory ? ": " : "/")
-                + refused.message();
-        }
-        if (found == nullptr)
-            why = "found no files of Unicode " LBK_UNICODE_VERSION ".0; install the package unicode-data (Debian 12), "
-                  "unpack UCD.zip from https://www.unicode.org/Public/" LBK_UNICODE_VERSION ".0/ucd/ into "
-                  "~/.local/share/unicode, or set UNICODE_DATA to a "
-                  "folder that has them. Looked for:" + refusals;
-        return found;
     }
 
     /// Copies the bytes of a table, as bytes() returned them.
@@ -352,15 +314,6 @@ public:
         throw table_error(why, folder + '/', why.claim.text[0] != 0 ? std::string("; ") + lbk_remedy_text().text : "");
     }
 
-    /// As try_find, but throws a std::runtime_error if the files are not found.
-    static const table &find()
-    {
-        std::string why;
-        if (const table *found = try_find(why))
-            return *found;
-        throw std::runtime_error(why);
-    }
-
     static table copy(std::string_view bytes)
     {
         error why;
@@ -423,6 +376,7 @@ private:
         return held;
     }
 
+    static void kept(const lbk_table *) {}
     static void freed(const lbk_table *at) { delete at; }
     static void unmapped(const lbk_table *at) { ::munmap(const_cast<lbk_table *>(at), sizeof(lbk_table)); }
 
@@ -629,11 +583,25 @@ public:
     {
     }
 
+    /// By the built-in table.
+    explicit break_view(std::string_view text, profile rules = profile::first) noexcept
+        : break_view(table::unicode(), text, rules)
+    {
+    }
+
+    template <break_call Of = Next, typename = std::enable_if_t<Of == &lbk_breaks>>
+    break_view(std::string_view part, profile rules, follows after) noexcept
+        : break_view(table::unicode(), part, rules, after)
+    {
+    }
+
     /// A temporary would be destroyed before the range is used.
     break_view(const lbk_table &&, std::string_view, profile = profile::first, follows = follows::nothing) = delete;
     break_view(const table &&, std::string_view, profile = profile::first, follows = follows::nothing) = delete;
     template <typename Text, typename = if_temporary<Text>>
     break_view(const lbk_table &, Text &&, profile = profile::first, follows = follows::nothing) = delete;
+    template <typename Text, typename = if_temporary<Text>>
+    explicit break_view(Text &&, profile = profile::first, follows = follows::nothing) = delete;
 
     iterator begin() const noexcept { return iterator(start_); }
     iterator end() const noexcept { return iterator(); }
@@ -712,11 +680,19 @@ public:
     {
     }
 
+    /// By the built-in table.
+    explicit segments(std::string_view text, profile rules = profile::first) noexcept
+        : segments(table::unicode(), text, rules)
+    {
+    }
+
     /// A temporary would be destroyed before the range is used.
     segments(const lbk_table &&, std::string_view, profile = profile::first) = delete;
     segments(const table &&, std::string_view, profile = profile::first) = delete;
     template <typename Text, typename = detail::if_temporary<Text>>
     segments(const lbk_table &, Text &&, profile = profile::first) = delete;
+    template <typename Text, typename = detail::if_temporary<Text>>
+    explicit segments(Text &&, profile = profile::first) = delete;
 
     iterator begin() const noexcept { return iterator(text_, breaks_.begin()); }
     iterator end() const noexcept { return iterator(); }
@@ -737,6 +713,12 @@ inline std::vector<std::uint64_t> marks(const lbk_table &by, std::string_view te
     return words;
 }
 
+inline std::vector<std::uint64_t> marks(std::string_view text, profile rules = profile::first,
+                                        follows after = follows::nothing)
+{
+    return marks(table::unicode(), text, rules, after);
+}
+
 /// The first offset at or after `at` where a part of the text may begin: one with a required break, or the text's size
 /// if there is none. The parts have the breaks of the text: pass `follows::more` for each except the last, and add the
 /// number of bytes before the part to its offsets.
@@ -745,10 +727,17 @@ inline std::size_t cut(const lbk_table &by, std::string_view text, std::size_t a
     return lbk_cut(&by, text.data(), text.size(), at);
 }
 
+inline std::size_t cut(std::string_view text, std::size_t at) noexcept { return cut(table::unicode(), text, at); }
+
 /// The last such offset at or before `at`: no break after it depends on the bytes before it.
 inline std::size_t cut_before(const lbk_table &by, std::string_view text, std::size_t at) noexcept
 {
     return lbk_cut_before(&by, text.data(), text.size(), at);
+}
+
+inline std::size_t cut_before(std::string_view text, std::size_t at) noexcept
+{
+    return cut_before(table::unicode(), text, at);
 }
 
 /// An offset before the end of a text such that the breaks after it are those of the text that begins there
@@ -756,6 +745,11 @@ inline std::size_t cut_before(const lbk_table &by, std::string_view text, std::s
 inline std::size_t safe_break(const lbk_table &by, std::string_view text, profile rules = profile::first) noexcept
 {
     return lbk_safe_break(&by, static_cast<std::uint8_t>(rules), text.data(), text.size());
+}
+
+inline std::size_t safe_break(std::string_view text, profile rules = profile::first) noexcept
+{
+    return safe_break(table::unicode(), text, rules);
 }
 
 /// The words of a text in order, each as its start and end, as a multi-pass view. It needs no table.
@@ -888,11 +882,19 @@ public:
     {
     }
 
+    /// By the built-in table.
+    explicit passages(std::string_view text, profile rules = profile::first) noexcept
+        : passages(table::unicode(), text, rules)
+    {
+    }
+
     /// A temporary would be destroyed before the range is used.
     passages(const lbk_table &&, std::string_view, profile = profile::first) = delete;
     passages(const table &&, std::string_view, profile = profile::first) = delete;
     template <typename Text, typename = detail::if_temporary<Text>>
     passages(const lbk_table &, Text &&, profile = profile::first) = delete;
+    template <typename Text, typename = detail::if_temporary<Text>>
+    explicit passages(Text &&, profile = profile::first) = delete;
 
     iterator begin() const noexcept { return iterator(text_, segments_.begin()); }
     iterator end() const noexcept { return iterator(); }
@@ -908,11 +910,11 @@ struct limits {
     std::size_t words = 0;            ///< the most words; 0: any number
     /// a chunk may end early, at a required break, once this many of its bytes are in no earlier one; default: half of
     /// most
-    std::optional<std::size_t> least = std::nullopt;
+    std::size_t least = SIZE_MAX;
     std::size_t overlap = 0;
         ///< the next chunk repeats at most this many bytes of this one, and at most half of it
 
-    lbk_limits get() const noexcept { return {most, words, least.value_or(most / 2), overlap}; }
+    lbk_limits get() const noexcept { return {most, words, least == SIZE_MAX ? most / 2 : least, overlap}; }
 
     /// Says which limit is out of range, in English; empty if none is.
     std::string wrong() const
@@ -978,11 +980,19 @@ public:
         start_.state.breaks.profile = static_cast<std::uint8_t>(rules);
     }
 
+    /// By the built-in table.
+    explicit chunks(std::string_view text, const limits &within = {}, profile rules = profile::first)
+        : chunks(table::unicode(), text, within, rules)
+    {
+    }
+
     /// A temporary would be destroyed before the range is used.
     chunks(const lbk_table &&, std::string_view, const limits & = {}, profile = profile::first) = delete;
     chunks(const table &&, std::string_view, const limits & = {}, profile = profile::first) = delete;
     template <typename Text, typename = detail::if_temporary<Text>>
     chunks(const lbk_table &, Text &&, const limits & = {}, profile = profile::first) = delete;
+    template <typename Text, typename = detail::if_temporary<Text>>
+    explicit chunks(Text &&, const limits & = {}, profile = profile::first) = delete;
 
     iterator begin() const noexcept { return iterator(start_); }
     iterator end() const noexcept { return iterator(); }
@@ -1003,6 +1013,9 @@ public:
     {
         state_.profile = static_cast<std::uint8_t>(rules);
     }
+
+    /// By the built-in table.
+    explicit unit_stream(profile rules = profile::first) noexcept : unit_stream(table::unicode(), rules) {}
 
     explicit unit_stream(const lbk_table &&, profile = profile::first) = delete;
     explicit unit_stream(const table &&, profile = profile::first) = delete;
@@ -1060,6 +1073,8 @@ inline std::string rule_text(std::uint8_t rule) { return lbk_rule_text(rule).tex
 /// The name of a scalar's line breaking class as rule LB1 resolves it, such as "AL"; empty for what is no scalar.
 inline std::string class_of(const lbk_table &by, char32_t scalar) { return lbk_class(&by, scalar).text; }
 
+inline std::string class_of(char32_t scalar) { return class_of(table::unicode(), scalar); }
+
 namespace detail {
 
 /// A break_view of UTF-16 or UTF-32. Offsets count units; a Number is a unit's type in C.
@@ -1107,11 +1122,19 @@ public:
     {
     }
 
+    /// By the built-in table.
+    explicit unit_view(std::basic_string_view<Unit> text, profile rules = profile::first) noexcept
+        : unit_view(table::unicode(), text, rules)
+    {
+    }
+
     /// A temporary would be destroyed before the range is used.
     unit_view(const lbk_table &&, std::basic_string_view<Unit>, profile = profile::first) = delete;
     unit_view(const table &&, std::basic_string_view<Unit>, profile = profile::first) = delete;
     template <typename Text, typename = if_temporary<Text>>
     unit_view(const lbk_table &, Text &&, profile = profile::first) = delete;
+    template <typename Text, typename = if_temporary<Text>>
+    explicit unit_view(Text &&, profile = profile::first) = delete;
 
     iterator begin() const noexcept { return iterator(start_); }
     iterator end() const noexcept { return iterator(); }

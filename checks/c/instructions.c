@@ -2,7 +2,7 @@
  *
  *     instructions CALL SIZE LINE_BREAK EAST_ASIAN CATEGORY EMOJI
  *
- * CALL is lbk_read or lbk_read_published; or lbk_cut or lbk_cut_before, of a text of SIZE bytes near its start or
+ * CALL is lbk_unicode, lbk_read or lbk_read_published; or lbk_cut or lbk_cut_before, of a text of SIZE bytes near its start or
  * near its end.
  */
 #include "../../examples/example.h"
@@ -54,6 +54,10 @@ int main(int count, char **word)
     if (count != 7) {
         fprintf(stderr, "usage: instructions CALL SIZE LINE_BREAK EAST_ASIAN CATEGORY EMOJI\n");
         return 2;
+    }
+    if (strcmp(word[1], "lbk_unicode") == 0) {
+        lbk_unicode(&table);
+        return table.layout != LBK_LAYOUT;
     }
     if (strncmp(word[1], "lbk_read", 8) == 0)
         return read_once(word[1], word + 3);

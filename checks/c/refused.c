@@ -149,6 +149,8 @@ static void try_others(void)
     static lbk_table other;
     size_t packed_size = lbk_pack(&table, packed, sizeof packed);
     uint32_t unpacked = lbk_unpack(&other, packed, packed_size);
+    static lbk_table built_in;
+    lbk_unicode(&built_in);
     lbk_text says = lbk_rule_text(block[0].rule);
     bool is_cut = lbk_is_cut("# LineBreak-", 12);
     lbk_text claim = lbk_claim_text(LBK_LINE_BREAK, "# LineBreak-", 12), remedy = lbk_remedy_text();
@@ -160,7 +162,7 @@ static void try_others(void)
          count == 4 && cut_into == 4 && claim.text[0] != 0 && remedy.text[0] != 0 && fed.count == 4 && positions == 4
              && in_units == 2 && in_scalars == 2 && at_units == 4 && at_scalars == 4 && places == size + 1
              && of_text == 4 && pieces == 1 && cut == 6 && cut_before == 6 && safe >= cut_before
-             && packed_size > 0 && unpacked == LBK_CAUSE_NONE && says.text[0] != 0 && is_cut
+             && packed_size > 0 && unpacked == LBK_CAUSE_NONE && built_in.layout == LBK_LAYOUT && says.text[0] != 0 && is_cut
              && label.text[0] != 0 && class.text[0] != 0 && cause.text[0] != 0 && file.text[0] != 0
              && version.text[0] != 0 && whole);
 }

@@ -73,6 +73,14 @@ static void *do_names(void *none)
     return none;
 }
 
+static void *do_unicode(void *none)
+{
+    static lbk_table other;
+    lbk_unicode(&other);
+    total = lbk_check(&other) ? 1 : 0;
+    return none;
+}
+
 static void *do_check(void *none)
 {
     total = lbk_check(&table) ? 1 : 0;
@@ -330,6 +338,8 @@ int main(int count, char **word)
     report("lbk_read_published takes them too, or not", fault.cause == LBK_CAUSE_NONE
         || fault.cause == LBK_CAUSE_NOT_PUBLISHED);
     stack_size = small;
+    run_in_thread("lbk_unicode", do_unicode);
+    report("lbk_unicode fills a table", total == 1);
     run_in_thread("lbk_check", do_check);
     report("lbk_check holds of the table", total == 1);
     run_in_thread("lbk_pack", do_pack);

@@ -1,6 +1,5 @@
 /* Goes over one text in many threads at once, which share a table: its breaks, those of it as a stream, and its
- * words. Each thread has to find what one finds by itself. The words name the four files; the last line is `N
- * passed, M failed`.
+ * words. Each thread has to find what one finds by itself. The last line is `N passed, M failed`.
  */
 #define _DEFAULT_SOURCE
 #include "../../examples/harness.h"
@@ -81,16 +80,12 @@ static void *go_over(void *given)
     return NULL;
 }
 
-int main(int words, char **word)
+int main(void)
 {
     pthread_t threads[THREADS];
     sums differ[THREADS];
-    if (words != 5) {
-        fprintf(stderr, "usage: threads LINE_BREAK EAST_ASIAN CATEGORY EMOJI\n");
-        return 2;
-    }
     seed = 1;
-    read_table(&table, word + 1);
+    lbk_unicode(&table);
     while (size < SIZE / 2)
         size += random_text_of(text + size, SIZE - size);
     wanted = (sums){sum_of_breaks(), 0, sum_of_words()};

@@ -7,8 +7,8 @@ use Rattle.lbk_masks.proofs.BitLemmas.{set-or}
 use Rattle.lbk_masks.proofs.WordLemmas.{or-none}
 use Rattle.lbk_masks.specs.Sets.{is_set}
 use Rattle.lbk_rules.specs.declared.Cell.{Cell}
-use Rattle.lbk_rules.specs.declared.flat_table.FlatTable.{FlatTable}
-use Rattle.lbk_rules.specs.FlatTable.{IsFlatOf, KnowsTaken}
+use Rattle.lbk_rules.specs.declared.neighbours.Neighbours.{Neighbours}
+use Rattle.lbk_rules.specs.FlatTable.{IsFlatBy, KnowsTaken}
 use Rattle.lbk_rules.specs.Rows.{IsPlace, IsShown}
 use Rattle.lbk_rules.proofs.ShownLemmas.{shown-breaks}
 use Rattle.lbk_values.specs.declared.profile.Profile.{Profile}
@@ -50,30 +50,30 @@ kinds-set word kinds index kind i within none =
     (cases_eq i index)
 
 -- what is decided before one scalar
-pub Gathered-decided : (profile : Profile) (cell : ℕ → Cell) (text : List ℕ) (all : Ahead) (from last at row word shown : ℕ) (kinds : List ℕ) (found : Decided)
+pub Gathered-decided : (profile : Profile) (cell : ℕ → Cell) (text : List ℕ) (all : Ahead) (from last at row count word shown : ℕ) (kinds : List ℕ) (found : Decided)
     → from ≤ at → at < from + length kinds → at < length text → at < last → found.shown ≡ shown → IsShown shown
     → ((taken : List ℕ) → KnowsTaken cell row taken → IsDecided profile cell text at taken found)
-    → Gathered profile cell text all from last (record { count = word; row = row; at = at }) kinds
-    → Gathered profile cell text all from last (record { count = word; row = found.row; at = found.at }) (set kinds (at - from) (shown % 256))
-Gathered-decided profile cell text all from last at row word shown kinds found after room inside before same is decided g =
+    → Gathered profile cell text all from last word (record { count = count; row = row; at = at }) kinds
+    → Gathered profile cell text all from last word (record { count = count; row = found.row; at = found.at }) (set kinds (at - from) (shown % 256))
+Gathered-decided profile cell text all from last at row count word shown kinds found after room inside before same is decided g =
     let index = at - from in
     let new = set kinds index (shown % 256) in
     let moved = (decided g.told.reached.taken g.told.reached.knows).moved in
     let some = (piece-within text at inside).0 in
     record {
       none = λ i past. get_or-set_other kinds index i (shown % 256) 0 (λ e. omega (arith, moved, some)) ∙ g.none i (omega (arith, moved));
-      told = Told-decided profile cell text all from last at row word word shown 64 (not (shown % 256 == 0)) (breaks_at word kinds) (breaks_at word new) found
+      told = Told-decided profile cell text all from last at row count count shown 64 (not (shown % 256 == 0)) (breaks_at word kinds) (breaks_at word new) found
           after inside before same (shown-breaks shown is.0 is.1)
           (λ i. kinds-set word kinds index (shown % 256) i (omega arith) (g.none index (omega arith))) decided g.told;
     }
 
 -- where nothing follows the text
-pub Gathered-alone : (profile : Profile) (cell : ℕ → Cell) (text : List ℕ) (all : Ahead) (from stop : ℕ) (here there : FillState) (old new : List ℕ)
-    → (Gathered profile cell (text ++ []) all from stop here old → Gathered profile cell (text ++ []) all from stop there new)
-    → Gathered profile cell text all from stop here old → Gathered profile cell text all from stop there new
-Gathered-alone profile cell text all from stop here there old new further g =
-    subst (λ t. Gathered profile cell t all from stop there new) (append-nil text)
-    (further (subst (λ t. Gathered profile cell t all from stop here old) (sym (append-nil text)) g))
+pub Gathered-alone : (profile : Profile) (cell : ℕ → Cell) (text : List ℕ) (all : Ahead) (from stop word : ℕ) (here there : FillState) (old new : List ℕ)
+    → (Gathered profile cell (text ++ []) all from stop word here old → Gathered profile cell (text ++ []) all from stop word there new)
+    → Gathered profile cell text all from stop word here old → Gathered profile cell text all from stop word there new
+Gathered-alone profile cell text all from stop word here there old new further g =
+    subst (λ t. Gathered profile cell t all from stop word there new) (append-nil text)
+    (further (subst (λ t. Gathered profile cell t all from stop word here old) (sym (append-nil text)) g))
 
 -- Before any, and behind all
 
@@ -97,16 +97,16 @@ bits-made word bits kinds are i few =
 -- So far
 
 -- what a call has gathered so far, from a word of bits on
-pub record GatheredSoFar (table : FlatTable) (profile : Profile) (text : List ℕ) (from stop : ℕ) (start here : FillState) (kinds : List ℕ) : Type 0 where
+pub record GatheredSoFar (of_codes : List ℕ) (of_bytes : Neighbours) (profile : Profile) (text : List ℕ) (from stop word : ℕ) (start here : FillState) (kinds : List ℕ) : Type 0 where
   pub row : IsPlace here.row
   pub onward : start.at ≤ here.at
   pub within : here.at ≤ length text
   pub near : here.at ≤ stop + 3
   pub room : length kinds ≡ 64
-  pub none : AreClear from start.at (start.count ∷ []) → AreGathered from here.at here.count kinds
-  pub gathered : (cell : ℕ → Cell) (all : Ahead) → IsFlatOf table cell
-      → Marked profile cell text all from stop start (start.count ∷ [])
-      → Gathered profile cell text all from stop here kinds
+  pub none : AreClear from start.at (word ∷ []) → AreGathered from here.at word kinds
+  pub gathered : (cell : ℕ → Cell) (all : Ahead) → IsFlatBy of_codes of_bytes cell
+      → Marked profile cell text all from stop start (word ∷ [])
+      → Gathered profile cell text all from stop word here kinds
 
 -- numbers of 0
 zeros : (n i : ℕ) → ◌≡◌ {A = ℕ} (get_or (replicate n 0) i 0) 0
@@ -116,32 +116,32 @@ zeros n i =
     (λ (past : n ≤ i). get_or_past (replicate n 0) i 0 (omega (arith, length-replicate {A = ℕ} n 0)))
     (cases_lt i n)
 
-pub gathered-none : (table : FlatTable) (profile : Profile) (text : List ℕ) (from stop : ℕ) (start : FillState)
+pub gathered-none : (of_codes : List ℕ) (of_bytes : Neighbours) (profile : Profile) (text : List ℕ) (from stop word : ℕ) (start : FillState)
     → IsPlace start.row → start.at < stop → stop ≤ length text
-    → GatheredSoFar table profile text from stop start start (replicate 64 0)
-gathered-none table profile text from stop start row before within = record {
+    → GatheredSoFar of_codes of_bytes profile text from stop word start start (replicate 64 0)
+gathered-none of_codes of_bytes profile text from stop word start row before within = record {
   row = row;
   onward = omega arith;
   within = omega arith;
   near = omega arith;
   room = length-replicate {A = ℕ} 64 0;
-  none = λ clear i past. none-gathered start.count (replicate 64 0) i (zeros 64 i) ∙ clear i past;
+  none = λ clear i past. none-gathered word (replicate 64 0) i (zeros 64 i) ∙ clear i past;
   gathered = λ cell all flat m. record {
     none = λ i past. zeros 64 i;
     told = record {
       given = m.given;
       reached = m.reached;
       below = m.below;
-      marked = λ i few. none-gathered start.count (replicate 64 0) i (zeros 64 i) ∙ m.marked i few;
+      marked = λ i few. none-gathered word (replicate 64 0) i (zeros 64 i) ∙ m.marked i few;
       boundary = m.boundary;
     };
   };
 }
 
-pub gathered-further : (table : FlatTable) (profile : Profile) (text : List ℕ) (from stop : ℕ) (start here there : FillState) (old new : List ℕ) → length new ≡ length old
-    → GatheredSoFar table profile text from stop start here old → GathersFurther table profile text from stop old here new there
-    → GatheredSoFar table profile text from stop start there new
-gathered-further table profile text from stop start here there old new same so_far more = record {
+pub gathered-further : (of_codes : List ℕ) (of_bytes : Neighbours) (profile : Profile) (text : List ℕ) (from stop word : ℕ) (start here there : FillState) (old new : List ℕ) → length new ≡ length old
+    → GatheredSoFar of_codes of_bytes profile text from stop word start here old → GathersFurther of_codes of_bytes profile text from stop word old here new there
+    → GatheredSoFar of_codes of_bytes profile text from stop word start there new
+gathered-further of_codes of_bytes profile text from stop word start here there old new same so_far more = record {
   row = more.within.0;
   onward = omega (arith, so_far.onward, more.within.1);
   within = more.within.2;
@@ -152,18 +152,18 @@ gathered-further table profile text from stop start here there old new same so_f
 }
 
 -- the bits are made
-pub gathered-all : (table : FlatTable) (profile : Profile) (text : List ℕ) (from stop : ℕ) (start here : FillState) (kinds : List ℕ) (bits : ℕ)
-    → GatheredSoFar table profile text from stop start here kinds → start.at < stop → stop ≤ here.at
+pub gathered-all : (of_codes : List ℕ) (of_bytes : Neighbours) (profile : Profile) (text : List ℕ) (from stop word : ℕ) (start here : FillState) (kinds : List ℕ) (bits : ℕ)
+    → GatheredSoFar of_codes of_bytes profile text from stop word start here kinds → start.at < stop → stop ≤ here.at
     → ((i : ℕ) → i < 64 → is_set bits i ≡ not (get_or kinds i 0 == 0))
-    → MarksFurther table profile text from stop (start.count ∷ []) start (bit_or here.count bits ∷ []) (record { count = bit_or here.count bits; row = here.row; at = here.at })
-gathered-all table profile text from stop start here kinds bits so_far before past are =
-    let made = bits-made here.count bits kinds are in
+    → MarksFurther of_codes of_bytes profile text from stop (word ∷ []) start (bit_or word bits ∷ []) here
+gathered-all of_codes of_bytes profile text from stop word start here kinds bits so_far before past are =
+    let made = bits-made word bits kinds are in
     record {
       within = (so_far.row, omega arith, so_far.within, so_far.near);
       none = λ clear i behind.
           ⊎_elim
           (λ (few : i < 64). made i few ∙ so_far.none clear i behind)
-          (λ (many : 64 ≤ i). marked-past (bit_or here.count bits ∷ []) i (omega arith))
+          (λ (many : 64 ≤ i). marked-past (bit_or word bits ∷ []) i (omega arith))
           (cases_lt i 64);
       marked = λ cell all flat m.
           let g = (so_far.gathered cell all flat m).told in

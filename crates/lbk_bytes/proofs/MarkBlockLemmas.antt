@@ -8,7 +8,6 @@ use Rattle.lbk_rules.specs.declared.Cell.{Cell}
 use Rattle.lbk_rules.specs.declared.Verdict.{Verdict}
 use Rattle.lbk_rules.specs.declared.steps.Step.{Step}
 use Rattle.lbk_rules.specs.declared.neighbours.Neighbours.{Neighbours}
-use Rattle.lbk_rules.specs.declared.flat_table.FlatTable.{FlatTable}
 use Rattle.lbk_values.specs.declared.profile.Profile.{Profile}
 use Rattle.lbk_rules.specs.Breaks.{break_by, is_no}
 use Rattle.lbk_rules.specs.FlatTable.{AreFlatKinds}
@@ -226,9 +225,9 @@ block-taken profile cell text more all steps kinds pairs row at begin taken stan
 
 -- Some bytes after others
 
-pub marks-on : {table : FlatTable} {steps : List (List Step)} {text : List ℕ} {from : ℕ} {old mid new : List ℕ} {start here there : FillState}
-    → MarksOn table steps text from old start mid here → MarksOn table steps text from mid here new there
-    → MarksOn table steps text from old start new there
+pub marks-on : {kinds : List ℕ} {pairs : Neighbours} {steps : List (List Step)} {text : List ℕ} {from : ℕ} {old mid new : List ℕ} {start here there : FillState}
+    → MarksOn kinds pairs steps text from old start mid here → MarksOn kinds pairs steps text from mid here new there
+    → MarksOn kinds pairs steps text from old start new there
 marks-on first next = record {
   within = (next.within.0, omega (arith, first.within.1, next.within.1), next.within.2);
   none = λ clear. next.none (first.none clear);
@@ -236,31 +235,31 @@ marks-on first next = record {
 }
 
 -- bytes of a block that are taken by its marks
-pub masked-on : (table : FlatTable) (steps : List (List Step)) (text : List ℕ) (from at : ℕ) (marks : Marks) (old new : List ℕ) (here there : FillState)
-    → IsPlace there.row × (here.at ≤ there.at) × (there.at ≤ length text)
+pub masked-on : (kinds : List ℕ) (pairs told : Neighbours) (steps : List (List Step)) (text : List ℕ) (from at : ℕ) (marks : Marks) (old new : List ℕ) (here there : FillState)
+    → told ≡ pairs → IsPlace there.row × (here.at ≤ there.at) × (there.at ≤ length text)
     → ((i : ℕ) → there.at ≤ from + i → is_marked new i ≡ is_marked old i)
-    → AreMarks table.pairs text at marks
+    → AreMarks told text at marks
     → ((profile : Profile) (cell : ℕ → Cell) (steps : List (List Step)) (kinds : List ℕ) (more : List ℕ) (all : Ahead) → steps ≡ steps_in profile
-    → AreFlatKinds kinds cell → AreTold steps kinds table.pairs → AreMarks table.pairs text at marks
+    → AreFlatKinds kinds cell → AreTold steps kinds told → AreMarks told text at marks
     → Marked profile cell (text ++ more) all from (length text) here old
     → Marked profile cell (text ++ more) all from (length text) there new)
-    → MarksOn table steps text from old here new there
-masked-on table steps text from at marks old new here there within after are_marks marked = record {
+    → MarksOn kinds pairs steps text from old here new there
+masked-on kinds pairs told steps text from at marks old new here there same within after are_marks marked = record {
   within = within;
   none = λ clear i past. after i past ∙ clear i (omega (arith, within.1));
   marked = λ profile cell more all swift flat.
-      marked profile cell steps table.kinds more all swift flat.kinds (told-as profile table.kinds table.pairs table.pairs cell steps flat refl swift) are_marks;
+      marked profile cell steps kinds more all swift flat.kinds (told-as profile kinds pairs told cell steps flat same swift) are_marks;
 }
 
 -- bytes that are taken by steps
-pub stepped-on : (table : FlatTable) (steps : List (List Step)) (text : List ℕ) (from : ℕ) (old new : List ℕ) (here there : FillState)
+pub stepped-on : (kinds : List ℕ) (pairs : Neighbours) (steps : List (List Step)) (text : List ℕ) (from : ℕ) (old new : List ℕ) (here there : FillState)
     → IsPlace there.row × (here.at ≤ there.at) × (there.at ≤ length text)
     → (AreClear from here.at old → AreClear from there.at new)
-    → ((profile : Profile) (cell : ℕ → Cell) (more : List ℕ) (all : Ahead) → steps ≡ steps_in profile → AreFlatKinds table.kinds cell
+    → ((profile : Profile) (cell : ℕ → Cell) (more : List ℕ) (all : Ahead) → steps ≡ steps_in profile → AreFlatKinds kinds cell
     → Marked profile cell (text ++ more) all from (length text) here old
     → Marked profile cell (text ++ more) all from (length text) there new)
-    → MarksOn table steps text from old here new there
-stepped-on table steps text from old new here there within none marked = record {
+    → MarksOn kinds pairs steps text from old here new there
+stepped-on kinds pairs steps text from old new here there within none marked = record {
   within = within;
   none = none;
   marked = λ profile cell more all swift flat. marked profile cell more all swift flat.kinds;

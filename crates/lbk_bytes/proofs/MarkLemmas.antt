@@ -13,12 +13,13 @@ use Rattle.lbk_rules.specs.declared.Break.{Break}
 use Rattle.lbk_rules.specs.declared.Cell.{Cell}
 use Rattle.lbk_rules.specs.declared.Verdict.{Verdict}
 use Rattle.lbk_rules.specs.declared.steps.Step.{Step}
-use Rattle.lbk_rules.specs.declared.flat_table.FlatTable.{FlatTable}
+use Rattle.lbk_rules.specs.declared.neighbours.Neighbours.{Neighbours}
 use Rattle.lbk_rules.specs.Breaks.{break_by, is_no}
-use Rattle.lbk_rules.specs.FlatTable.{IsFlatOf}
+use Rattle.lbk_rules.specs.FlatTable.{IsFlatBy}
 use Rattle.lbk_rules.specs.Rows.{IsPlace, steps_in}
 use Rattle.lbk_values.specs.declared.profile.Profile.{Profile}
 use Rattle.lbk_bytes.specs.declared.fill_state.FillState.{FillState}
+use Rattle.lbk_bytes.specs.declared.one_word.OneWord.{OneWord}
 use Rattle.lbk_bytes.specs.Bytes.{with_break}
 use Rattle.lbk_bytes.specs.Marking.{AreBelow, AreClear, Marked, MarksFurther, MarksOn, Told, uncounted}
 use Rattle.lbk_bytes.specs.Marks.{boundary_from, is_marked, stands_among}
@@ -228,31 +229,23 @@ as-other [] word one = absurd (omega arith)
 as-other (old ∷ []) word one = refl
 as-other (old ∷ more ∷ words) word one = absurd (omega arith)
 
--- its bits in the place of the count
-pub Marked-counted : (profile : Profile) (cell : ℕ → Cell) (text : List ℕ) (all : Ahead) (from stop : ℕ) (here : FillState) (words : List ℕ) → length words ≡ 1
-    → Marked profile cell text all from stop here words
-    → Marked profile cell text all from stop (record { count = get_or words 0 0; row = here.row; at = here.at }) (get_or words 0 0 ∷ [])
-Marked-counted profile cell text all from stop here words one m =
-    let n = subst (λ l. Marked profile cell text all from stop here l) (as-one words one) m in
-    record { given = n.given; reached = n.reached; below = n.below; marked = n.marked; boundary = n.boundary }
-
 -- The bits so far
 
 -- the bits that a call has set so far
-pub record MarksSoFar (table : FlatTable) (profile : Profile) (text : List ℕ) (stop : ℕ) (start here : FillState) (words : List ℕ) : Type 0 where
+pub record MarksSoFar (kinds : List ℕ) (pairs : Neighbours) (profile : Profile) (text : List ℕ) (stop : ℕ) (start here : FillState) (words : List ℕ) : Type 0 where
   pub row : IsPlace here.row
   pub onward : start.at ≤ here.at
   pub within : here.at ≤ length text
   pub near : here.at ≤ stop + 3
   pub none : AreClear start.at here.at words
-  pub marked : (cell : ℕ → Cell) (all : Ahead) → IsFlatOf table cell
+  pub marked : (cell : ℕ → Cell) (all : Ahead) → IsFlatBy kinds pairs cell
       → Reached profile cell text all (uncounted start) []
       → Marked profile cell text all start.at stop here words
 
-pub marks-further : (table : FlatTable) (profile : Profile) (text : List ℕ) (stop : ℕ) (start here there : FillState) (old new : List ℕ)
-    → MarksSoFar table profile text stop start here old → MarksFurther table profile text start.at stop old here new there
-    → MarksSoFar table profile text stop start there new
-marks-further table profile text stop start here there old new so_far more = record {
+pub marks-further : (kinds : List ℕ) (pairs : Neighbours) (profile : Profile) (text : List ℕ) (stop : ℕ) (start here there : FillState) (old new : List ℕ)
+    → MarksSoFar kinds pairs profile text stop start here old → MarksFurther kinds pairs profile text start.at stop old here new there
+    → MarksSoFar kinds pairs profile text stop start there new
+marks-further kinds pairs profile text stop start here there old new so_far more = record {
   row = more.within.0;
   onward = omega (arith, so_far.onward, more.within.1);
   within = more.within.2;
@@ -270,21 +263,21 @@ zero-clear : (i : ℕ) → is_marked (0 ∷ []) i ≡ false
 zero-clear i = ap (λ n. is_set n (i % 64)) (zero-there (i / 64)) ∙ set-none (i % 64)
 
 -- one word, before anything was taken, and behind a block
-pub word-none : (table : FlatTable) (profile : Profile) (text : List ℕ) (stop : ℕ) (start : FillState) → IsPlace start.row → start.at ≤ stop → stop ≤ length text
-    → MarksSoFar table profile text stop start (uncounted start) (0 ∷ [])
-word-none table profile text stop start row before within = record {
+pub word-none : (kinds : List ℕ) (pairs : Neighbours) (profile : Profile) (text : List ℕ) (stop : ℕ) (start : FillState) → IsPlace start.row → start.at ≤ stop → stop ≤ length text
+    → MarksSoFar kinds pairs profile text stop start start (0 ∷ [])
+word-none kinds pairs profile text stop start row before within = record {
   row = row;
   onward = omega arith;
   within = omega arith;
   near = omega arith;
   none = λ i _. zero-clear i;
-  marked = λ cell all flat r. Marked-none profile cell text all stop (uncounted start) (0 ∷ []) zero-clear r;
+  marked = λ cell all flat r. Marked-none profile cell text all stop start (0 ∷ []) zero-clear r;
 }
 
-pub words-begun : (table : FlatTable) (profile : Profile) (steps : List (List Step)) (text : List ℕ) (stop : ℕ) (start there : FillState) (new : List ℕ) → stop ≤ length text
-    → steps ≡ steps_in profile → MarksOn table steps (take stop text) start.at (0 ∷ []) start new there
-    → MarksSoFar table profile text stop start there new
-words-begun table profile steps text stop start there new within swift m =
+pub words-begun : (kinds : List ℕ) (pairs : Neighbours) (profile : Profile) (steps : List (List Step)) (text : List ℕ) (stop : ℕ) (start there : FillState) (new : List ℕ) → stop ≤ length text
+    → steps ≡ steps_in profile → MarksOn kinds pairs steps (take stop text) start.at (0 ∷ []) start new there
+    → MarksSoFar kinds pairs profile text stop start there new
+words-begun kinds pairs profile steps text stop start there new within swift m =
     let front = take stop text in
     let ends = length-take-le stop text within in
     record {
@@ -299,13 +292,13 @@ words-begun table profile steps text stop start there new within swift m =
     }
 
 -- steps taken behind it, whatever may follow the text
-pub words-stepped : (table : FlatTable) (profile : Profile) (steps : List (List Step)) (text : List ℕ) (stop : ℕ) (start here there : FillState) (old new : List ℕ)
+pub words-stepped : (kinds : List ℕ) (pairs : Neighbours) (profile : Profile) (steps : List (List Step)) (text : List ℕ) (stop : ℕ) (start here there : FillState) (old new : List ℕ)
     → here.at ≤ stop → steps ≡ steps_in profile
-    → MarksSoFar table profile text stop start here old
+    → MarksSoFar kinds pairs profile text stop start here old
     → StepsOn (λ words count at stop. (start.at ≤ at) × (stop ≤ start.at + 64 * length words)) (λ words count from at. AreClear start.at at words)
-    (λ profile cell text all last here words. Marked profile cell text all start.at last here words) steps table.kinds text stop old here new there
-    → MarksSoFar table profile text stop start there new
-words-stepped table profile steps text stop start here there old new before swift so_far more = record {
+    (λ profile cell text all last here words. Marked profile cell text all start.at last here words) steps kinds text stop old here new there
+    → MarksSoFar kinds pairs profile text stop start there new
+words-stepped kinds pairs profile steps text stop start here there old new before swift so_far more = record {
   row = more.within.1;
   onward = omega (arith, so_far.onward, more.onward.0);
   within = more.within.2;
@@ -315,17 +308,10 @@ words-stepped table profile steps text stop start here there old new before swif
       Marked-alone profile cell text all start.at stop here there old new (more.reached profile cell [] all stop swift flat.kinds (omega arith)) (so_far.marked cell all flat r);
 }
 
--- its bits in the place of the count
-pub word-counted : (table : FlatTable) (profile : Profile) (text : List ℕ) (stop : ℕ) (start here there : FillState) (words : List ℕ) → length words ≡ 1
-    → there ≡ record { count = get_or words 0 0; row = here.row; at = here.at } → MarksSoFar table profile text stop start here words
-    → MarksSoFar table profile text stop start there (there.count ∷ [])
-word-counted table profile text stop start here there words one is so_far =
-    subst (λ s. MarksSoFar table profile text stop start s (s.count ∷ [])) (sym is)
-    (record {
-      row = so_far.row;
-      onward = so_far.onward;
-      within = so_far.within;
-      near = so_far.near;
-      none = subst (λ w. AreClear start.at here.at w) (as-one words one) so_far.none;
-      marked = λ cell all flat r. Marked-counted profile cell text all start.at stop here words one (so_far.marked cell all flat r);
-    })
+-- its bits with how far the call got
+pub word-with : (kinds : List ℕ) (pairs : Neighbours) (profile : Profile) (text : List ℕ) (stop : ℕ) (start here : FillState) (there : OneWord) (words : List ℕ) → length words ≡ 1
+    → there ≡ record { word = get_or words 0 0; here = here } → MarksSoFar kinds pairs profile text stop start here words
+    → MarksSoFar kinds pairs profile text stop start there.here (there.word ∷ [])
+word-with kinds pairs profile text stop start here there words one is so_far =
+    subst (λ s. MarksSoFar kinds pairs profile text stop start s.here (s.word ∷ [])) (sym is)
+    (subst (λ l. MarksSoFar kinds pairs profile text stop start here l) (as-one words one) so_far)

@@ -3,9 +3,9 @@ use Rattle.std.specs.Prelude.{◌≡◌, ℕ, ◌+◌, ◌*◌, ◌<◌, ◌≤�
 use Rattle.lbk_rules.specs.declared.Break.{Break}
 use Rattle.lbk_rules.specs.declared.Cell.{Cell}
 use Rattle.lbk_values.specs.declared.profile.Profile.{Profile}
-use Rattle.lbk_rules.specs.declared.flat_table.FlatTable.{FlatTable}
+use Rattle.lbk_rules.specs.declared.neighbours.Neighbours.{Neighbours}
 use Rattle.lbk_rules.specs.declared.steps.Step.{Step}
-use Rattle.lbk_rules.specs.FlatTable.{IsFlatOf}
+use Rattle.lbk_rules.specs.FlatTable.{IsFlatBy}
 use Rattle.lbk_rules.specs.Rows.{AreSteps, IsPlace, steps_in}
 use Rattle.lbk_bytes.specs.declared.fill_state.FillState.{FillState}
 use Rattle.lbk_bytes.specs.Marks.{boundary_from, breaks_at, is_marked, stands_among}
@@ -44,12 +44,11 @@ abbrev pub Marked : Profile → (ℕ → Cell) → List ℕ → Ahead → ℕ �
 Marked profile cell text all from stop here words =
     Told profile cell text all from stop here (64 * length words) (is_marked words)
 
--- The bits of one word tell it, where a call counts, and kinds of verdicts. From where the call stands on there are none
--- of these.
-pub record Gathered (profile : Profile) (cell : ℕ → Cell) (text : List ℕ) (all : Ahead) (from stop : ℕ)
+-- The bits of one word tell it, and kinds of verdicts. From where the call stands on there are none of these.
+pub record Gathered (profile : Profile) (cell : ℕ → Cell) (text : List ℕ) (all : Ahead) (from stop word : ℕ)
     (here : FillState) (kinds : List ℕ) : Type 0 where
   pub none : (i : ℕ) → here.at ≤ from + i → get_or kinds i 0 ≡ 0
-  pub told : Told profile cell text all from stop here 64 (breaks_at here.count kinds)
+  pub told : Told profile cell text all from stop here 64 (breaks_at word kinds)
 
 -- after so many bits, counted from byte `from` on, no line breaks from byte `at` on
 abbrev pub AreGathered : ℕ → ℕ → ℕ → List ℕ → Type 0
@@ -64,30 +63,30 @@ MayMark steps text from words here =
 
 -- Bytes of a text are taken, whatever follows the text. If no bit was set from the byte on that came next, so it is
 -- now; and so it is if a bit was set for each break of what was taken.
-pub record MarksOn (table : FlatTable) (steps : List (List Step)) (text : List ℕ) (from : ℕ) (old : List ℕ)
-    (start : FillState) (new : List ℕ) (result : FillState) : Type 0 where
+pub record MarksOn (kinds : List ℕ) (pairs : Neighbours) (steps : List (List Step)) (text : List ℕ) (from : ℕ)
+    (old : List ℕ) (start : FillState) (new : List ℕ) (result : FillState) : Type 0 where
   pub within : IsPlace result.row × (start.at ≤ result.at) × (result.at ≤ length text)
   pub none : AreClear from start.at old → AreClear from result.at new
   pub marked : (profile : Profile) (cell : ℕ → Cell) (more : List ℕ) (all : Ahead)
-      → steps ≡ steps_in profile → IsFlatOf table cell
+      → steps ≡ steps_in profile → IsFlatBy kinds pairs cell
       → Marked profile cell (text ++ more) all from (length text) start old
       → Marked profile cell (text ++ more) all from (length text) result new
 
 -- scalars are taken, at least one, that begin before byte `stop`: the same of the words that there were and that there
 -- are now
-pub record MarksFurther (table : FlatTable) (profile : Profile) (text : List ℕ) (from stop : ℕ) (old : List ℕ)
-    (start : FillState) (new : List ℕ) (result : FillState) : Type 0 where
+pub record MarksFurther (kinds : List ℕ) (pairs : Neighbours) (profile : Profile) (text : List ℕ) (from stop : ℕ)
+    (old : List ℕ) (start : FillState) (new : List ℕ) (result : FillState) : Type 0 where
   pub within : IsPlace result.row × (start.at < result.at) × (result.at ≤ length text) × (result.at ≤ stop + 3)
   pub none : AreClear from start.at old → AreClear from result.at new
-  pub marked : (cell : ℕ → Cell) (all : Ahead) → IsFlatOf table cell
+  pub marked : (cell : ℕ → Cell) (all : Ahead) → IsFlatBy kinds pairs cell
       → Marked profile cell text all from stop start old
       → Marked profile cell text all from stop result new
 
--- the same of kinds of verdicts, and of the word that is counted
-pub record GathersFurther (table : FlatTable) (profile : Profile) (text : List ℕ) (from stop : ℕ) (old : List ℕ)
-    (start : FillState) (new : List ℕ) (result : FillState) : Type 0 where
+-- the same of one word and kinds of verdicts
+pub record GathersFurther (kinds : List ℕ) (pairs : Neighbours) (profile : Profile) (text : List ℕ) (from stop word : ℕ)
+    (old : List ℕ) (start : FillState) (new : List ℕ) (result : FillState) : Type 0 where
   pub within : IsPlace result.row × (start.at < result.at) × (result.at ≤ length text) × (result.at ≤ stop + 3)
-  pub none : AreGathered from start.at start.count old → AreGathered from result.at result.count new
-  pub gathered : (cell : ℕ → Cell) (all : Ahead) → IsFlatOf table cell
-      → Gathered profile cell text all from stop start old
-      → Gathered profile cell text all from stop result new
+  pub none : AreGathered from start.at word old → AreGathered from result.at word new
+  pub gathered : (cell : ℕ → Cell) (all : Ahead) → IsFlatBy kinds pairs cell
+      → Gathered profile cell text all from stop word start old
+      → Gathered profile cell text all from stop word result new

@@ -18,7 +18,7 @@ use crate::roomy::roomy;
 use crate::stepping::{emoji, mixed, quick, scalars};
 use crate::target::{AmpleBreaks, Breaks};
 use crate::tries::{are_near, begins_emoji, next_try};
-use lbk_rules::{FlatTable, KindSource, Profile, Rows, rows_of, shows_break};
+use lbk_rules::{KindSource, Profile, Rows, rows_of, shows_break};
 
 /// Goes on until the block is full or the text ends, and writes the breaks before the scalars taken after those in
 /// the front of the block. In a text of fewer than 64 bytes the scalars that no block takes are gone over here, with
@@ -183,15 +183,15 @@ pub fn fill_on<const MASKS: bool, const SURE: bool, K: KindSource>(
 /// Takes emoji, blocks of bytes, scalars and ill-formed bytes until a held position comes, the block is full or the last
 /// bytes of the text come, whatever may follow the text.
 #[inline(never)]
-pub fn fill_common(
-    table: &FlatTable,
+pub fn fill_common<K: KindSource>(
+    table: &K,
     profile: Profile,
     start: FillState,
     text: &[u8],
     out: &mut [RawBreak],
 ) -> FillState
     requires { IsInText start (length text.now) (length out.old) }
-    ensures { FillsIn profile table.now.kinds table.now.pairs text.now out.old start out.new result }
+    ensures { FillsIn profile (K.kinds_of table.now) (K.pairs_of table.now) text.now out.old start out.new result }
 {
     if start.at == text.len() {
         return start;
@@ -200,9 +200,9 @@ pub fn fill_common(
     if here.at == text.len() {
         return here;
     }
-    let mut part = common_part::<true, false, FlatTable>(table, profile, here, text, out);
+    let mut part = common_part::<true, false, K>(table, profile, here, text, out);
     while part.until <= part.here.at && part.here.at < text.len() {
-        part = common_part::<true, false, FlatTable>(table, profile, part.here, text, out);
+        part = common_part::<true, false, K>(table, profile, part.here, text, out);
     }
     part.here
 }

@@ -14,14 +14,14 @@ use crate::stepping::runs;
 use crate::target::Bits;
 use crate::tries::{SEEN, are_left};
 use lbk_masks::kept_from;
-use lbk_rules::{FlatTable, Neighbours, Rows};
+use lbk_rules::{KindSource, Neighbours, Rows};
 
 /// Takes blocks of bytes, as many as come one after the other, up to a scalar that no step takes, or from which on
 /// few bytes are left, or many of them to steps. Where the next bytes are of scalars that blocks leave to
 /// steps, it takes none.
 #[inline(always)]
-pub(crate) fn mark_blocks(
-    table: &FlatTable,
+pub(crate) fn mark_blocks<K: KindSource>(
+    table: &K,
     steps: &Rows,
     start: FillState,
     from: usize,
@@ -29,7 +29,8 @@ pub(crate) fn mark_blocks(
     words: &mut [u64],
 ) -> FillState
     requires { MayMark steps.now text.now from words.old start }
-    ensures { MarksOn table.now steps.now text.now from words.old start words.new result }
+    ensures { MarksOn (K.kinds_of table.now) (K.pairs_of table.now) steps.now text.now from words.old start words.new
+        result }
 {
     if !are_told(&text[start.at..]) {
         return start;
@@ -53,8 +54,8 @@ pub(crate) fn are_told(text: &[u8]) -> bool {
 
 /// Takes the bytes of one block: those that its marks tell by them, and the others by steps.
 #[inline(never)]
-pub(crate) fn mark_block(
-    table: &FlatTable,
+pub(crate) fn mark_block<K: KindSource>(
+    table: &K,
     steps: &Rows,
     start: FillState,
     from: usize,
@@ -62,29 +63,23 @@ pub(crate) fn mark_block(
     words: &mut [u64],
 ) -> FillState
     requires { MayMark steps.now text.now from words.old start }
-    ensures { MarksOn table.now steps.now text.now from words.old start words.new result }
+    ensures { MarksOn (K.kinds_of table.now) (K.pairs_of table.now) steps.now text.now from words.old start words.new
+        result }
 {
-    let Some(marks) = marks_ahead(&table.pairs, start.at, text) else {
+    let pairs = table.pairs();
+    let Some(marks) = marks_ahead(pairs, start.at, text) else {
         return start;
     };
     let end = start.at + BLOCK.min(text.len() - start.at);
     let mut here = start;
     while here.at < end {
-        let there = mark_masked(&table.pairs, start.at, marks, here, from, text, words);
+        let there = mark_masked(pairs, start.at, marks, here, from, text, words);
         if end <= there.at {
             return there;
         }
         let untold = there.at == here.at;
         let stop = steps_end(untold, marks.stops, start.at, there.at, end);
-        here = runs::<false, Bits, FlatTable>(
-            Bits { from },
-            table,
-            steps,
-            there,
-            stop,
-            text,
-            words,
-        );
+        here = runs::<false, Bits, K>(Bits { from }, table, steps, there, stop, text, words);
         if here.at == there.at {
             return here;
         }

@@ -1,7 +1,7 @@
 //! Words that are filled with a bit for each byte of a text.
 
 ghost use Rattle.std.specs.Prelude.{◌≡◌, ℕ, ◌+◌, ◌*◌, ◌<◌, ◌≤◌, ◌||◌, [], List, false, length, min};
-ghost use Rattle.lbk_bytes.specs.Terms.{Cell, IsFlatOf, IsPlace, KnowsTaken, Profile};
+ghost use Rattle.lbk_bytes.specs.Terms.{Cell, IsFlatBy, IsPlace, KnowsTaken, Profile};
 ghost use Rattle.lbk_bytes.specs.Bytes.{end_in};
 ghost use Rattle.lbk_bytes.specs.Marking.{Marked, MarksFurther, uncounted};
 ghost use Rattle.lbk_bytes.specs.Marks.{is_marked, stands_among};
@@ -16,14 +16,14 @@ use crate::one_word::one_word;
 use crate::stepping::{emoji, quick};
 use crate::target::Bits;
 use crate::tries::{begins_emoji, next_try};
-use lbk_rules::{FlatTable, Profile, rows_of, shows_break};
+use lbk_rules::{KindSource, Profile, rows_of, shows_break};
 
 /// Sets a bit for each break from the start on, the first for the byte there, and clears all other bits of the words.
 /// Goes on until each byte with a bit was taken, or the text ends. What comes at the end is not set. A caller that asks
 /// for one word is one that often has one: then it is taken apart, with little done before its first byte.
 #[inline(always)]
-pub fn fill_marks<const ONE: bool>(
-    table: &FlatTable,
+pub fn fill_marks<const ONE: bool, K: KindSource>(
+    table: &K,
     profile: Profile,
     start: FillState,
     text: &[u8],
@@ -35,16 +35,16 @@ pub fn fill_marks<const ONE: bool>(
     ensures stops { min (length text.now) (start.at + 64 * length words.old) ≤ result.at }
     ensures no_room { length words.old ≡ 0 → result ≡ start }
     ensures after { (i : ℕ) → result.at ≤ start.at + i → is_marked words.new i ≡ false }
-    ensures marked { (cell : ℕ → Cell) (all : Ahead) → IsFlatOf table.now cell
+    ensures marked { (cell : ℕ → Cell) (all : Ahead) → IsFlatBy (K.kinds_of table.now) (K.pairs_of table.now) cell
         → Reached profile cell text.now all (uncounted start) []
         → Marked profile cell text.now all start.at (min (length text.now) (start.at + 64 * length words.old))
         result words.new }
 {
     let stop = stop_of(start.at, text, words.len());
     if ONE && words.len() == 1 {
-        let here = one_word(table, profile, start, stop, text);
-        words[0] = here.count as u64;
-        return here;
+        let found = one_word(table, profile, start, stop, text);
+        words[0] = found.word;
+        return found.here;
     }
     clear(words);
     let mut here = start;
@@ -66,8 +66,8 @@ fn stop_of(from: usize, text: &[u8], words: usize) -> usize
 }
 
 /// Takes scalars, at least one, that begin before a byte: emoji, or blocks of bytes and then others.
-fn mark_further(
-    table: &FlatTable,
+fn mark_further<K: KindSource>(
+    table: &K,
     profile: Profile,
     here: FillState,
     from: usize,
@@ -77,7 +77,8 @@ fn mark_further(
 ) -> FillState
     requires { IsPlace here.row × (from ≤ here.at) × (here.at < stop) × (stop ≤ length text.now)
         × (stop ≤ from + 64 * length words.old) }
-    ensures { MarksFurther table.now profile text.now from stop words.old here words.new result }
+    ensures { MarksFurther (K.kinds_of table.now) (K.pairs_of table.now) profile text.now from stop words.old here
+        words.new result }
 {
     if begins_emoji(&text[here.at..]) {
         return mark_emoji(table, profile, here, from, stop, text, words);
@@ -86,8 +87,8 @@ fn mark_further(
 }
 
 /// Takes emoji, or one scalar whatever it is.
-fn mark_emoji(
-    table: &FlatTable,
+fn mark_emoji<K: KindSource>(
+    table: &K,
     profile: Profile,
     here: FillState,
     from: usize,
@@ -97,7 +98,8 @@ fn mark_emoji(
 ) -> FillState
     requires { IsPlace here.row × (from ≤ here.at) × (here.at < stop) × (stop ≤ length text.now)
         × (stop ≤ from + 64 * length words.old) }
-    ensures { MarksFurther table.now profile text.now from stop words.old here words.new result }
+    ensures { MarksFurther (K.kinds_of table.now) (K.pairs_of table.now) profile text.now from stop words.old here
+        words.new result }
 {
     let target = Bits { from };
     let past = emoji(target, table, rows_of(profile), here, stop, text, words);
@@ -108,8 +110,8 @@ fn mark_emoji(
 }
 
 /// Takes blocks of bytes and then scalars, at least one, that begin before a byte.
-fn mark_usual(
-    table: &FlatTable,
+fn mark_usual<K: KindSource>(
+    table: &K,
     profile: Profile,
     here: FillState,
     from: usize,
@@ -119,7 +121,8 @@ fn mark_usual(
 ) -> FillState
     requires { IsPlace here.row × (from ≤ here.at) × (here.at < stop) × (stop ≤ length text.now)
         × (stop ≤ from + 64 * length words.old) }
-    ensures { MarksFurther table.now profile text.now from stop words.old here words.new result }
+    ensures { MarksFurther (K.kinds_of table.now) (K.pairs_of table.now) profile text.now from stop words.old here
+        words.new result }
 {
     let steps = rows_of(profile);
     let front = &text[..stop];
@@ -128,15 +131,7 @@ fn mark_usual(
         return there;
     }
     let until = next_try::<true>(there.at, front);
-    let past = quick::<false, Bits, FlatTable>(
-        Bits { from },
-        table,
-        steps,
-        there,
-        until,
-        text,
-        words,
-    );
+    let past = quick::<false, Bits, K>(Bits { from }, table, steps, there, until, text, words);
     if until <= past.at {
         return past;
     }

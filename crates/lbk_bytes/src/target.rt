@@ -186,22 +186,24 @@ impl Target for Bits {
 pub(crate) struct BreakKinds {
     /// The byte that the first number is for.
     pub(crate) from: usize,
+    /// The bits that were set before.
+    pub(crate) word: u64,
 }
 
 impl Target for BreakKinds {
     type Entry = u8;
 
-    ghost fits = { λ these kinds word at stop. (these.from ≤ at) × (stop ≤ these.from + length kinds) };
+    ghost fits = { λ these kinds count at stop. (these.from ≤ at) × (stop ≤ these.from + length kinds) };
 
-    ghost takes = { λ these kinds word at. (these.from ≤ at) × (at < these.from + length kinds) };
+    ghost takes = { λ these kinds count at. (these.from ≤ at) × (at < these.from + length kinds) };
 
-    ghost in_order = { λ these kinds word from at. AreGathered these.from at word kinds };
+    ghost in_order = { λ these kinds count from at. AreGathered these.from at these.word kinds };
 
     ghost reached = { λ these profile cell text all last here kinds.
-        Gathered profile cell text all these.from last here kinds };
+        Gathered profile cell text all these.from last these.word here kinds };
 
     #[inline(always)]
-    fn is_full(self, _kinds: &[u8], _word: usize) -> bool {
+    fn is_full(self, _kinds: &[u8], _count: usize) -> bool {
         false
     }
 
@@ -211,8 +213,8 @@ impl Target for BreakKinds {
     }
 
     #[inline(always)]
-    fn put(self, kinds: &mut [u8], word: usize, at: usize, shown: u16) -> usize {
+    fn put(self, kinds: &mut [u8], count: usize, at: usize, shown: u16) -> usize {
         kinds[at - self.from] = (shown % 256) as u8;
-        word
+        count
     }
 }

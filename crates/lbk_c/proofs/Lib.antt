@@ -3,6 +3,7 @@ pub mod MarkLemmas
 pub mod RowsApart
 pub mod SafeLemmas
 pub mod SafeWalks
+pub mod AfterLemmas
 pub mod SegmentLemmas
 pub mod DigestLemmas
 pub mod EmptyLemmas

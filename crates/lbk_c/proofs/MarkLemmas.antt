@@ -6,8 +6,8 @@ use Rattle.bstr.proofs.lemmas.PieceLemmas.{pieces-nil}
 use Rattle.lbk_rules.specs.declared.Break.{Break}
 use Rattle.lbk_rules.specs.declared.Cell.{Cell}
 use Rattle.lbk_values.specs.declared.profile.Profile.{Profile}
-use Rattle.lbk_rules.specs.declared.flat_table.FlatTable.{FlatTable}
-use Rattle.lbk_rules.specs.FlatTable.{IsFlatOf, KnowsTaken}
+use Rattle.lbk_rules.specs.declared.neighbours.Neighbours.{Neighbours}
+use Rattle.lbk_rules.specs.FlatTable.{IsFlatBy, KnowsTaken}
 use Rattle.lbk_bytes.specs.declared.fill_state.FillState.{FillState}
 use Rattle.lbk_bytes.specs.Bytes.{end_in}
 use Rattle.lbk_bytes.specs.Marking.{Marked, uncounted}
@@ -81,23 +81,23 @@ Marks-ended goes_on profile cell text to_come place stop here state old new m sa
     }
 
 -- what a call tells of the breaks to come
-pub Comes-marks : (from : Onward) (profile : Profile) (cell : ℕ → Cell) (table : FlatTable) (text : List ℕ) (place : ℕ) (old new : State) (to_come : List Break) (words : List ℕ)
-    → ((cell : ℕ → Cell) (to_come : List Break) → IsFlatOf table cell
+pub Comes-marks : (from : Onward) (profile : Profile) (cell : ℕ → Cell) (kinds : List ℕ) (pairs : Neighbours) (text : List ℕ) (place : ℕ) (old new : State) (to_come : List Break) (words : List ℕ)
+    → ((cell : ℕ → Cell) (to_come : List Break) → IsFlatBy kinds pairs cell
     → UnitsReachedBy from profile cell (on_from pieces text) to_come (from_state old) []
     → MarksBy from profile cell text to_come place new words)
-    → IsGoing profile old (length text) → (c : UnitsComeBy from pieces cell table text old to_come)
+    → IsGoing profile old (length text) → (c : UnitsComeBy from pieces cell kinds pairs text old to_come)
     → MarksBy from profile cell text to_come place new words
-Comes-marks from profile cell table text place old new to_come words marks going c =
+Comes-marks from profile cell kinds pairs text place old new to_come words marks going c =
     let same = same-profile c.profile profile old c.named going.named in
     marks cell to_come c.flat
     (subst (λ p. UnitsReachedBy from p cell (on_from pieces text) to_come (from_state old) []) same (c.onto.goes_on going.unended))
 
 -- and the others come from the next state on
-pub Comes-behind : (from : Onward) (profile : Profile) (cell : ℕ → Cell) (table : FlatTable) (text : List ℕ) (place : ℕ) (old new : State) (to_come : List Break) (words : List ℕ)
-    → IsGoing profile old (length text) → new.profile ≡ old.profile → (c : UnitsComeBy from pieces cell table text old to_come)
+pub Comes-behind : (from : Onward) (profile : Profile) (cell : ℕ → Cell) (kinds : List ℕ) (pairs : Neighbours) (text : List ℕ) (place : ℕ) (old new : State) (to_come : List Break) (words : List ℕ)
+    → IsGoing profile old (length text) → new.profile ≡ old.profile → (c : UnitsComeBy from pieces cell kinds pairs text old to_come)
     → MarksBy from profile cell text to_come place new words
-    → UnitsComeBy from pieces cell table text new (from_on (place + 64 * length words) to_come)
-Comes-behind from profile cell table text place old new to_come words going kept c marks = record {
+    → UnitsComeBy from pieces cell kinds pairs text new (from_on (place + 64 * length words) to_come)
+Comes-behind from profile cell kinds pairs text place old new to_come words going kept c marks = record {
   profile = profile;
   named = ap profile_numbered kept ∙ going.named;
   flat = c.flat;
@@ -108,8 +108,8 @@ pub never-spent : (state : State) (len : ℕ) → IsSpent (plain state) len → 
 never-spent state len spent few unended within = (let ended = spent-ended state len spent few within in omega arith)
 
 -- where something is to come, or nothing, a state that is spent has ended
-pub Comes-unspent : (from : Onward) (cell : ℕ → Cell) (table : FlatTable) (text : List ℕ) (state : State) (to_come : List Break)
-    → IsSpent state (length text) → UnitsComeBy from pieces cell table text state to_come → state.ended ≡ 0 → ⊥
-Comes-unspent from cell table text state to_come (inl unnamed) c unended = (let named = c.named in cc)
-Comes-unspent from cell table text state to_come (inr (inl ended)) c unended = omega arith
-Comes-unspent from cell table text state to_come (inr (inr past)) c unended = (let within = c.onto.within in omega arith)
+pub Comes-unspent : (from : Onward) (cell : ℕ → Cell) (kinds : List ℕ) (pairs : Neighbours) (text : List ℕ) (state : State) (to_come : List Break)
+    → IsSpent state (length text) → UnitsComeBy from pieces cell kinds pairs text state to_come → state.ended ≡ 0 → ⊥
+Comes-unspent from cell kinds pairs text state to_come (inl unnamed) c unended = (let named = c.named in cc)
+Comes-unspent from cell kinds pairs text state to_come (inr (inl ended)) c unended = omega arith
+Comes-unspent from cell kinds pairs text state to_come (inr (inr past)) c unended = (let within = c.onto.within in omega arith)

@@ -55,7 +55,7 @@ facts-on cell a b c same =
     ∙ facts-alike (normal (cell c)) (reverse (normals cell a)) (reverse (normals cell b)) same
     ∙ sym (ap facts (normals-back cell b c))
 
-onward-alike : (profile : Profile) (cell : ℕ → Cell) (a b : List ℕ) (at : ℕ) (ps : List Decoded) → facts (reverse (normals cell a)) ≡ facts (reverse (normals cell b))
+pub onward-alike : (profile : Profile) (cell : ℕ → Cell) (a b : List ℕ) (at : ℕ) (ps : List Decoded) → facts (reverse (normals cell a)) ≡ facts (reverse (normals cell b))
     → onward profile cell a at ps ≡ onward profile cell b at ps
 onward-alike profile cell a b at [] same = ap (λ v. with_break at v []) (between-alike profile cell a b [] same)
 onward-alike profile cell a b at (p ∷ ps) same =

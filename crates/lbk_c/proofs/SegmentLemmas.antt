@@ -4,7 +4,7 @@ use Rattle.std.proofs.Math.Logic.{⊎_elim}
 use Rattle.std.proofs.lemmas.List.{append_assoc, drop-drop, length-append, length-take-le, map-append, take-append-le, take_more, take_more_set}
 use Rattle.lbk_rules.specs.declared.Break.{Break}
 use Rattle.lbk_rules.specs.declared.Cell.{Cell}
-use Rattle.lbk_rules.specs.declared.flat_table.FlatTable.{FlatTable}
+use Rattle.lbk_rules.specs.declared.neighbours.Neighbours.{Neighbours}
 use Rattle.lbk_bytes.specs.declared.raw_break.RawBreak.{RawBreak}
 use Rattle.lbk_bytes.specs.Order.{AreInOrder, IsBreak, no_break}
 use Rattle.lbk_bytes.specs.Shown.{raw_of}
@@ -82,21 +82,21 @@ abbrev pub IsStill : State → ℕ → ℕ → Type 0
 IsStill state size room = (3 < state.profile) ⊎ ((0 < state.ended) ⊎ ((size < state.at) ⊎ (room ≡ 0)))
 
 -- the ways in which a call gives nothing
-still-call : (table : FlatTable) (text : List ℕ) (old new : State) (block : List RawBreak) (given room : ℕ) → GivesBreaks table text old new room block given
+still-call : (kinds : List ℕ) (pairs : Neighbours) (text : List ℕ) (old new : State) (block : List RawBreak) (given room : ℕ) → GivesBreaks kinds pairs text old new room block given
     → IsStill old (length text) room → (given ≡ 0) × (new ≡ old)
-still-call table text old new block given room g (inl a) = g.goes_over.advances.unknown a
-still-call table text old new block given room g (inr (inl a)) = g.goes_over.advances.ended a
-still-call table text old new block given room g (inr (inr (inl a))) = g.goes_over.advances.past a
-still-call table text old new block given room g (inr (inr (inr a))) = g.goes_over.advances.no_room a
+still-call kinds pairs text old new block given room g (inl a) = g.goes_over.advances.unknown a
+still-call kinds pairs text old new block given room g (inr (inl a)) = g.goes_over.advances.ended a
+still-call kinds pairs text old new block given room g (inr (inr (inl a))) = g.goes_over.advances.past a
+still-call kinds pairs text old new block given room g (inr (inr (inr a))) = g.goes_over.advances.no_room a
 
 -- of what was to come, as the first breaks these were found, and the others come from the state on
-pub record Taken (cell : ℕ → Cell) (table : FlatTable) (text : List ℕ) (new : SegmentState) (found : List RawBreak) (count : ℕ) (to_come : List Break) : Type 0 where
+pub record Taken (cell : ℕ → Cell) (kinds : List ℕ) (pairs : Neighbours) (text : List ℕ) (new : SegmentState) (found : List RawBreak) (count : ℕ) (to_come : List Break) : Type 0 where
   pub few : count ≤ length to_come
   pub same : map raw_of (take count to_come) ≡ found
-  pub comes : Comes cell table text new.breaks (drop count to_come)
+  pub comes : Comes cell kinds pairs text new.breaks (drop count to_come)
 
 -- so many segments were put into a block
-pub record IsPut (table : FlatTable) (text : List ℕ) (old new : SegmentState) (out : List Segment) (count : ℕ) : Type 0 where
+pub record IsPut (kinds : List ℕ) (pairs : Neighbours) (text : List ℕ) (old new : SegmentState) (out : List Segment) (count : ℕ) : Type 0 where
   pub found : List RawBreak
   pub room : count ≤ length out
   pub front : take count out ≡ segments_between old.start found
@@ -106,13 +106,13 @@ pub record IsPut (table : FlatTable) (text : List ℕ) (old new : SegmentState) 
   pub forward : 0 < count → (old.breaks.at < new.breaks.at) ⊎ (0 < new.breaks.ended)
   pub onward : old.breaks.at ≤ new.breaks.at
   pub at_end : old.breaks.ended ≡ 0 → 0 < new.breaks.ended → new.breaks.at ≡ length text
-  pub taken : (cell : ℕ → Cell) (to_come : List Break) → Comes cell table text old.breaks to_come → Taken cell table text new found count to_come
+  pub taken : (cell : ℕ → Cell) (to_come : List Break) → Comes cell kinds pairs text old.breaks to_come → Taken cell kinds pairs text new found count to_come
   pub sound : old.start ≤ old.breaks.at → old.breaks.at ≤ length text
       → AreWithin (length text) (segments_between old.start found) × (new.start ≤ new.breaks.at)
   pub still : IsStill old.breaks (length text) (length out) → (count ≡ 0) × (new ≡ old)
 
-pub put-none : (table : FlatTable) (text : List ℕ) (state : SegmentState) (out : List Segment) → IsPut table text state state out 0
-put-none table text state out = record {
+pub put-none : (kinds : List ℕ) (pairs : Neighbours) (text : List ℕ) (state : SegmentState) (out : List Segment) → IsPut kinds pairs text state state out 0
+put-none kinds pairs text state out = record {
   found = [];
   room = omega arith;
   front = refl;
@@ -132,16 +132,16 @@ length-drop {X} zero l few = omega arith
 length-drop {X} (suc n) [] few = absurd (omega (arith, few))
 length-drop {X} (suc n) (x ∷ xs) few = let more = length-drop n xs (omega (arith, few)) in omega (arith, more)
 
-pub taken-more : (cell : ℕ → Cell) (table : FlatTable) (text : List ℕ) (old new : SegmentState) (found block : List RawBreak) (count given room : ℕ) (to_come : List Break)
-    → Taken cell table text old found count to_come
+pub taken-more : (cell : ℕ → Cell) (kinds : List ℕ) (pairs : Neighbours) (text : List ℕ) (old new : SegmentState) (found block : List RawBreak) (count given room : ℕ) (to_come : List Break)
+    → Taken cell kinds pairs text old found count to_come
     → given ≡ min room (length (drop count to_come)) → map raw_of (take given (drop count to_come)) ≡ take given block
-    → Comes cell table text new.breaks (drop given (drop count to_come))
-    → Taken cell table text new (found ++ take given block) (count + given) to_come
-taken-more cell table text old new found block count given room to_come were counted same comes = record {
+    → Comes cell kinds pairs text new.breaks (drop given (drop count to_come))
+    → Taken cell kinds pairs text new (found ++ take given block) (count + given) to_come
+taken-more cell kinds pairs text old new found block count given room to_come were counted same comes = record {
   few = (let size = length-drop count to_come were.few in omega (arith, counted, size));
   same = ap (map raw_of) (take-both count given to_come) ∙ map-append raw_of (take count to_come) (take given (drop count to_come))
       ∙ ap₂ (λ (a b : List RawBreak). a ++ b) were.same same;
-  comes = subst (λ l. Comes cell table text new.breaks l) (drop-drop given count to_come) comes;
+  comes = subst (λ l. Comes cell kinds pairs text new.breaks l) (drop-drop given count to_come) comes;
 }
 
 -- one segment more
@@ -166,9 +166,9 @@ next-one start k breaks few =
     ap (next_start start) (take_more breaks k no_break few) ∙ next-append start (take k breaks) (slice_index_or breaks k no_break ∷ [])
 
 -- where the last of the breaks that were given stands: not behind the state
-last-within : (table : FlatTable) (text : List ℕ) (old new : State) (block : List RawBreak) (given room : ℕ) → GivesBreaks table text old new room block given
+last-within : (kinds : List ℕ) (pairs : Neighbours) (text : List ℕ) (old new : State) (block : List RawBreak) (given room : ℕ) → GivesBreaks kinds pairs text old new room block given
     → (k : ℕ) → k < given → (slice_index_or block k no_break).at ≤ new.at
-last-within table text old new block given room g k few =
+last-within kinds pairs text old new block given room g k few =
     ⊎_elim (λ (open_ : new.ended ≡ 0). (let b = (g.goes_over.before_state open_).within k few in omega (arith, b.1)))
     (λ (ended : 0 < new.ended). ⊎_elim (λ (was_open : old.ended ≡ 0). (let e = g.goes_over.advances.at_end was_open ended in let b = g.goes_over.in_order.within k few in omega (arith, e, b.1)))
     (λ (was_ended : 0 < old.ended). (let none = g.goes_over.advances.ended was_ended in absurd (omega (arith, few, none.0))))
@@ -176,12 +176,12 @@ last-within table text old new block given room g k few =
     (zero-or new.ended)
 
 -- some segments more
-pub put-more : (table : FlatTable) (text : List ℕ) (old here : SegmentState) (new : State) (next : ℕ) (before out : List Segment) (block breaks : List RawBreak) (count given room : ℕ)
-    → IsPut table text old here before count → GivesBreaks table text here.breaks new room block given
+pub put-more : (kinds : List ℕ) (pairs : Neighbours) (text : List ℕ) (old here : SegmentState) (new : State) (next : ℕ) (before out : List Segment) (block breaks : List RawBreak) (count given room : ℕ)
+    → IsPut kinds pairs text old here before count → GivesBreaks kinds pairs text here.breaks new room block given
     → given ≤ length block → breaks ≡ take given block → room ≡ min 64 (length before - count) → length out ≡ length before
     → take (count + length breaks) out ≡ take count before ++ segments_between here.start breaks → next ≡ next_start here.start breaks
-    → IsPut table text old (record { breaks = new; start = next }) out (count + given)
-put-more table text old here new next before out block breaks count given room i g few are full size front starts = record {
+    → IsPut kinds pairs text old (record { breaks = new; start = next }) out (count + given)
+put-more kinds pairs text old here new next before out block breaks count given room i g few are full size front starts = record {
   found = i.found ++ take given block;
   room = (let a = i.room in let b = g.goes_over.within in omega (arith, a, b, full, size));
   front =
@@ -202,7 +202,7 @@ put-more table text old here new next before out block breaks count given room i
   taken = λ cell to_come comes. (
       let were = i.taken cell to_come comes in
       let more = drop count to_come in
-      taken-more cell table text here (record { breaks = new; start = next }) i.found block count given room to_come were (g.gives cell more were.comes).count
+      taken-more cell kinds pairs text here (record { breaks = new; start = next }) i.found block count given room to_come were (g.gives cell more were.comes).count
       (shown-front given block (take given more) few (g.gives cell more were.comes).front g.goes_over.in_order.each) (g.gives cell more were.comes).rest);
   sound = λ low within. (
       let s = i.sound low within in
@@ -210,13 +210,13 @@ put-more table text old here new next before out block breaks count given room i
       let r = rise block given here.start here.breaks.at (suc (length text)) (length text) g.goes_over.in_order s.1 (omega arith) in
       let more = within-block block given here.start (length text) r in
       let joined = within-append (length text) (segments_between old.start i.found) (segments_between here.start (take given block)) s.0 more in
-      let last = next-block block given here.start new.at (omega (arith, s.1, g.goes_over.advances.onward)) (last-within table text here.breaks new block given room g) in (
+      let last = next-block block given here.start new.at (omega (arith, s.1, g.goes_over.advances.onward)) (last-within kinds pairs text here.breaks new block given room g) in (
         subst (AreWithin (length text)) (ap (λ n. segments_between old.start i.found ++ segments_between n (take given block)) i.next ∙ sym (between-append old.start i.found (take given block))) joined,
         subst (λ n. n ≤ new.at) (sym (starts ∙ ap (next_start here.start) are)) last,
       ));
   still = λ stays. (
       let was = i.still (subst (IsStill old.breaks (length text)) size stays) in
-      let now = still-call table text here.breaks new block given room g (subst (λ (s : SegmentState). IsStill s.breaks (length text) room) (sym was.1) (still-room old.breaks (length text) (length before) room (λ empty. omega (arith, full, empty)) (subst (IsStill old.breaks (length text)) size stays))) in
+      let now = still-call kinds pairs text here.breaks new block given room g (subst (λ (s : SegmentState). IsStill s.breaks (length text) room) (sym was.1) (still-room old.breaks (length text) (length before) room (λ empty. omega (arith, full, empty)) (subst (IsStill old.breaks (length text)) size stays))) in
       let stood : next ≡ here.start = starts ∙ ap (next_start here.start) (are ∙ ap (λ n. take n block) now.0) in
       (omega (arith, was.0, now.0), ap₂ (λ (b : State) (n : ℕ). record { breaks = b; start = n }) now.1 stood ∙ was.1));
 }
@@ -237,17 +237,17 @@ put-more table text old here new next before out block breaks count given room i
     still-room state len n room empty (inr (inr (inr full_))) = inr (inr (inr (empty full_)))
 
 -- the segments to the breaks of a call, which gave them into the front of a block
-pub put-given : (table : FlatTable) (text : List ℕ) (old here : SegmentState) (new : State) (next : ℕ) (before out : List Segment) (block front rest : List RawBreak) (count given room : ℕ)
-    → IsPut table text old here before count → length block ≡ 64 → room ≡ min 64 (length before - count) → length front ≡ length (take room block)
-    → GivesBreaks table text here.breaks new (length (take room block)) front given → length out ≡ length before
+pub put-given : (kinds : List ℕ) (pairs : Neighbours) (text : List ℕ) (old here : SegmentState) (new : State) (next : ℕ) (before out : List Segment) (block front rest : List RawBreak) (count given room : ℕ)
+    → IsPut kinds pairs text old here before count → length block ≡ 64 → room ≡ min 64 (length before - count) → length front ≡ length (take room block)
+    → GivesBreaks kinds pairs text here.breaks new (length (take room block)) front given → length out ≡ length before
     → take (count + length (take given (front ++ rest))) out ≡ take count before ++ segments_between here.start (take given (front ++ rest))
     → next ≡ next_start here.start (take given (front ++ rest))
-    → IsPut table text old (record { breaks = new; start = next }) out (count + given)
-put-given table text old here new next before out block front rest count given room i sized is_room long g same put starts =
+    → IsPut kinds pairs text old (record { breaks = new; start = next }) out (count + given)
+put-given kinds pairs text old here new next before out block front rest count given room i sized is_room long g same put starts =
     let size = length-take-le room block (omega (arith, is_room, sized)) in
     let few : given ≤ length front = omega (arith, g.goes_over.within, long) in
-    put-more table text old here new next before out front (take given (front ++ rest)) count given room i
-    (subst (λ n. GivesBreaks table text here.breaks new n front given) size g) few (take-append-le given front rest few) is_room same put starts
+    put-more kinds pairs text old here new next before out front (take given (front ++ rest)) count given room i
+    (subst (λ n. GivesBreaks kinds pairs text here.breaks new n front given) size g) few (take-append-le given front rest few) is_room same put starts
 
 -- a block whose front was written is as long as before
 pub same-length : (front block : List RawBreak) (room size : ℕ) → length front ≡ room → room ≤ size → length block ≡ size → length (front ++ drop room block) ≡ size

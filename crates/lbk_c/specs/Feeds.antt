@@ -4,9 +4,9 @@ use Rattle.std.specs.Prelude.{drop, length, map, take}
 use Rattle.bstr.specs.Utf8.{Decoded, pieces}
 use Rattle.lbk_rules.specs.declared.Break.{Break}
 use Rattle.lbk_rules.specs.declared.Cell.{Cell}
-use Rattle.lbk_rules.specs.declared.flat_table.FlatTable.{FlatTable}
+use Rattle.lbk_rules.specs.declared.neighbours.Neighbours.{Neighbours}
 use Rattle.lbk_values.specs.declared.profile.Profile.{Profile}
-use Rattle.lbk_rules.specs.FlatTable.{IsFlatOf}
+use Rattle.lbk_rules.specs.FlatTable.{IsFlatBy}
 use Rattle.lbk_rules.specs.Joins.{moved}
 use Rattle.lbk_bytes.specs.declared.raw_break.RawBreak.{RawBreak}
 use Rattle.lbk_bytes.specs.Bytes.{breaks_of_bytes, breaks_of_part}
@@ -47,10 +47,11 @@ pub record FeedsOver {A : Type 0} (carried : List ℕ → List A) (old new : Str
 -- whatever units follow the piece (none, where it is the last), if these breaks are to come of all of them: what is
 -- given comes first of these, and the others come next
 pub record FeedsNext {A : Type 0} (pieces_of : List A → List Decoded) (carried : List ℕ → List A)
-    (could_go_on : List A → Bool) (cell : ℕ → Cell) (table : FlatTable) (old new : Stream) (piece more : List A)
-    (last : Bool) (room : ℕ) (out : List RawBreak) (fed : Fed) (to_come : List Break) : Type 0 where
+    (could_go_on : List A → Bool) (cell : ℕ → Cell) (kinds : List ℕ) (pairs : Neighbours) (old new : Stream)
+    (piece more : List A) (last : Bool) (room : ℕ) (out : List RawBreak) (fed : Fed)
+    (to_come : List Break) : Type 0 where
   pub front : (last ≡ true → more ≡ []) → given_in out fed.count ≡ take fed.count to_come
-  pub rest : (last ≡ true → more ≡ []) → StreamsIn pieces_of carried cell table new (drop fed.taken piece ++ more)
+  pub rest : (last ≡ true → more ≡ []) → StreamsIn pieces_of carried cell kinds pairs new (drop fed.taken piece ++ more)
       (drop fed.count to_come)
   pub settled : last ≡ false → old.ended ≡ 0 → fed.count < room
       → AreUnsettledIn pieces_of carried could_go_on cell new more (drop fed.count to_come)
@@ -61,29 +62,29 @@ pub record FeedsNext {A : Type 0} (pieces_of : List A → List Decoded) (carried
 -- the text goes on (true) or ends. A stream holds at most `widest` units of a scalar that was cut
 pub record TakesPiece {A : Type 0} (pieces_of : List A → List Decoded) (carried : List ℕ → List A)
     (could_go_on : List A → Bool) (widest : ℕ) (whole : Profile → (ℕ → Cell) → List A → List Break)
-    (part_of : Bool → Profile → (ℕ → Cell) → List A → List Break) (table : FlatTable) (old new : Stream)
-    (piece : List A) (last : Bool) (room : ℕ) (out : List RawBreak) (fed : Fed) : Type 0 where
+    (part_of : Bool → Profile → (ℕ → Cell) → List A → List Break) (kinds : List ℕ) (pairs : Neighbours)
+    (old new : Stream) (piece : List A) (last : Bool) (room : ℕ) (out : List RawBreak) (fed : Fed) : Type 0 where
   pub over : FeedsOver carried old new (length piece) last room out fed
-  pub start : (cell : ℕ → Cell) (profile : Profile) (text : List A) → IsFlatOf table cell → length text < 2 ^ 64
+  pub start : (cell : ℕ → Cell) (profile : Profile) (text : List A) → IsFlatBy kinds pairs cell → length text < 2 ^ 64
       → old ≡ stream_start profile
-      → StreamsIn pieces_of carried cell table old text (whole profile cell text)
+      → StreamsIn pieces_of carried cell kinds pairs old text (whole profile cell text)
   -- offsets count from the start of the text
-  pub part : (cell : ℕ → Cell) (profile : Profile) (goes_on : Bool) (at : ℕ) (text : List A) → IsFlatOf table cell
+  pub part : (cell : ℕ → Cell) (profile : Profile) (goes_on : Bool) (at : ℕ) (text : List A) → IsFlatBy kinds pairs cell
       → at + length text < 2 ^ 64
       → old ≡ part_stream goes_on profile at
-      → StreamsIn pieces_of carried cell table old text (map (moved at) (part_of goes_on profile cell text))
+      → StreamsIn pieces_of carried cell kinds pairs old text (map (moved at) (part_of goes_on profile cell text))
   pub next : (cell : ℕ → Cell) (more : List A) (to_come : List Break)
-      → StreamsIn pieces_of carried cell table old (piece ++ more) to_come
-      → FeedsNext pieces_of carried could_go_on cell table old new piece more last room out fed to_come
+      → StreamsIn pieces_of carried cell kinds pairs old (piece ++ more) to_come
+      → FeedsNext pieces_of carried could_go_on cell kinds pairs old new piece more last room out fed to_come
   pub cut : old.cut_size ≤ widest → new.cut_size ≤ widest
-  pub end : (cell : ℕ → Cell) (to_come : List Break) → StreamsIn pieces_of carried cell table old piece to_come
+  pub end : (cell : ℕ → Cell) (to_come : List Break) → StreamsIn pieces_of carried cell kinds pairs old piece to_come
       → last ≡ true → fed.count < room → fed.count ≡ length to_come
 
 -- of bytes, of which a stream holds at most four, and of units of 16 bits, of which it holds at most two
-abbrev pub TakesBytes : FlatTable → Stream → Stream → List ℕ → Bool → ℕ → List RawBreak → Fed → Type 0
+abbrev pub TakesBytes : List ℕ → Neighbours → Stream → Stream → List ℕ → Bool → ℕ → List RawBreak → Fed → Type 0
 TakesBytes = TakesPiece pieces (λ bytes. bytes) could_go_on 4 breaks_of_bytes breaks_of_part
 
-abbrev pub TakesUtf16 : FlatTable → Stream → Stream → List ℕ → Bool → ℕ → List RawBreak → Fed → Type 0
+abbrev pub TakesUtf16 : List ℕ → Neighbours → Stream → Stream → List ℕ → Bool → ℕ → List RawBreak → Fed → Type 0
 TakesUtf16 =
     TakesPiece pieces_of_utf16 units_in could_go_on_utf16 2 breaks_of_utf16
     (λ goes_on profile cell text. breaks_of_part_of goes_on profile cell (pieces_of_utf16 text))

@@ -2,7 +2,7 @@
 use Rattle.std.specs.Prelude.{◌≡◌, ℕ, false, suc, ◌+◌, ◌-◌, ◌*◌, ◌<◌, ◌≤◌, List, length, min}
 use Rattle.lbk_rules.specs.declared.Break.{Break}
 use Rattle.lbk_rules.specs.declared.Cell.{Cell}
-use Rattle.lbk_rules.specs.declared.flat_table.FlatTable.{FlatTable}
+use Rattle.lbk_rules.specs.declared.neighbours.Neighbours.{Neighbours}
 use Rattle.lbk_bytes.specs.Marks.{boundary_from, from_on, is_marked, stands_among}
 use Rattle.lbk_calls.specs.declared.interface.State.{State}
 use Rattle.lbk_calls.specs.Calls.{Advances, BreaksComeAtStart}
@@ -23,16 +23,16 @@ pub record MarksOver (old new : State) (size room : ℕ) (words : List ℕ) (res
 -- if these breaks are to come from a state on (lbk_breaks gives the same), the bits of their offsets are set and no
 -- others, and the breaks after the covered offsets are to come from the new state on. That state is at the first scalar
 -- after the covered offsets, read from the old state on, or at the end
-pub record MarksNext (cell : ℕ → Cell) (table : FlatTable) (text : List ℕ) (old new : State) (room : ℕ)
-    (words : List ℕ) (to_come : List Break) : Type 0 where
+pub record MarksNext (cell : ℕ → Cell) (kinds : List ℕ) (pairs : Neighbours) (text : List ℕ) (old new : State)
+    (room : ℕ) (words : List ℕ) (to_come : List Break) : Type 0 where
   pub bits : (i : ℕ) → i < 64 * room → is_marked words i ≡ stands_among (old.at + i) to_come
-  pub rest : Comes cell table text new (from_on (old.at + 64 * room) to_come)
+  pub rest : Comes cell kinds pairs text new (from_on (old.at + 64 * room) to_come)
   pub boundary : old.ended ≡ 0 → new.at ≡ boundary_from text old.at (old.at + 64 * room)
 
 -- all that a call promises of the words that it fills
-pub record MarksWords (table : FlatTable) (text : List ℕ) (old new : State) (room : ℕ) (words : List ℕ) (result : ℕ)
-    : Type 0 where
+pub record MarksWords (kinds : List ℕ) (pairs : Neighbours) (text : List ℕ) (old new : State) (room : ℕ)
+    (words : List ℕ) (result : ℕ) : Type 0 where
   pub marks_over : MarksOver old new (length text) room words result
-  pub begins : BreaksComeAtStart table text old
-  pub marks_next : (cell : ℕ → Cell) (to_come : List Break) → Comes cell table text old to_come
-      → MarksNext cell table text old new room words to_come
+  pub begins : BreaksComeAtStart kinds pairs text old
+  pub marks_next : (cell : ℕ → Cell) (to_come : List Break) → Comes cell kinds pairs text old to_come
+      → MarksNext cell kinds pairs text old new room words to_come

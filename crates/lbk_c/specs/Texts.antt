@@ -35,4 +35,4 @@ file_numbered number =
     if number == 0 then codes "the four files" else option_map_or file_name (which_numbered number) []
 
 abbrev pub version : List ℕ
-version = codes "0.1.0"
+version = codes "0.2.0"

@@ -26,11 +26,12 @@ pub extern "C" fn lbk_breaks(
     text: &[u8],
     out: &mut [RawBreak],
 ) -> usize
-    ensures gives { GivesBreaks table.now text.now state.old state.new (length out.old) out.new result }
+    ensures gives { GivesBreaks table.now.kinds table.now.pairs text.now state.old state.new (length out.old) out.new
+        result }
     ensures well_formed { (cell : ℕ → Cell) (profile : Profile) → IsUtf8 text.now
         → breaks_of_bytes profile cell text.now ≡ breaks profile cell (chars text.now) }
 {
-    give_breaks::<true>(table, state, text, out)
+    give_breaks::<true, FlatTable>(table, state, text, out)
 }
 
 /// Writes the next breaks of a text in UTF-16 to the front of the block, as `lbk_breaks` does for UTF-8, and returns
@@ -47,7 +48,7 @@ pub extern "C" fn lbk_breaks_utf16(
     text: &[u16],
     out: &mut [RawBreak],
 ) -> usize
-    ensures gives { GivesBreaksOf pieces_of_utf16 table.now text.now state.old state.new
+    ensures gives { GivesBreaksOf pieces_of_utf16 table.now.kinds table.now.pairs text.now state.old state.new
         (length out.old) out.new result }
     // Of well-formed text the breaks are those of its scalars.
     ensures well_formed { AreThoseOfScalars encode_utf16_all breaks_of_utf16 breaks_of_utf32 }
@@ -69,14 +70,14 @@ pub extern "C" fn lbk_breaks_utf32(
     text: &[u32],
     out: &mut [RawBreak],
 ) -> usize
-    ensures gives { GivesBreaksOf pieces_of_utf32 table.now text.now state.old state.new
+    ensures gives { GivesBreaksOf pieces_of_utf32 table.now.kinds table.now.pairs text.now state.old state.new
         (length out.old) out.new result }
     // Of well-formed text the breaks are those of its scalars, which the rules know by their places in UTF-8.
     ensures well_formed { (cell : ℕ → Cell) (profile : Profile) → all_scalars text.now ≡ true
         → breaks profile cell text.now
         ≡ map (placed_in encode_utf8_all text.now) (breaks_of_utf32 profile cell text.now) }
 {
-    next_of::<Breaks, u32>(table, state, text, out)
+    next_of::<Breaks, u32, FlatTable>(table, state, text, out)
 }
 
 /// Writes the next positions of a text to the front of the block, from the state on, and returns how many: as many as
@@ -94,7 +95,8 @@ pub extern "C" fn lbk_positions(
     text: &[u8],
     out: &mut [RawBreak],
 ) -> usize
-    ensures gives { GivesPositionsOf pieces table.now text.now state.old state.new (length out.old) out.new result }
+    ensures gives { GivesPositionsOf pieces table.now.kinds table.now.pairs text.now state.old state.new
+        (length out.old) out.new result }
     // The breaks of a text are those of its positions where a line may or must end.
     ensures breaks { AreAmong positions_of_bytes breaks_of_bytes text.now }
     // Of well-formed text the positions are those of its scalars.
@@ -116,14 +118,14 @@ pub extern "C" fn lbk_positions_utf16(
     text: &[u16],
     out: &mut [RawBreak],
 ) -> usize
-    ensures gives { GivesPositionsOf pieces_of_utf16 table.now text.now state.old state.new
+    ensures gives { GivesPositionsOf pieces_of_utf16 table.now.kinds table.now.pairs text.now state.old state.new
         (length out.old) out.new result }
     // The breaks of a text are those of its positions where a line may or must end.
     ensures breaks { AreAmong positions_of_utf16 breaks_of_utf16 text.now }
     // Of well-formed text the positions are those of its scalars.
     ensures well_formed { AreThoseOfScalars encode_utf16_all positions_of_utf16 positions_of_utf32 }
 {
-    next_of::<Positions, u16>(table, state, text, out)
+    next_of::<Positions, u16, FlatTable>(table, state, text, out)
 }
 
 /// Writes the next positions of a text in UTF-32 to the front of the block, as `lbk_positions` does for UTF-8, and
@@ -139,10 +141,10 @@ pub extern "C" fn lbk_positions_utf32(
     text: &[u32],
     out: &mut [RawBreak],
 ) -> usize
-    ensures gives { GivesPositionsOf pieces_of_utf32 table.now text.now state.old state.new
+    ensures gives { GivesPositionsOf pieces_of_utf32 table.now.kinds table.now.pairs text.now state.old state.new
         (length out.old) out.new result }
     // The breaks of a text are those of its positions where a line may or must end.
     ensures breaks { AreAmong positions_of_utf32 breaks_of_utf32 text.now }
 {
-    next_of::<Positions, u32>(table, state, text, out)
+    next_of::<Positions, u32, FlatTable>(table, state, text, out)
 }

@@ -20,7 +20,8 @@ pub extern "C" fn lbk_chunks(
     text: &[u8],
     out: &mut [Chunk],
 ) -> usize
-    ensures { GivesChunks table.now limits.now text.now state.old state.new (length out.old) out.new result }
+    ensures { GivesChunks table.now.kinds table.now.pairs limits.now text.now state.old state.new (length out.old)
+        out.new result }
 {
     chunks(table, limits, state, text, out)
 }

@@ -15,7 +15,7 @@ use lbk_streams::{cut, cut_before, cut_before_utf16, cut_utf16};
 /// part except the last is a break by rule 4 or 5 instead of 3.
 #[unsafe(no_mangle)]
 pub extern "C" fn lbk_cut(table: &FlatTable, text: &[u8], at: usize) -> usize
-    ensures { CutsAfter pieces table.now text.now at result }
+    ensures { CutsAfter pieces table.now.kinds table.now.pairs text.now at result }
 {
     cut(table, text, at)
 }
@@ -23,7 +23,7 @@ pub extern "C" fn lbk_cut(table: &FlatTable, text: &[u8], at: usize) -> usize
 /// The last offset at or before `at` at which a part of a text may begin. An `at` past the text counts as its end.
 #[unsafe(no_mangle)]
 pub extern "C" fn lbk_cut_before(table: &FlatTable, text: &[u8], at: usize) -> usize
-    ensures { CutsBefore pieces table.now text.now at result }
+    ensures { CutsBefore pieces table.now.kinds table.now.pairs text.now at result }
 {
     cut_before(table, text, at)
 }
@@ -33,7 +33,7 @@ pub extern "C" fn lbk_cut_before(table: &FlatTable, text: &[u8], at: usize) -> u
 /// is 0, where the first part begins.
 #[unsafe(no_mangle)]
 pub extern "C" fn lbk_cut_utf16(table: &FlatTable, text: &[u16], at: usize) -> usize
-    ensures { CutsAfter pieces_of_utf16 table.now text.now at result }
+    ensures { CutsAfter pieces_of_utf16 table.now.kinds table.now.pairs text.now at result }
 {
     cut_utf16(table, text, at)
 }
@@ -42,7 +42,7 @@ pub extern "C" fn lbk_cut_utf16(table: &FlatTable, text: &[u16], at: usize) -> u
 /// end.
 #[unsafe(no_mangle)]
 pub extern "C" fn lbk_cut_before_utf16(table: &FlatTable, text: &[u16], at: usize) -> usize
-    ensures { CutsBefore pieces_of_utf16 table.now text.now at result }
+    ensures { CutsBefore pieces_of_utf16 table.now.kinds table.now.pairs text.now at result }
 {
     cut_before_utf16(table, text, at)
 }

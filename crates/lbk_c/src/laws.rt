@@ -1,34 +1,48 @@
-//! Laws about states, digests and empty files. Each is the contract of a function that does nothing.
+//! Laws about breaks, states, digests and empty files. Each is the contract of a function that does nothing.
 
-ghost use Rattle.std.specs.Prelude.{◌≡◌, ℕ, ◌^◌, ◌<◌, ◌≤◌, List, [], drop, length};
-ghost use Rattle.lbk_calls.specs.Terms.{Break, Cell, Decoded, FlatTable, IsWhole, digest_with, pieces_of_utf16};
-ghost use Rattle.lbk_calls.specs.Terms.{pieces_of_utf32};
+ghost use Rattle.std.specs.Prelude.{◌≡◌, ℕ, ◌^◌, ◌<◌, ◌≤◌, List, [], ◌∷◌, ◌++◌, drop, length, map};
+ghost use Rattle.lbk_calls.specs.Terms.{Break, Cell, Decoded, FlatTable, IsWhole, Profile, digest_with};
+ghost use Rattle.lbk_calls.specs.Terms.{pieces_of_utf16, pieces_of_utf32};
+ghost use Rattle.lbk_bytes.specs.Bytes.{breaks_of_bytes};
 ghost use Rattle.lbk_calls.specs.declared.interface.State.{State};
+ghost use Rattle.lbk_rules.specs.Joins.{moved};
+ghost use Rattle.lbk_rules.specs.declared.neighbours.Neighbours.{Neighbours};
 ghost use Rattle.lbk_ucd.specs.File.{Format, IsLawful, property_of};
 ghost use Rattle.lbk_c.specs.Checked.{DifferInOne, numbers_of};
 ghost use Rattle.lbk_calls.specs.Coming.{Comes, PositionsCome, UnitsCome};
 ghost use Rattle.lbk_words.specs.Words.{words_on};
 
+/// The breaks after a break are those of the rest of the text as a separate text: nothing before a break affects what
+/// comes after it. So a text whose first lines are laid out can go on at the start of any line.
+pub fn breaks_after_a_break()
+    ensures { (profile : Profile) (cell : ℕ → Cell) (text : List ℕ) (front back : List Break) (here : Break)
+        → breaks_of_bytes profile cell text ≡ front ++ here ∷ back
+        → back ≡ map (moved here.at) (breaks_of_bytes profile cell (drop here.at text)) }
+{}
+
 /// What is returned from a state on depends only on the state and on the bytes of the text from its offset on. The
 /// bytes before the offset may change, but not their number. The same holds for units, positions and words.
 pub fn only_bytes_from_a_state_on()
-    ensures breaks { (cell : ℕ → Cell) (table : FlatTable) (text other : List ℕ) (state : State) (to_come : List Break)
-        → Comes cell table text state to_come → state.at ≤ length other → drop state.at other ≡ drop state.at text
-        → Comes cell table other state to_come }
-    ensures utf16 { (cell : ℕ → Cell) (table : FlatTable) (text other : List ℕ) (state : State) (to_come : List Break)
-        → UnitsCome pieces_of_utf16 cell table text state to_come → state.at ≤ length other → drop state.at other
+    ensures breaks { (cell : ℕ → Cell) (kinds : List ℕ) (pairs : Neighbours) (text other : List ℕ) (state : State)
+        (to_come : List Break)
+        → Comes cell kinds pairs text state to_come → state.at ≤ length other → drop state.at other ≡ drop state.at text
+        → Comes cell kinds pairs other state to_come }
+    ensures utf16 { (cell : ℕ → Cell) (kinds : List ℕ) (pairs : Neighbours) (text other : List ℕ) (state : State)
+        (to_come : List Break)
+        → UnitsCome pieces_of_utf16 cell kinds pairs text state to_come → state.at ≤ length other → drop state.at other
         ≡ drop state.at text
-        → UnitsCome pieces_of_utf16 cell table other state to_come }
-    ensures utf32 { (cell : ℕ → Cell) (table : FlatTable) (text other : List ℕ) (state : State) (to_come : List Break)
-        → UnitsCome pieces_of_utf32 cell table text state to_come → state.at ≤ length other → drop state.at other
+        → UnitsCome pieces_of_utf16 cell kinds pairs other state to_come }
+    ensures utf32 { (cell : ℕ → Cell) (kinds : List ℕ) (pairs : Neighbours) (text other : List ℕ) (state : State)
+        (to_come : List Break)
+        → UnitsCome pieces_of_utf32 cell kinds pairs text state to_come → state.at ≤ length other → drop state.at other
         ≡ drop state.at text
-        → UnitsCome pieces_of_utf32 cell table other state to_come }
+        → UnitsCome pieces_of_utf32 cell kinds pairs other state to_come }
     // Of positions, by what the encoding reads of some units.
-    ensures positions { (pieces_of : List ℕ → List Decoded) (cell : ℕ → Cell) (table : FlatTable)
+    ensures positions { (pieces_of : List ℕ → List Decoded) (cell : ℕ → Cell) (kinds : List ℕ) (pairs : Neighbours)
         (text other : List ℕ) (state : State) (to_come : List Break)
-        → PositionsCome pieces_of cell table text state to_come → state.at ≤ length other → drop state.at other
+        → PositionsCome pieces_of cell kinds pairs text state to_come → state.at ≤ length other → drop state.at other
         ≡ drop state.at text
-        → PositionsCome pieces_of cell table other state to_come }
+        → PositionsCome pieces_of cell kinds pairs other state to_come }
     // Of words a state is the byte from which they come.
     ensures words { (text other : List ℕ) (at : ℕ) → drop at other ≡ drop at text → words_on other at
         ≡ words_on text at }

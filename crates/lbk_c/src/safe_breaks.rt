@@ -2,7 +2,7 @@
 
 ghost use Rattle.std.specs.Prelude.{◌≡◌, ℕ, ◌-◌, ◌<◌, ◌≤◌, ◌↔◌, List, true, length};
 ghost use Rattle.bstr.specs.Utf8.{pieces};
-ghost use Rattle.lbk_calls.specs.Terms.{Cell, Decoded, IsFlatOf, IsPlace, Profile};
+ghost use Rattle.lbk_calls.specs.Terms.{Cell, Decoded, IsFlatBy, IsFlatOf, IsPlace, Profile};
 ghost use Rattle.lbk_calls.specs.State.{profile_number};
 ghost use Rattle.lbk_rules.specs.Rows.{IsShown};
 ghost use Rattle.lbk_rules.specs.FlatTable.{KnowsTaken};
@@ -12,7 +12,7 @@ ghost use Rattle.lbk_c.specs.SafeBreaks.{IsLastAlike, IsLastFrom, IsSafeBreak};
 ghost use Rattle.lbk_c.specs.SafeSteps.{FindsNext, IsSafeFrom};
 
 use lbk_bytes::{END, decide_one, profile_numbered};
-use lbk_rules::{FlatTable, Profile, shows_break};
+use lbk_rules::{FlatTable, KindSource, Profile, shows_break};
 use lbk_streams::cut_before;
 
 /// An offset before the end of a text such that the breaks after it are those of the text that begins there: the last
@@ -29,7 +29,32 @@ pub extern "C" fn lbk_safe_break(table: &FlatTable, profile: u8, text: &[u8]) ->
     ensures behind_cuts { (cell : ℕ → Cell) (place : ℕ) → IsFlatOf table.now cell → IsSafeCut cell text.now place
         → place < length text.now
         → place ≤ result }
-    ensures unknown { 1 < profile → CutsBefore pieces table.now text.now (length text.now - 1) result }
+    ensures unknown { 1 < profile → CutsBefore pieces table.now.kinds table.now.pairs text.now (length text.now - 1)
+        result }
+{
+    safe_break(table, profile, text)
+}
+
+/// `lbk_safe_break` over any source of kinds.
+pub fn safe_break<K: KindSource>(table: &K, profile: u8, text: &[u8]) -> usize
+    ensures within { result ≤ length text.now }
+    ensures before_end { 0 < length text.now → result < length text.now }
+    ensures safe { (cell : ℕ → Cell) (rules : Profile)
+        → IsFlatBy (K.kinds_of table.now) (K.pairs_of table.now) cell
+        → profile ≡ profile_number rules
+        → IsSafeBreak rules cell text.now result }
+    ensures last { (cell : ℕ → Cell) (rules : Profile)
+        → IsFlatBy (K.kinds_of table.now) (K.pairs_of table.now) cell
+        → profile ≡ profile_number rules
+        → 0 < length text.now
+        → IsLastAlike rules cell text.now result }
+    ensures behind_cuts { (cell : ℕ → Cell) (place : ℕ)
+        → IsFlatBy (K.kinds_of table.now) (K.pairs_of table.now) cell
+        → IsSafeCut cell text.now place
+        → place < length text.now
+        → place ≤ result }
+    ensures unknown { 1 < profile
+        → CutsBefore pieces (K.kinds_of table.now) (K.pairs_of table.now) text.now (length text.now - 1) result }
 {
     let cut = cut_before(table, text, text.len().saturating_sub(1));
     match profile_numbered(profile) {
@@ -39,13 +64,13 @@ pub extern "C" fn lbk_safe_break(table: &FlatTable, profile: u8, text: &[u8]) ->
 }
 
 /// The last break after a cut that begins alike, or else the cut.
-fn last_alike(table: &FlatTable, rules: Profile, text: &[u8], cut: usize) -> usize
+fn last_alike<K: KindSource>(table: &K, rules: Profile, text: &[u8], cut: usize) -> usize
     requires { (cut ≤ length text.now) × (0 < length text.now → cut < length text.now) }
     ensures within { (cut ≤ result) × (result ≤ length text.now) }
     ensures before_end { 0 < length text.now → result < length text.now }
-    ensures safe { (cell : ℕ → Cell) → IsFlatOf table.now cell → 0 < length text.now
+    ensures safe { (cell : ℕ → Cell) → IsFlatBy (K.kinds_of table.now) (K.pairs_of table.now) cell → 0 < length text.now
         → IsSafeFrom rules cell text.now cut result }
-    ensures last { (cell : ℕ → Cell) → IsFlatOf table.now cell → 0 < length text.now
+    ensures last { (cell : ℕ → Cell) → IsFlatBy (K.kinds_of table.now) (K.pairs_of table.now) cell → 0 < length text.now
         → IsLastFrom rules cell text.now cut result }
 {
     let mut safe = cut;
@@ -75,12 +100,19 @@ struct NextBreak {
 }
 
 /// The next break from a byte on, by the row there.
-fn next_break(table: &FlatTable, rules: Profile, text: &[u8], row: usize, from: usize) -> NextBreak
+fn next_break<K: KindSource>(
+    table: &K,
+    rules: Profile,
+    text: &[u8],
+    row: usize,
+    from: usize,
+) -> NextBreak
     requires { IsPlace row × (from ≤ length text.now) }
     ensures within { (from ≤ result.at) × (result.at ≤ result.behind) × (result.behind ≤ length text.now) }
     ensures forward { result.at < length text.now → result.at < result.behind }
     ensures shown { IsPlace result.row × IsShown result.shown }
-    ensures finds { (cell : ℕ → Cell) (before : List Decoded) → IsFlatOf table.now cell
+    ensures finds { (cell : ℕ → Cell) (before : List Decoded)
+        → IsFlatBy (K.kinds_of table.now) (K.pairs_of table.now) cell
         → KnowsTaken cell row (scalars_of before)
         → FindsNext rules cell text.now before from result }
 {

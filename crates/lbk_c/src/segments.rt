@@ -56,9 +56,11 @@ pub extern "C" fn lbk_segments(
     ensures advances { Advances state.old.breaks state.new.breaks (length text.now) (length out.old) result }
     ensures all { state.old.breaks.profile ≤ 3 → state.old.breaks.at ≤ length text.now → result < length out.old
         → 0 < state.new.breaks.ended }
-    ensures begins { BreaksComeAtStart table.now text.now state.old.breaks }
-    ensures gives { (cell : ℕ → Cell) (to_come : List Break) → Comes cell table.now text.now state.old.breaks to_come
-        → SegmentsNext (Comes cell table.now text.now) state.old state.new (length out.old) out.new result to_come }
+    ensures begins { BreaksComeAtStart table.now.kinds table.now.pairs text.now state.old.breaks }
+    ensures gives { (cell : ℕ → Cell) (to_come : List Break)
+        → Comes cell table.now.kinds table.now.pairs text.now state.old.breaks to_come
+        → SegmentsNext (Comes cell table.now.kinds table.now.pairs text.now) state.old state.new (length out.old)
+        out.new result to_come }
     // Of any table: each segment is within the text, and ends at a break by a rule.
     ensures sound { state.old.start ≤ state.old.breaks.at → state.old.breaks.at ≤ length text.now
         → AreWithin (length text.now) (take result out.new) × (state.new.start ≤ state.new.breaks.at)
@@ -74,7 +76,12 @@ pub extern "C" fn lbk_segments(
     let mut count = 0;
     loop {
         let room = BLOCK.min(out.len() - count);
-        let given = give_breaks::<true>(table, &mut state.breaks, text, &mut block[..room]);
+        let given = give_breaks::<true, FlatTable>(
+            table,
+            &mut state.breaks,
+            text,
+            &mut block[..room],
+        );
         state.start = put_segments(&block[..given], state.start, out, count);
         count += given;
         if given < BLOCK {

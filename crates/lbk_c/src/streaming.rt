@@ -24,9 +24,10 @@ pub extern "C" fn lbk_feed(
     last: bool,
     out: &mut [RawBreak],
 ) -> Fed
-    ensures { TakesBytes table.now stream.old stream.new piece.now last (length out.old) out.new result }
+    ensures { TakesBytes table.now.kinds table.now.pairs stream.old stream.new piece.now last (length out.old) out.new
+        result }
 {
-    feed::<u8>(table, stream, piece, last, out)
+    feed::<u8, FlatTable>(table, stream, piece, last, out)
 }
 
 /// Takes the next piece of a stream in UTF-16, as `lbk_feed` does for UTF-8: offsets count units of 16 bits, and a
@@ -44,7 +45,8 @@ pub extern "C" fn lbk_feed_utf16(
     last: bool,
     out: &mut [RawBreak],
 ) -> Fed
-    ensures { TakesUtf16 table.now stream.old stream.new piece.now last (length out.old) out.new result }
+    ensures { TakesUtf16 table.now.kinds table.now.pairs stream.old stream.new piece.now last (length out.old) out.new
+        result }
 {
-    feed::<u16>(table, stream, piece, last, out)
+    feed::<u16, FlatTable>(table, stream, piece, last, out)
 }

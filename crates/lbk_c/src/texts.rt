@@ -33,12 +33,12 @@ pub extern "C" fn lbk_file_name(file: u32) -> Text
     text_of(file_numbered(file))
 }
 
-/// The version of the library, as `0.1.0`.
+/// The version of the library, as `0.2.0`.
 #[unsafe(no_mangle)]
 pub extern "C" fn lbk_version() -> Text
     ensures { result.text ≡ padded 96 version }
 {
-    text_of("0.1.0")
+    text_of("0.2.0")
 }
 
 /// A text for C, padded by zeros.

@@ -8,12 +8,12 @@ use lib.Utf8.{scalars}
 use Rattle.bstr.specs.Utf8.{Decoded, pieces}
 use Rattle.lbk_rules.specs.declared.Break.{Break}
 use Rattle.lbk_rules.specs.declared.Cell.{Cell}
-use Rattle.lbk_rules.specs.declared.flat_table.FlatTable.{FlatTable}
+use Rattle.lbk_rules.specs.declared.neighbours.Neighbours.{Neighbours}
 use Rattle.lbk_values.specs.declared.profile.Profile.{Profile}
 use Rattle.lbk_values.specs.declared.profile.Profile.TheVariants.{First, Second}
 use Rattle.lbk_rules.specs.Breaks.{breaks}
 use Rattle.lbk_rules.specs.Joins.{moved}
-use Rattle.lbk_rules.specs.FlatTable.{IsFlatOf, KnowsTaken}
+use Rattle.lbk_rules.specs.FlatTable.{IsFlatBy, KnowsTaken}
 use Rattle.lbk_rules.specs.Rows.{IsPlace}
 use Rattle.lbk_rules.proofs.FlatLemmas.{left-start}
 use Rattle.lbk_bytes.specs.declared.fill_state.FillState.{FillState}
@@ -42,11 +42,11 @@ use Rattle.lbk_bytes.proofs.PartLemmas.{part-onward}
 use Rattle.lbk_bytes.proofs.ReachedLemmas.{given-many, onward-start, profile-same}
 
 module _ {A : Type 0} (from : Onward) (pieces_of : List A → List Decoded) where
-  units-begun : (cell : ℕ → Cell) (table : FlatTable) (text : List A) (profile : Profile) (at : ℕ) (state : State) (to_come : List Break) → IsFlatOf table cell → at ≤ length text
+  units-begun : (cell : ℕ → Cell) (kinds : List ℕ) (pairs : Neighbours) (text : List A) (profile : Profile) (at : ℕ) (state : State) (to_come : List Break) → IsFlatBy kinds pairs cell → at ≤ length text
       → state ≡ record { at = at; row = 0; profile = profile_number profile; ended = 0 } → to_come ≡ from profile cell [] at (pieces_of (drop at text))
-      → UnitsComeBy from pieces_of cell table text state to_come
-  units-begun cell table text profile at state to_come flat within starts whole =
-      subst (λ s. UnitsComeBy from pieces_of cell table text s to_come) (sym starts) (record {
+      → UnitsComeBy from pieces_of cell kinds pairs text state to_come
+  units-begun cell kinds pairs text profile at state to_come flat within starts whole =
+      subst (λ s. UnitsComeBy from pieces_of cell kinds pairs text s to_come) (sym starts) (record {
         profile = profile;
         named = profile-same profile;
         flat = flat;
@@ -63,10 +63,10 @@ module _ {A : Type 0} (from : Onward) (pieces_of : List A → List Decoded) wher
       })
 
   -- whatever stands before the state's place
-  pub units-other : (cell : ℕ → Cell) (table : FlatTable) (text other : List A) (state : State) (to_come : List Break)
-      → UnitsComeBy from pieces_of cell table text state to_come → state.at ≤ length other → drop state.at other ≡ drop state.at text
-      → UnitsComeBy from pieces_of cell table other state to_come
-  units-other cell table text other state to_come comes within same = record {
+  pub units-other : (cell : ℕ → Cell) (kinds : List ℕ) (pairs : Neighbours) (text other : List A) (state : State) (to_come : List Break)
+      → UnitsComeBy from pieces_of cell kinds pairs text state to_come → state.at ≤ length other → drop state.at other ≡ drop state.at text
+      → UnitsComeBy from pieces_of cell kinds pairs other state to_come
+  units-other cell kinds pairs text other state to_come comes within same = record {
     profile = comes.profile;
     named = comes.named;
     flat = comes.flat;
@@ -144,30 +144,30 @@ module _ {A : Type 0} (from : Onward) (pieces_of : List A → List Decoded) wher
       }
 
   -- from a spent state nothing comes
-  pub units-none : (cell : ℕ → Cell) (table : FlatTable) (text : List A) (state : State) (to_come : List Break)
-      → IsSpent state (length text) → UnitsComeBy from pieces_of cell table text state to_come → to_come ≡ []
-  units-none cell table text state to_come (inl unnamed) c = absurd (let no : ⊥ = (let named = c.named in cc) in no)
-  units-none cell table text state to_come (inr (inl ended)) c = c.onto.none_come ended
-  units-none cell table text state to_come (inr (inr past)) c = absurd (let within = c.onto.within in omega arith)
+  pub units-none : (cell : ℕ → Cell) (kinds : List ℕ) (pairs : Neighbours) (text : List A) (state : State) (to_come : List Break)
+      → IsSpent state (length text) → UnitsComeBy from pieces_of cell kinds pairs text state to_come → to_come ≡ []
+  units-none cell kinds pairs text state to_come (inl unnamed) c = absurd (let no : ⊥ = (let named = c.named in cc) in no)
+  units-none cell kinds pairs text state to_come (inr (inl ended)) c = c.onto.none_come ended
+  units-none cell kinds pairs text state to_come (inr (inr past)) c = absurd (let within = c.onto.within in omega arith)
 
   -- what a call gives of the breaks to come
-  pub units-go : (profile : Profile) (cell : ℕ → Cell) (table : FlatTable) (text : List A) (old new : State) (to_come given : List Break) (count room : ℕ)
-      → ((cell : ℕ → Cell) (to_come : List Break) → IsFlatOf table cell
+  pub units-go : (profile : Profile) (cell : ℕ → Cell) (kinds : List ℕ) (pairs : Neighbours) (text : List A) (old new : State) (to_come given : List Break) (count room : ℕ)
+      → ((cell : ℕ → Cell) (to_come : List Break) → IsFlatBy kinds pairs cell
       → UnitsReachedBy from profile cell (on_from pieces_of text) to_come (from_state old) []
       → UnitsGo from pieces_of profile cell text to_come new given count room)
-      → IsGoing profile old (length text) → (c : UnitsComeBy from pieces_of cell table text old to_come)
+      → IsGoing profile old (length text) → (c : UnitsComeBy from pieces_of cell kinds pairs text old to_come)
       → UnitsGo from pieces_of profile cell text to_come new given count room
-  units-go profile cell table text old new to_come given count room goes going c =
+  units-go profile cell kinds pairs text old new to_come given count room goes going c =
       let same = same-profile c.profile profile old c.named going.named in
       goes cell to_come c.flat
       (subst (λ p. UnitsReachedBy from p cell (on_from pieces_of text) to_come (from_state old) []) same (c.onto.goes_on going.unended))
 
   -- and the others come from the next state on
-  pub units-next : (profile : Profile) (cell : ℕ → Cell) (table : FlatTable) (text : List A) (old new : State) (to_come given : List Break) (count room : ℕ)
-      → IsGoing profile old (length text) → new.profile ≡ old.profile → (c : UnitsComeBy from pieces_of cell table text old to_come)
+  pub units-next : (profile : Profile) (cell : ℕ → Cell) (kinds : List ℕ) (pairs : Neighbours) (text : List A) (old new : State) (to_come given : List Break) (count room : ℕ)
+      → IsGoing profile old (length text) → new.profile ≡ old.profile → (c : UnitsComeBy from pieces_of cell kinds pairs text old to_come)
       → UnitsGo from pieces_of profile cell text to_come new given count room
-      → UnitsComeBy from pieces_of cell table text new (drop count to_come)
-  units-next profile cell table text old new to_come given count room going kept c goes = record {
+      → UnitsComeBy from pieces_of cell kinds pairs text new (drop count to_come)
+  units-next profile cell kinds pairs text old new to_come given count room going kept c goes = record {
     profile = profile;
     named = ap profile_numbered kept ∙ going.named;
     flat = c.flat;
@@ -176,23 +176,23 @@ module _ {A : Type 0} (from : Onward) (pieces_of : List A → List Decoded) wher
 
 -- at the start of a part of a text, after which the text goes on or ends, by what comes then
 module _ {A : Type 0} (from_in : Bool → Onward) (pieces_of : List A → List Decoded) where
-  pub units-part : (cell : ℕ → Cell) (table : FlatTable) (text : List A) (goes : Bool) (profile : Profile) (at : ℕ) (state : State) (to_come : List Break) → IsFlatOf table cell → at ≤ length text
+  pub units-part : (cell : ℕ → Cell) (kinds : List ℕ) (pairs : Neighbours) (text : List A) (goes : Bool) (profile : Profile) (at : ℕ) (state : State) (to_come : List Break) → IsFlatBy kinds pairs cell → at ≤ length text
       → state ≡ part_start goes profile at → to_come ≡ from_in goes profile cell [] at (pieces_of (drop at text))
-      → UnitsComeBy (from_in (goes_on state.profile)) pieces_of cell table text (plain state) to_come
-  units-part cell table text goes profile at state to_come flat within starts whole =
-      subst (λ s. UnitsComeBy (from_in (goes_on s.profile)) pieces_of cell table text (plain s) to_come) (sym starts) (flagged goes profile whole)
+      → UnitsComeBy (from_in (goes_on state.profile)) pieces_of cell kinds pairs text (plain state) to_come
+  units-part cell kinds pairs text goes profile at state to_come flat within starts whole =
+      subst (λ s. UnitsComeBy (from_in (goes_on s.profile)) pieces_of cell kinds pairs text (plain s) to_come) (sym starts) (flagged goes profile whole)
     where
       flagged : (goes : Bool) (profile : Profile) → to_come ≡ from_in goes profile cell [] at (pieces_of (drop at text))
-          → UnitsComeBy (from_in (goes_on (part_start goes profile at).profile)) pieces_of cell table text (plain (part_start goes profile at)) to_come
-      flagged true First whole = units-begun (from_in true) pieces_of cell table text First at _ to_come flat within refl whole
-      flagged true Second whole = units-begun (from_in true) pieces_of cell table text Second at _ to_come flat within refl whole
-      flagged false First whole = units-begun (from_in false) pieces_of cell table text First at _ to_come flat within refl whole
-      flagged false Second whole = units-begun (from_in false) pieces_of cell table text Second at _ to_come flat within refl whole
+          → UnitsComeBy (from_in (goes_on (part_start goes profile at).profile)) pieces_of cell kinds pairs text (plain (part_start goes profile at)) to_come
+      flagged true First whole = units-begun (from_in true) pieces_of cell kinds pairs text First at _ to_come flat within refl whole
+      flagged true Second whole = units-begun (from_in true) pieces_of cell kinds pairs text Second at _ to_come flat within refl whole
+      flagged false First whole = units-begun (from_in false) pieces_of cell kinds pairs text First at _ to_come flat within refl whole
+      flagged false Second whole = units-begun (from_in false) pieces_of cell kinds pairs text Second at _ to_come flat within refl whole
 
-  pub units-start : (cell : ℕ → Cell) (table : FlatTable) (text : List A) (profile : Profile) (state : State) (to_come : List Break) → IsFlatOf table cell → state ≡ start_in profile
+  pub units-start : (cell : ℕ → Cell) (kinds : List ℕ) (pairs : Neighbours) (text : List A) (profile : Profile) (state : State) (to_come : List Break) → IsFlatBy kinds pairs cell → state ≡ start_in profile
       → to_come ≡ from_in false profile cell [] 0 (pieces_of text)
-      → UnitsComeBy (from_in (goes_on state.profile)) pieces_of cell table text (plain state) to_come
-  units-start cell table text profile state to_come flat starts whole = units-part cell table text false profile 0 state to_come flat (omega arith) starts whole
+      → UnitsComeBy (from_in (goes_on state.profile)) pieces_of cell kinds pairs text (plain state) to_come
+  units-start cell kinds pairs text profile state to_come flat starts whole = units-part cell kinds pairs text false profile 0 state to_come flat (omega arith) starts whole
 
 -- the breaks of scalars, by their places in UTF-8
 pub breaks-scalars : (profile : Profile) (cell : ℕ → Cell) (cs : List ℕ) → scalars cs ≡ true
@@ -206,19 +206,19 @@ module _ {A : Type 0} (onward : AtEnd → Onward) (end_in : Bool → AtEnd) (pie
     (part_of : Bool → Profile → (ℕ → Cell) → List A → List Break) where
   pub come-at-start : ((profile : Profile) (cell : ℕ → Cell) (text : List A) → whole profile cell text ≡ onward (end_in false) profile cell [] 0 (pieces_of text))
       → ((goes : Bool) (profile : Profile) (cell : ℕ → Cell) (at : ℕ) (part : List A) → map (moved at) (part_of goes profile cell part) ≡ onward (end_in goes) profile cell [] at (pieces_of part))
-      → (table : FlatTable) (text : List A) (state : State) → ComeAtStart (ComeOf onward end_in pieces_of) whole part_of table text state
-  come-at-start is_whole is_part table text state = record {
-    start = λ cell profile flat starts. units-start (λ goes. onward (end_in goes)) pieces_of cell table text profile state _ flat starts (is_whole profile cell text);
+      → (kinds : List ℕ) (pairs : Neighbours) (text : List A) (state : State) → ComeAtStart (ComeOf onward end_in pieces_of) whole part_of kinds pairs text state
+  come-at-start is_whole is_part kinds pairs text state = record {
+    start = λ cell profile flat starts. units-start (λ goes. onward (end_in goes)) pieces_of cell kinds pairs text profile state _ flat starts (is_whole profile cell text);
     part = λ cell profile goes at flat within starts.
-        units-part (λ goes. onward (end_in goes)) pieces_of cell table text goes profile at state _ flat within starts (is_part goes profile cell at (drop at text));
+        units-part (λ goes. onward (end_in goes)) pieces_of cell kinds pairs text goes profile at state _ flat within starts (is_part goes profile cell at (drop at text));
   }
 
 -- the same by what pieces have
 pub units-begin : {A : Type 0} (onward : AtEnd → Onward) (end_in : Bool → AtEnd) (pieces_of : List A → List Decoded) (whole : Profile → (ℕ → Cell) → List Decoded → List Break)
     (part_of : Bool → Profile → (ℕ → Cell) → List Decoded → List Break)
     → AreGivenWhole onward end_in whole part_of
-    → (table : FlatTable) (text : List A) (state : State)
-    → ComeAtStart (ComeOf onward end_in pieces_of) (λ profile cell text. whole profile cell (pieces_of text)) (λ goes profile cell part. part_of goes profile cell (pieces_of part)) table text state
+    → (kinds : List ℕ) (pairs : Neighbours) (text : List A) (state : State)
+    → ComeAtStart (ComeOf onward end_in pieces_of) (λ profile cell text. whole profile cell (pieces_of text)) (λ goes profile cell part. part_of goes profile cell (pieces_of part)) kinds pairs text state
 units-begin onward end_in pieces_of whole part_of given =
     come-at-start onward end_in pieces_of (λ profile cell text. whole profile cell (pieces_of text)) (λ goes profile cell part. part_of goes profile cell (pieces_of part))
     (λ profile cell text. given.starts profile cell (pieces_of text)) (λ goes profile cell at part. given.parts goes profile cell at (pieces_of part))
@@ -231,10 +231,10 @@ positions-given = record { starts = all-start; parts = all-part }
 
 -- what a call gives from a state on
 module _ {A : Type 0} (Is : RawBreak → Type 0) (onward : AtEnd → Onward) (end_in : Bool → AtEnd) (pieces_of : List A → List Decoded) (whole : Profile → (ℕ → Cell) → List A → List Break)
-    (part_of : Bool → Profile → (ℕ → Cell) → List A → List Break) (table : FlatTable) (text : List A) (old : State)
-    (begins : ComeAtStart (ComeOf onward end_in pieces_of) whole part_of table text old) where
+    (part_of : Bool → Profile → (ℕ → Cell) → List A → List Break) (kinds : List ℕ) (pairs : Neighbours) (text : List A) (old : State)
+    (begins : ComeAtStart (ComeOf onward end_in pieces_of) whole part_of kinds pairs text old) where
   abbrev GivesTo : State → ℕ → List RawBreak → ℕ → Type 0
-  GivesTo = Gives (ComeOf onward end_in pieces_of) whole part_of (AreInOrderBy Is) table text old
+  GivesTo = Gives (ComeOf onward end_in pieces_of) whole part_of (AreInOrderBy Is) kinds pairs text old
 
   abbrev from : Onward
   from = onward (end_in (goes_on old.profile))
@@ -245,14 +245,14 @@ module _ {A : Type 0} (Is : RawBreak → Type 0) (onward : AtEnd → Onward) (en
     goes_over = over-none Is old (length text) room out spent;
     begins = begins;
     gives = λ cell to_come comes.
-        let none = ap length (units-none from pieces_of cell table text (plain old) to_come spent comes) in
+        let none = ap length (units-none from pieces_of cell kinds pairs text (plain old) to_come spent comes) in
         record { count = omega arith; front = refl; rest = comes };
   }
 
   -- of another what comes, and what is left comes from the next state on
   gives-some : (profile : Profile) (new : State) (room : ℕ) (out : List RawBreak) (result : ℕ) → IsGoing profile (plain old) (length text)
       → GoesOver (AreInOrderBy Is) old new (length text) room out result
-      → ((cell : ℕ → Cell) (to_come : List Break) → IsFlatOf table cell → UnitsReachedBy from profile cell (on_from pieces_of text) to_come (from_state (plain old)) []
+      → ((cell : ℕ → Cell) (to_come : List Break) → IsFlatBy kinds pairs cell → UnitsReachedBy from profile cell (on_from pieces_of text) to_come (from_state (plain old)) []
       → UnitsGo from pieces_of profile cell text to_come (plain new) (given_in out result) result room)
       → GivesTo new room out result
   gives-some profile new room out result going over goes = record {
@@ -260,20 +260,20 @@ module _ {A : Type 0} (Is : RawBreak → Type 0) (onward : AtEnd → Onward) (en
     begins = begins;
     gives = λ cell to_come comes.
         let kept = over.advances.profile_same in
-        let gone = units-go from pieces_of profile cell table text (plain old) (plain new) to_come (given_in out result) result room goes going comes in
+        let gone = units-go from pieces_of profile cell kinds pairs text (plain old) (plain new) to_come (given_in out result) result room goes going comes in
         record {
           count = gone.counted;
           front = gone.front;
           rest =
-              subst (λ n. UnitsComeBy (onward (end_in (goes_on n))) pieces_of cell table text (plain new) (drop result to_come)) (sym kept)
-              (units-next from pieces_of profile cell table text (plain old) (plain new) to_come (given_in out result) result room going (ap plain_number kept) comes gone);
+              subst (λ n. UnitsComeBy (onward (end_in (goes_on n))) pieces_of cell kinds pairs text (plain new) (drop result to_come)) (sym kept)
+              (units-next from pieces_of profile cell kinds pairs text (plain old) (plain new) to_come (given_in out result) result room going (ap plain_number kept) comes gone);
         };
   }
 
   -- a block was filled from the state on, and the state was moved to where the call got
   pub gives-filled : (profile : Profile) (start here : FillState) (block filled : List RawBreak) (new : State) (out : List RawBreak) (result : ℕ)
       → IsGoing profile (plain old) (length text) → start ≡ start_by old → (IsPlace old.row → start ≡ from_state old) → length filled ≡ length block
-      → Fills Is onward pieces_of table profile text block start filled here
+      → Fills Is onward pieces_of kinds pairs profile text block start filled here
       → ((profile : Profile) → IsGoing profile (plain old) (length text) → IsInOrderBy Is filled here.count old.at here.at
       → (length filled ≡ 0 → here ≡ start_by old)
       → GoesOver (AreInOrderBy Is) old new (length text) (length filled) out result)
@@ -295,7 +295,7 @@ module _ {A : Type 0} (Is : RawBreak → Type 0) (onward : AtEnd → Onward) (en
 
 -- Bytes
 
-pub bytes-begin : (table : FlatTable) (text : List ℕ) (state : State) → BreaksComeAtStart table text state
+pub bytes-begin : (kinds : List ℕ) (pairs : Neighbours) (text : List ℕ) (state : State) → BreaksComeAtStart kinds pairs text state
 bytes-begin = come-at-start onward_to end_in pieces breaks_of_bytes breaks_of_part (λ profile cell text. onward-start profile cell (pieces text)) part-onward
 
 -- what was reached of bytes, and of units of eight bits
@@ -307,9 +307,9 @@ module _ (from : Onward) (profile : Profile) (cell : ℕ → Cell) (text : List 
   of-units r = record { taken = r.taken; knows = r.knows; some = r.some; joined = r.joined }
 
 -- a block was filled with breaks of bytes, as with those of units of eight bits
-pub fills-bytes : (table : FlatTable) (profile : Profile) (text : List ℕ) (old : List RawBreak) (start : FillState) (new : List RawBreak) (here : FillState)
-    → step.Fills profile table.kinds table.pairs text old start new here → Fills IsBreak onward_to pieces table profile text old start new here
-fills-bytes table profile text old start new here fills = record {
+pub fills-bytes : (kinds : List ℕ) (pairs : Neighbours) (profile : Profile) (text : List ℕ) (old : List RawBreak) (start : FillState) (new : List RawBreak) (here : FillState)
+    → step.Fills profile kinds pairs text old start new here → Fills IsBreak onward_to pieces kinds pairs profile text old start new here
+fills-bytes kinds pairs profile text old start new here fills = record {
   within = fills.within;
   stops = fills.stops;
   no_room = fills.no_room;

@@ -3,9 +3,9 @@ use Rattle.std.specs.Prelude.{◌≡◌, ℕ, Bool, false, suc, ◌<◌, ◌≤�
 use Rattle.bstr.specs.Utf8.{Decoded}
 use Rattle.lbk_rules.specs.declared.Break.{Break}
 use Rattle.lbk_rules.specs.declared.Cell.{Cell}
-use Rattle.lbk_rules.specs.declared.flat_table.FlatTable.{FlatTable}
+use Rattle.lbk_rules.specs.declared.neighbours.Neighbours.{Neighbours}
 use Rattle.lbk_values.specs.declared.profile.Profile.{Profile}
-use Rattle.lbk_rules.specs.FlatTable.{IsFlatOf}
+use Rattle.lbk_rules.specs.FlatTable.{IsFlatBy}
 use Rattle.lbk_rules.specs.Joins.{moved}
 use Rattle.lbk_bytes.specs.declared.raw_break.RawBreak.{RawBreak}
 use Rattle.lbk_bytes.specs.Bytes.{AtEnd, breaks_of_bytes, breaks_of_part, end_in}
@@ -51,32 +51,32 @@ pub record GivesNext (Come : State → List Break → Type 0) (new : State) (roo
 
 -- `Come` says that these are to come from a state on. `whole` has the breaks or positions of a text, and `part_of`
 -- those of a part of a text, after which the text goes on (true) or ends
-module _ {A : Type 0} (Come : (ℕ → Cell) → FlatTable → List A → State → List Break → Type 0)
+module _ {A : Type 0} (Come : (ℕ → Cell) → List ℕ → Neighbours → List A → State → List Break → Type 0)
     (whole : Profile → (ℕ → Cell) → List A → List Break)
     (part_of : Bool → Profile → (ℕ → Cell) → List A → List Break) where
   -- all of a text are to come from the state at its start, and those of a part, which may begin at any unit, from the
   -- state there
-  pub record ComeAtStart (table : FlatTable) (text : List A) (state : State) : Type 0 where
-    pub start : (cell : ℕ → Cell) (profile : Profile) → IsFlatOf table cell → state ≡ start_in profile
-        → Come cell table text state (whole profile cell text)
-    pub part : (cell : ℕ → Cell) (profile : Profile) (goes_on : Bool) (at : ℕ) → IsFlatOf table cell
+  pub record ComeAtStart (kinds : List ℕ) (pairs : Neighbours) (text : List A) (state : State) : Type 0 where
+    pub start : (cell : ℕ → Cell) (profile : Profile) → IsFlatBy kinds pairs cell → state ≡ start_in profile
+        → Come cell kinds pairs text state (whole profile cell text)
+    pub part : (cell : ℕ → Cell) (profile : Profile) (goes_on : Bool) (at : ℕ) → IsFlatBy kinds pairs cell
         → at ≤ length text
         → state ≡ part_start goes_on profile at
-        → Come cell table text state (map (moved at) (part_of goes_on profile cell (drop at text)))
+        → Come cell kinds pairs text state (map (moved at) (part_of goes_on profile cell (drop at text)))
 
   -- a call gives the next ones from a state on
-  pub record Gives (InOrder : List RawBreak → ℕ → ℕ → ℕ → Type 0) (table : FlatTable) (text : List A)
+  pub record Gives (InOrder : List RawBreak → ℕ → ℕ → ℕ → Type 0) (kinds : List ℕ) (pairs : Neighbours) (text : List A)
       (old new : State) (room : ℕ) (out : List RawBreak) (result : ℕ) : Type 0 where
     pub goes_over : GoesOver InOrder old new (length text) room out result
-    pub begins : ComeAtStart table text old
-    pub gives : (cell : ℕ → Cell) (to_come : List Break) → Come cell table text old to_come
-        → GivesNext (Come cell table text) new room out result to_come
+    pub begins : ComeAtStart kinds pairs text old
+    pub gives : (cell : ℕ → Cell) (to_come : List Break) → Come cell kinds pairs text old to_come
+        → GivesNext (Come cell kinds pairs text) new room out result to_come
 
 -- the breaks of bytes
-abbrev pub BreaksComeAtStart : FlatTable → List ℕ → State → Type 0
+abbrev pub BreaksComeAtStart : List ℕ → Neighbours → List ℕ → State → Type 0
 BreaksComeAtStart = ComeAtStart Comes breaks_of_bytes breaks_of_part
 
-abbrev pub GivesBreaks : FlatTable → List ℕ → State → State → ℕ → List RawBreak → ℕ → Type 0
+abbrev pub GivesBreaks : List ℕ → Neighbours → List ℕ → State → State → ℕ → List RawBreak → ℕ → Type 0
 GivesBreaks = Gives Comes breaks_of_bytes breaks_of_part AreInOrder
 
 -- what pieces have as a whole text, and as a part of one, is what is given from their first on
@@ -92,19 +92,19 @@ pub record AreGivenWhole (onward : AtEnd → Onward) (end_in : Bool → AtEnd)
 -- what pieces have as a text and as a part of one
 abbrev pub GivesBy : {A : Type 0} → (RawBreak → Type 0) → (AtEnd → Onward) → (Bool → AtEnd)
     → (Profile → (ℕ → Cell) → List Decoded → List Break)
-    → (Bool → Profile → (ℕ → Cell) → List Decoded → List Break) → (List A → List Decoded) → FlatTable → List A
+    → (Bool → Profile → (ℕ → Cell) → List Decoded → List Break) → (List A → List Decoded) → List ℕ → Neighbours → List A
     → State → State → ℕ → List RawBreak → ℕ → Type 0
 GivesBy Is onward end_in whole part_of pieces_of =
     Gives (ComeOf onward end_in pieces_of) (λ profile cell text. whole profile cell (pieces_of text))
     (λ goes_on profile cell part. part_of goes_on profile cell (pieces_of part)) (AreInOrderBy Is)
 
 -- their breaks
-abbrev pub GivesBreaksOf : {A : Type 0} → (List A → List Decoded) → FlatTable → List A → State → State → ℕ
+abbrev pub GivesBreaksOf : {A : Type 0} → (List A → List Decoded) → List ℕ → Neighbours → List A → State → State → ℕ
     → List RawBreak → ℕ → Type 0
 GivesBreaksOf pieces_of = GivesBy IsBreak onward_to end_in breaks_of_pieces breaks_of_part_of pieces_of
 
 -- and their positions
-abbrev pub GivesPositionsOf : {A : Type 0} → (List A → List Decoded) → FlatTable → List A → State → State → ℕ
+abbrev pub GivesPositionsOf : {A : Type 0} → (List A → List Decoded) → List ℕ → Neighbours → List A → State → State → ℕ
     → List RawBreak → ℕ → Type 0
 GivesPositionsOf pieces_of =
     GivesBy IsPosition onward_all position_end_in positions_of_pieces positions_of_part_of pieces_of

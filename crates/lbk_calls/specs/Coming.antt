@@ -4,9 +4,9 @@ use Rattle.std.specs.Prelude.{None}
 use Rattle.bstr.specs.Utf8.{Decoded, pieces}
 use Rattle.lbk_rules.specs.declared.Break.{Break}
 use Rattle.lbk_rules.specs.declared.Cell.{Cell}
-use Rattle.lbk_rules.specs.declared.flat_table.FlatTable.{FlatTable}
+use Rattle.lbk_rules.specs.declared.neighbours.Neighbours.{Neighbours}
 use Rattle.lbk_values.specs.declared.profile.Profile.{Profile}
-use Rattle.lbk_rules.specs.FlatTable.{IsFlatOf, KnowsTaken}
+use Rattle.lbk_rules.specs.FlatTable.{IsFlatBy, KnowsTaken}
 use Rattle.lbk_rules.specs.Rows.{IsPlace, place_by}
 use Rattle.lbk_bytes.specs.declared.fill_state.FillState.{FillState}
 use Rattle.lbk_bytes.specs.declared.raw_break.RawBreak.{RawBreak}
@@ -47,30 +47,30 @@ pub record UnitsOnto {A : Type 0} (from : Onward) (pieces_of : List A → List D
 
 -- the state came of the start of this text, and these are to come
 pub record UnitsComeBy {A : Type 0} (from : Onward) (pieces_of : List A → List Decoded) (cell : ℕ → Cell)
-    (table : FlatTable) (text : List A) (state : State) (to_come : List Break) : Type 0 where
+    (kinds : List ℕ) (pairs : Neighbours) (text : List A) (state : State) (to_come : List Break) : Type 0 where
   pub profile : Profile
   pub named : profile_numbered state.profile ≡ Some profile
-  pub flat : IsFlatOf table cell
+  pub flat : IsFlatBy kinds pairs cell
   pub onto : UnitsOnto from pieces_of profile cell text state to_come
 
 -- the same of what is given from a unit on, by what comes at the end, which the number of a profile tells
 abbrev pub ComeOf : {A : Type 0} → (AtEnd → Onward) → (Bool → AtEnd) → (List A → List Decoded) → (ℕ → Cell)
-    → FlatTable → List A → State → List Break → Type 0
-ComeOf onward end_in pieces_of cell table text state to_come =
-    UnitsComeBy (onward (end_in (goes_on state.profile))) pieces_of cell table text (plain state) to_come
+    → List ℕ → Neighbours → List A → State → List Break → Type 0
+ComeOf onward end_in pieces_of cell kinds pairs text state to_come =
+    UnitsComeBy (onward (end_in (goes_on state.profile))) pieces_of cell kinds pairs text (plain state) to_come
 
 -- the same of breaks
-abbrev pub UnitsCome : {A : Type 0} → (List A → List Decoded) → (ℕ → Cell) → FlatTable → List A → State
+abbrev pub UnitsCome : {A : Type 0} → (List A → List Decoded) → (ℕ → Cell) → List ℕ → Neighbours → List A → State
     → List Break → Type 0
 UnitsCome = ComeOf onward_to end_in
 
 -- the same of all positions
-abbrev pub PositionsCome : {A : Type 0} → (List A → List Decoded) → (ℕ → Cell) → FlatTable → List A → State
+abbrev pub PositionsCome : {A : Type 0} → (List A → List Decoded) → (ℕ → Cell) → List ℕ → Neighbours → List A → State
     → List Break → Type 0
 PositionsCome = ComeOf onward_all position_end_in
 
 -- the breaks of bytes
-abbrev pub Comes : (ℕ → Cell) → FlatTable → List ℕ → State → List Break → Type 0
+abbrev pub Comes : (ℕ → Cell) → List ℕ → Neighbours → List ℕ → State → List Break → Type 0
 Comes = UnitsCome pieces
 
 -- the breaks from a byte on, by what the number of a profile says of the text's end

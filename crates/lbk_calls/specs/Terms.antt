@@ -3,7 +3,7 @@ pub use Rattle.bstr.specs.Utf8.{Decoded, pieces}
 pub use Rattle.lbk_values.specs.declared.profile.Profile.{Profile}
 pub use Rattle.lbk_values.specs.declared.profile.Profile.TheVariants.{First}
 pub use Rattle.lbk_rules.specs.Breaks.{breaks}
-pub use Rattle.lbk_rules.specs.FlatTable.{IsFlatOf, IsWhole, digest_with}
+pub use Rattle.lbk_rules.specs.FlatTable.{IsFlatBy, IsFlatOf, IsWhole, digest_with}
 pub use Rattle.lbk_rules.specs.Joins.{moved}
 pub use Rattle.lbk_rules.specs.Rows.{IsPlace}
 pub use Rattle.lbk_rules.specs.declared.Break.{Break}

@@ -29,11 +29,12 @@ pub extern "C" fn lbk_breaks(
     text: &[u8],
     out: &mut [RawBreak],
 ) -> usize
-    ensures gives { GivesBreaks table.now text.now state.old state.new (length out.old) out.new result }
+    ensures gives { GivesBreaks table.now.kinds table.now.pairs text.now state.old state.new (length out.old) out.new
+        result }
     ensures well_formed { (cell : ℕ → Cell) (profile : Profile) → IsUtf8 text.now
         → breaks_of_bytes profile cell text.now ≡ breaks profile cell (chars text.now) }
 {
-    give_breaks::<false>(table, state, text, out)
+    give_breaks::<false, FlatTable>(table, state, text, out)
 }
 
 /// The state with only the profile in its profile number.
@@ -73,12 +74,12 @@ pub extern "C" fn lbk_breaks_utf16(
     text: &[u16],
     out: &mut [RawBreak],
 ) -> usize
-    ensures gives { GivesBreaksOf pieces_of_utf16 table.now text.now state.old state.new
+    ensures gives { GivesBreaksOf pieces_of_utf16 table.now.kinds table.now.pairs text.now state.old state.new
         (length out.old) out.new result }
     // Of well-formed text the breaks are those of its scalars.
     ensures well_formed { AreThoseOfScalars encode_utf16_all breaks_of_utf16 breaks_of_utf32 }
 {
-    next_of::<Breaks, u16>(table, state, text, out)
+    next_of::<Breaks, u16, FlatTable>(table, state, text, out)
 }
 
 /// Writes the next positions of a text to the front of the block, from the state on, and returns how many: as many as
@@ -96,11 +97,12 @@ pub extern "C" fn lbk_positions(
     text: &[u8],
     out: &mut [RawBreak],
 ) -> usize
-    ensures gives { GivesPositionsOf pieces table.now text.now state.old state.new (length out.old) out.new result }
+    ensures gives { GivesPositionsOf pieces table.now.kinds table.now.pairs text.now state.old state.new
+        (length out.old) out.new result }
     // The breaks of a text are those of its positions where a line may or must end.
     ensures breaks { AreAmong positions_of_bytes breaks_of_bytes text.now }
     // Of well-formed text the positions are those of its scalars.
     ensures well_formed { AreThoseOfScalars encode_utf8_all positions_of_bytes positions_of_utf32 }
 {
-    next_of::<Positions, u8>(table, state, text, out)
+    next_of::<Positions, u8, FlatTable>(table, state, text, out)
 }

@@ -14,7 +14,7 @@ use lbk_bytes::{
     END, FEW, FillState, RawBreak, START, begins_emoji, end_shown, fill_few, fill_on, goes_on,
     put_end,
 };
-use lbk_rules::{FlatTable, Profile, number_at, place_by, shows_break};
+use lbk_rules::{KindSource, Profile, number_at, place_by, shows_break};
 use lbk_units::{Breaks, Positions, Target, Unit, fill, put_position};
 
 /// What a call gives of a text: its breaks, or all its positions.
@@ -58,8 +58,8 @@ impl Given for Positions {
 
 /// Puts the next of what is given of a text into the front of the block, and returns how many: of what pieces have as
 /// a whole text and as a part of one, if that is what is given from their first on.
-pub fn next_of<T: Given, U: Unit>(
-    table: &FlatTable,
+pub fn next_of<T: Given, U: Unit, K: KindSource>(
+    table: &K,
     state: &mut State,
     text: &[U],
     out: &mut [RawBreak],
@@ -67,81 +67,85 @@ pub fn next_of<T: Given, U: Unit>(
     ensures { (whole : Profile → (ℕ → Cell) → List Decoded → List Break)
         (part_of : Bool → Profile → (ℕ → Cell) → List Decoded → List Break)
         → AreGivenWhole T.onward T.end_in whole part_of
-        → GivesBy T.entry T.onward T.end_in whole part_of U.pieces_of table.now text.now state.old state.new
+        → GivesBy T.entry T.onward T.end_in whole part_of U.pieces_of (K.kinds_of table.now) (K.pairs_of table.now)
+        text.now state.old state.new
         (length out.old) out.new result }
 {
     let Some(profile) = going_profile(&plain(state), text.len()) else {
         return 0;
     };
     let start = start_of(state);
-    let here = fill::<U, T>(table, profile, start, text, out);
+    let here = fill::<U, T, K>(table, profile, start, text, out);
     settle::<T, U>(state, here, text, out)
 }
 
 /// Puts the next breaks of a text into the front of the block, as `lbk_breaks` does, and returns how many. They are
 /// found by masks or without them.
-pub fn give_breaks<const MASKS: bool>(
-    table: &FlatTable,
+pub fn give_breaks<const MASKS: bool, K: KindSource>(
+    table: &K,
     state: &mut State,
     text: &[u8],
     out: &mut [RawBreak],
 ) -> usize
-    ensures { GivesBreaks table.now text.now state.old state.new (length out.old) out.new result }
+    ensures { GivesBreaks (K.kinds_of table.now) (K.pairs_of table.now) text.now state.old state.new (length out.old)
+        out.new result }
 {
     // A target that has no vectors is one where the size of the code counts, as in a page.
     if MASKS && state.at <= text.len() {
         let left = text.len() - state.at;
         if left < FEW && left < out.len() {
             if state.profile == 0 && state.ended == 0 {
-                return give_plain::<MASKS>(table, state, text, out);
+                return give_plain::<MASKS, K>(table, state, text, out);
             }
-            return give_few::<MASKS>(table, state, text, out);
+            return give_few::<MASKS, K>(table, state, text, out);
         }
         if begins_emoji(&text[state.at..]) {
-            return give_many::<MASKS, true>(table, state, text, out);
+            return give_many::<MASKS, true, K>(table, state, text, out);
         }
     }
-    give_many::<MASKS, false>(table, state, text, out)
+    give_many::<MASKS, false, K>(table, state, text, out)
 }
 
 /// Does the same where fewer bytes are left than the block has room for, in the first profile, in which no position is
 /// held, and where the text ends with its last byte. It stands apart, as `give_few` and `give_many` do, so that what
 /// one of them needs costs the others nothing.
 #[inline(never)]
-fn give_plain<const MASKS: bool>(
-    table: &FlatTable,
+fn give_plain<const MASKS: bool, K: KindSource>(
+    table: &K,
     state: &mut State,
     text: &[u8],
     out: &mut [RawBreak],
 ) -> usize
     requires plain { (state.old.profile ≡ 0) × (state.old.ended ≡ 0) }
     requires room { (state.old.at ≤ length text.now) × (length text.now < state.old.at + length out.old) }
-    ensures { GivesBreaks table.now text.now state.old state.new (length out.old) out.new result }
+    ensures { GivesBreaks (K.kinds_of table.now) (K.pairs_of table.now) text.now state.old state.new (length out.old)
+        out.new result }
 {
-    give_in::<MASKS, false>(table, Profile::First, state, text, out)
+    give_in::<MASKS, false, K>(table, Profile::First, state, text, out)
 }
 
 /// Does the same in either profile, whether the text ends there or goes on.
 #[inline(never)]
-fn give_few<const MASKS: bool>(
-    table: &FlatTable,
+fn give_few<const MASKS: bool, K: KindSource>(
+    table: &K,
     state: &mut State,
     text: &[u8],
     out: &mut [RawBreak],
 ) -> usize
     requires { (state.old.at ≤ length text.now) × (length text.now < state.old.at + length out.old) }
-    ensures { GivesBreaks table.now text.now state.old state.new (length out.old) out.new result }
+    ensures { GivesBreaks (K.kinds_of table.now) (K.pairs_of table.now) text.now state.old state.new (length out.old)
+        out.new result }
 {
     let Some(profile) = going_profile(&plain(state), text.len()) else {
         return 0;
     };
-    give_in::<MASKS, true>(table, profile, state, text, out)
+    give_in::<MASKS, true, K>(table, profile, state, text, out)
 }
 
 /// Does the same in a profile, by one loop for any state and one for those of `give_plain`.
 #[inline(always)]
-fn give_in<const MASKS: bool, const ANY: bool>(
-    table: &FlatTable,
+fn give_in<const MASKS: bool, const ANY: bool, K: KindSource>(
+    table: &K,
     profile: Profile,
     state: &mut State,
     text: &[u8],
@@ -150,13 +154,14 @@ fn give_in<const MASKS: bool, const ANY: bool>(
     requires going { IsGoing profile (plain state.old) (length text.now) }
     requires room { length text.now < state.old.at + length out.old }
     requires settled { ANY ≡ false → (profile ≡ First) × (state.old.profile ≡ 0) }
-    ensures { GivesBreaks table.now text.now state.old state.new (length out.old) out.new result }
+    ensures { GivesBreaks (K.kinds_of table.now) (K.pairs_of table.now) text.now state.old state.new (length out.old)
+        out.new result }
 {
     let start = start_of(state);
-    let begun = fill_few::<ANY, FlatTable>(table, profile, start, text, out);
+    let begun = fill_few::<ANY, K>(table, profile, start, text, out);
     if begun.at < text.len() {
         let FillState { count, row, at } = begun;
-        return give_rest::<MASKS>(table, profile, state, count, row, at, text, out);
+        return give_rest::<MASKS, K>(table, profile, state, count, row, at, text, out);
     }
     let continues = ANY && goes_on(state.profile);
     settle_end::<Breaks, u8>(continues, state, begun, text, out)
@@ -165,8 +170,8 @@ fn give_in<const MASKS: bool, const ANY: bool>(
 /// Goes on from where few bytes were taken, and moves the state. It takes that place field by field: a state that a call
 /// takes stands in memory, which each call over few bytes would pay for.
 #[inline(never)]
-fn give_rest<const MASKS: bool>(
-    table: &FlatTable,
+fn give_rest<const MASKS: bool, K: KindSource>(
+    table: &K,
     profile: Profile,
     state: &mut State,
     count: usize,
@@ -180,30 +185,32 @@ fn give_rest<const MASKS: bool>(
     requires within { IsInText (record { count = count; row = row; at = at }) (length text.now) (length out.old) }
     ensures { (start : FillState) (old : List RawBreak) → start ≡ start_by state.old
         → (IsPlace state.old.row → start ≡ from_state state.old) → length old ≡ length out.old
-        → FillsIn profile table.now.kinds table.now.pairs text.now old start out.old
+        → FillsIn profile (K.kinds_of table.now) (K.pairs_of table.now) text.now old start out.old
         (record { count = count; row = row; at = at })
-        → GivesBreaks table.now text.now state.old state.new (length old) out.new result }
+        → GivesBreaks (K.kinds_of table.now) (K.pairs_of table.now) text.now state.old state.new (length old) out.new
+        result }
 {
     let begun = FillState { count, row, at };
-    let here = fill_on::<MASKS, false, FlatTable>(table, profile, begun, text, out);
+    let here = fill_on::<MASKS, false, K>(table, profile, begun, text, out);
     settle::<Breaks, u8>(state, here, text, out)
 }
 
 /// Does the same of any text, in which emoji may be expected at the front (`EMOJI`).
 #[inline(never)]
-fn give_many<const MASKS: bool, const EMOJI: bool>(
-    table: &FlatTable,
+fn give_many<const MASKS: bool, const EMOJI: bool, K: KindSource>(
+    table: &K,
     state: &mut State,
     text: &[u8],
     out: &mut [RawBreak],
 ) -> usize
-    ensures { GivesBreaks table.now text.now state.old state.new (length out.old) out.new result }
+    ensures { GivesBreaks (K.kinds_of table.now) (K.pairs_of table.now) text.now state.old state.new (length out.old)
+        out.new result }
 {
     let Some(profile) = going_profile(&plain(state), text.len()) else {
         return 0;
     };
     let start = start_of(state);
-    let here = lbk_bytes::fill::<MASKS, EMOJI, false, FlatTable>(table, profile, start, text, out);
+    let here = lbk_bytes::fill::<MASKS, EMOJI, false, K>(table, profile, start, text, out);
     settle::<Breaks, u8>(state, here, text, out)
 }
 

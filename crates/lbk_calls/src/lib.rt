@@ -21,6 +21,7 @@ mod padding;
 mod records;
 mod rule_texts;
 mod runs;
+mod unicode;
 mod unpacking;
 
 pub use breaking::{going_profile, lbk_breaks, lbk_breaks_utf16, lbk_positions, plain};
@@ -33,6 +34,7 @@ pub use labels::lbk_label;
 pub use packed_tables::{lbk_pack, lbk_unpack};
 pub use packing::pack;
 pub use padding::padded;
-pub use rule_texts::lbk_rule_text;
+pub use rule_texts::{lbk_rule_text, rule_text};
 pub use runs::{KINDS_SIZE, Run};
+pub use unicode::lbk_unicode;
 pub use unpacking::{Refusal, unpack};

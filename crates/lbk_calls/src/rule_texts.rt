@@ -21,7 +21,7 @@ pub extern "C" fn lbk_rule_text(rule: u8) -> Text
 }
 
 /// What a rule of UAX #14, section 6, says.
-fn rule_text(rule: Rule) -> &'static str
+pub fn rule_text(rule: Rule) -> &'static str
     ensures text { result.now ≡ rule_text_of rule }
     ensures short { length result.now ≤ 95 }
 {

@@ -5,7 +5,7 @@ use Rattle.std.proofs.lemmas.Bool.Decides.{nat_tests}
 use Rattle.std.proofs.lemmas.List.{get_or-take, length-take-le, take-append-drop}
 use Rattle.std.proofs.Math.Seq.{drop-cons}
 use Rattle.lbk_rules.specs.declared.Cell.{Cell}
-use Rattle.lbk_rules.specs.declared.flat_table.FlatTable.{FlatTable}
+use Rattle.lbk_rules.specs.declared.neighbours.Neighbours.{Neighbours}
 use Rattle.lbk_chunks.specs.declared.cut.Cut.{Cut}
 use Rattle.lbk_chunks.specs.declared.cut.Place.{Place}
 use Rattle.lbk_chunks.specs.declared.cursor.Filled.{Filled}
@@ -78,19 +78,19 @@ module _ (cuts : List Cut) (from count : ℕ) (out rest : List Cut) (rising : Ar
 end-some : (count from : ℕ) (out : List Cut) → 0 < count → cond (count == 0) from (slice_index_or out (count - 1) no_cut).at ≡ (slice_index_or out (count - 1) no_cut).at
 end-some count from out some = let no : (count == 0) ≡ false = grind (arith, nat_tests) in ap (λ b. cond b from (slice_index_or out (count - 1) no_cut).at) no
 
-module _ (cell : ℕ → Cell) (table : FlatTable) (text : List ℕ) (cuts : List Cut) (rising : AreCutsPast 0 cuts) where
+module _ (cell : ℕ → Cell) (kinds : List ℕ) (pairs : Neighbours) (text : List ℕ) (cuts : List Cut) (rising : AreCutsPast 0 cuts) where
   -- the place behind the last of some cuts
-  pub mark-behind : (mark behind : Mark) (room : ℕ) (out : List Cut) (filled : Filled) → IsMark cell table text cuts mark
-      → AreFirst cell table text (cuts_past mark.at cuts) room out filled → 0 < filled.count → filled.count ≤ length out
+  pub mark-behind : (mark behind : Mark) (room : ℕ) (out : List Cut) (filled : Filled) → IsMark cell kinds pairs text cuts mark
+      → AreFirst cell kinds pairs text (cuts_past mark.at cuts) room out filled → 0 < filled.count → filled.count ≤ length out
       → behind.place ≡ filled.place → behind.at ≡ (slice_index_or out (filled.count - 1) no_cut).at
       → filled.place.words ≡ (slice_index_or out (filled.count - 1) no_cut).words
-      → IsMark cell table text cuts behind
+      → IsMark cell kinds pairs text cuts behind
   mark-behind mark behind room out filled is first some within same_place same_at counted =
       let last = slice_index_or out (filled.count - 1) no_cut in
       let s = split-last cuts mark.at filled.count out first.rest rising first.joined some within in
       record {
-        ahead = subst (λ (p : Place). IsAhead cell table text p (cuts_past behind.at cuts)) (sym same_place)
-            (subst (λ n. IsAhead cell table text filled.place (cuts_past n cuts)) (sym same_at) (subst (IsAhead cell table text filled.place) s.behind first.onward));
+        ahead = subst (λ (p : Place). IsAhead cell kinds pairs text p (cuts_past behind.at cuts)) (sym same_place)
+            (subst (λ n. IsAhead cell kinds pairs text filled.place (cuts_past n cuts)) (sym same_at) (subst (IsAhead cell kinds pairs text filled.place) s.behind first.onward));
         counted = λ c same cut. ap (λ (p : Place). p.words) same_place ∙ counted ∙ ap (λ (d : Cut). d.words) (cut-one cuts last c s.cut cut (sym (same ∙ same_at)));
       }
 
@@ -98,10 +98,10 @@ module _ (cell : ℕ → Cell) (table : FlatTable) (text : List ℕ) (cuts : Lis
   fits-block block = omega (arith, block.few, block.most, block.size)
 
   -- a block that was read
-  pub block-read : (block : CutBlock) (filled : Filled) → IsMark cell table text cuts block.before
-      → AreFirst cell table text (cuts_past block.before.at cuts) block.room block.cuts filled → block.count ≡ filled.count → block.behind.place ≡ filled.place
+  pub block-read : (block : CutBlock) (filled : Filled) → IsMark cell kinds pairs text cuts block.before
+      → AreFirst cell kinds pairs text (cuts_past block.before.at cuts) block.room block.cuts filled → block.count ≡ filled.count → block.behind.place ≡ filled.place
       → (0 < filled.count → filled.count ≡ block.room → filled.place.words ≡ (slice_index_or block.cuts (filled.count - 1) no_cut).words)
-      → IsBlock cell table text cuts block
+      → IsBlock cell kinds pairs text cuts block
   block-read block filled is first same_count same_place counted = record {
     before = is;
     rest = first.rest;
@@ -115,14 +115,14 @@ module _ (cell : ℕ → Cell) (table : FlatTable) (text : List ℕ) (cuts : Lis
   }
 
   -- the first past a byte is in the block
-  pub block-first : (block : CutBlock) (k at : ℕ) → IsBlock cell table text cuts block → k < block.count
+  pub block-first : (block : CutBlock) (k at : ℕ) → IsBlock cell kinds pairs text cuts block → k < block.count
       → block.before.at ≤ at → at < (slice_index_or block.cuts k no_cut).at → (k ≡ 0) ⊎ ((slice_index_or block.cuts (k - 1) no_cut).at ≤ at)
       → cuts_past at cuts ≡ slice_index_or block.cuts k no_cut ∷ cuts_past (slice_index_or block.cuts k no_cut).at cuts
   block-first block k at is below after past before =
       first-in cuts block.before.at block.count block.cuts is.rest rising is.joined k at below (fits-block block) after past before
 
   -- and the first past one of them is the next
-  pub block-next : (block : CutBlock) (k : ℕ) (last : Cut) → IsBlock cell table text cuts block → 0 < k → k < block.count
+  pub block-next : (block : CutBlock) (k : ℕ) (last : Cut) → IsBlock cell kinds pairs text cuts block → 0 < k → k < block.count
       → (slice_index_or block.cuts (k - 1) no_cut).at ≡ last.at → last.at < (slice_index_or block.cuts k no_cut).at
       → cuts_past last.at cuts ≡ slice_index_or block.cuts k no_cut ∷ cuts_past (slice_index_or block.cuts k no_cut).at cuts
   block-next block k last is some below same past =
@@ -130,7 +130,7 @@ module _ (cell : ℕ → Cell) (table : FlatTable) (text : List ℕ) (cuts : Lis
       block-first block k last.at is below (omega (arith, s.past, same)) past (inr (omega arith))
 
   -- the text has no cut behind a block that is not full
-  none-by : (block : CutBlock) (at : ℕ) (b : Bool) → (block.count == 0) ≡ b → IsBlock cell table text cuts block
+  none-by : (block : CutBlock) (at : ℕ) (b : Bool) → (block.count == 0) ≡ b → IsBlock cell kinds pairs text cuts block
       → block.count < block.room → block.behind.at ≤ at → cuts_past at cuts ≡ []
   none-by block at true none is few past =
       let zero_count : block.count ≡ 0 = grind (arith, nat_tests) in
@@ -144,7 +144,7 @@ module _ (cell : ℕ → Cell) (table : FlatTable) (text : List ℕ) (cuts : Lis
       let there : block.behind.at ≡ last.at = block.end ∙ end-some block.count block.before.at block.cuts one in
       none-past cuts last.at at (omega (arith, there, past)) (sym s.behind ∙ is.all few)
 
-  pub block-none : (block : CutBlock) (at : ℕ) → IsBlock cell table text cuts block
+  pub block-none : (block : CutBlock) (at : ℕ) → IsBlock cell kinds pairs text cuts block
       → block.count < block.room → block.behind.at ≤ at → cuts_past at cuts ≡ []
   block-none block at is few past = none-by block at (block.count == 0) refl is few past
 

@@ -5,7 +5,7 @@ use Rattle.std.proofs.lemmas.Bool.Decides.{nat_tests}
 use Rattle.std.proofs.lemmas.List.{take-append-drop, take_more_set}
 use Rattle.lbk_rules.specs.declared.Break.{Break}
 use Rattle.lbk_rules.specs.declared.Cell.{Cell}
-use Rattle.lbk_rules.specs.declared.flat_table.FlatTable.{FlatTable}
+use Rattle.lbk_rules.specs.declared.neighbours.Neighbours.{Neighbours}
 use Rattle.lbk_bytes.specs.declared.raw_break.RawBreak.{RawBreak}
 use Rattle.lbk_bytes.specs.Shown.{raw_of}
 use Rattle.lbk_calls.specs.declared.interface.State.{State}
@@ -119,16 +119,16 @@ within-more size count out c room below within = below_more _ _
     (rw get_or-set_same below)
 
 -- what was found of some cuts, and the others
-pub record IsSoFar (cell : ℕ → Cell) (table : FlatTable) (text : List ℕ) (cuts out : List Cut) (filled : Filled) (words : WordBlock) : Type 0 where
+pub record IsSoFar (cell : ℕ → Cell) (kinds : List ℕ) (pairs : Neighbours) (text : List ℕ) (cuts out : List Cut) (filled : Filled) (words : WordBlock) : Type 0 where
   pub read : AreRead text words
   pub rest : List Cut
   pub joined : cuts ≡ take filled.count out ++ rest
-  pub onward : IsAhead cell table text filled.place rest
+  pub onward : IsAhead cell kinds pairs text filled.place rest
 
-module _ (cell : ℕ → Cell) (table : FlatTable) (text : List ℕ) (cuts : List Cut) where
+module _ (cell : ℕ → Cell) (kinds : List ℕ) (pairs : Neighbours) (text : List ℕ) (cuts : List Cut) where
   -- the breaks that were read are to be taken
-  pub read-breaks : (room : ℕ) (here : Filled) (out : List Cut) (block : List RawBreak) (next : NextBreaks) (words : WordBlock) → (s : IsSoFar cell table text cuts out here words)
-      → AreNext cell table text s.onward.breaks room block next
+  pub read-breaks : (room : ℕ) (here : Filled) (out : List Cut) (block : List RawBreak) (next : NextBreaks) (words : WordBlock) → (s : IsSoFar cell kinds pairs text cuts out here words)
+      → AreNext cell kinds pairs text s.onward.breaks room block next
       → AreAmong text cuts (take next.count s.onward.breaks ++ drop next.count s.onward.breaks) (record { count = here.count; place = record here.place { breaks = next.state } }) words out
   read-breaks room here out block next words s n =
       let a = s.onward in
@@ -140,16 +140,16 @@ module _ (cell : ℕ → Cell) (table : FlatTable) (text : List ℕ) (cuts : Lis
         joined = s.joined ∙ ap (λ l. take here.count out ++ l) (a.among ∙ ap (cuts_among here.place.words (words_ahead text here.place)) (sym all));
       }
 
-  pub read-on : (room : ℕ) (here new : Filled) (before out : List Cut) (block : List RawBreak) (next : NextBreaks) (words more : WordBlock) → (s : IsSoFar cell table text cuts before here words)
-      → AreNext cell table text s.onward.breaks room block next → new.place.breaks ≡ next.state
-      → AreAmong text cuts (drop next.count s.onward.breaks) new more out → IsSoFar cell table text cuts out new more
+  pub read-on : (room : ℕ) (here new : Filled) (before out : List Cut) (block : List RawBreak) (next : NextBreaks) (words more : WordBlock) → (s : IsSoFar cell kinds pairs text cuts before here words)
+      → AreNext cell kinds pairs text s.onward.breaks room block next → new.place.breaks ≡ next.state
+      → AreAmong text cuts (drop next.count s.onward.breaks) new more out → IsSoFar cell kinds pairs text cuts out new more
   read-on room here new before out block next words more s n same a = record {
     read = a.read;
     rest = cuts_among new.place.words (words_ahead text new.place) (drop next.count s.onward.breaks);
     joined = a.joined;
     onward = record {
       breaks = drop next.count s.onward.breaks;
-      comes = subst (λ (t : State). Comes cell table text t (drop next.count s.onward.breaks)) (sym same) n.onward;
+      comes = subst (λ (t : State). Comes cell kinds pairs text t (drop next.count s.onward.breaks)) (sym same) n.onward;
       counted = a.counted;
       rising = a.rising;
       among = refl;
@@ -160,8 +160,8 @@ module _ (cell : ℕ → Cell) (table : FlatTable) (text : List ℕ) (cuts : Lis
   none-of [] room some counted = refl
   none-of (b ∷ bs) room some counted = absurd (omega arith)
 
-  pub read-all : (room : ℕ) (here : Filled) (out : List Cut) (block : List RawBreak) (next : NextBreaks) (words : WordBlock) → 0 < room → next.count ≡ 0 → (s : IsSoFar cell table text cuts out here words)
-      → AreNext cell table text s.onward.breaks room block next → s.rest ≡ []
+  pub read-all : (room : ℕ) (here : Filled) (out : List Cut) (block : List RawBreak) (next : NextBreaks) (words : WordBlock) → 0 < room → next.count ≡ 0 → (s : IsSoFar cell kinds pairs text cuts out here words)
+      → AreNext cell kinds pairs text s.onward.breaks room block next → s.rest ≡ []
   read-all room here out block next words some none s n =
       s.onward.among ∙ ap (cuts_among here.place.words (words_ahead text here.place)) (none-of s.onward.breaks room some (sym none ∙ n.counted))
 

@@ -1,7 +1,7 @@
 -- Chunks given, one after another.
 use Rattle.std.proofs.Common.{◌≡◌, ℕ, zero, suc, ◌+◌, ◌-◌, Bool, true, not, ◌<◌, ◌≤◌, List, [], ◌∷◌, ◌++◌, length, take, drop, refl, sym, ap, ap₂, subst, ◌∙◌, arith}
 use Rattle.lbk_rules.specs.declared.Cell.{Cell}
-use Rattle.lbk_rules.specs.declared.flat_table.FlatTable.{FlatTable}
+use Rattle.lbk_rules.specs.declared.neighbours.Neighbours.{Neighbours}
 use Rattle.lbk_chunks.specs.declared.chunk.Chunk.{Chunk}
 use Rattle.lbk_chunks.specs.declared.chunk.ChunkState.{ChunkState}
 use Rattle.lbk_chunks.specs.declared.chunk.Limits.{Limits}
@@ -79,9 +79,9 @@ none-left zero (x ∷ xs) few none = absurd (let no : ⊥ = cc in no)
 none-left (suc n) [] few none = absurd (omega arith)
 none-left (suc n) (x ∷ xs) few none = (let more = none-left n xs (omega arith) none in omega arith)
 
-module _ (cell : ℕ → Cell) (table : FlatTable) (text : List ℕ) (limits : Limits) (cuts : List Cut) (to_come : List Chunk) where
-  pub give-none : (out : List Chunk) (window : Window) (here : Here) → Knows cell table text cuts window here → AreChunks limits cuts here to_come
-      → AreGiven cell table text limits cuts to_come 0 out window here
+module _ (cell : ℕ → Cell) (kinds : List ℕ) (pairs : Neighbours) (text : List ℕ) (limits : Limits) (cuts : List Cut) (to_come : List Chunk) where
+  pub give-none : (out : List Chunk) (window : Window) (here : Here) → Knows cell kinds pairs text cuts window here → AreChunks limits cuts here to_come
+      → AreGiven cell kinds pairs text limits cuts to_come 0 out window here
   give-none out window here knows are = record {
     few = omega arith;
     front = refl;
@@ -91,9 +91,9 @@ module _ (cell : ℕ → Cell) (table : FlatTable) (text : List ℕ) (limits : L
   }
 
   pub give-more : (count : ℕ) (before out : List Chunk) (old new : Window) (here : Here) (given : Given)
-      → AreGiven cell table text limits cuts to_come count before old here → IsGiven limits cuts here given
-      → take (count + 1) out ≡ take count before ++ given.chunk ∷ [] → Knows cell table text cuts new given.next
-      → AreGiven cell table text limits cuts to_come (count + 1) out new given.next
+      → AreGiven cell kinds pairs text limits cuts to_come count before old here → IsGiven limits cuts here given
+      → take (count + 1) out ≡ take count before ++ given.chunk ∷ [] → Knows cell kinds pairs text cuts new given.next
+      → AreGiven cell kinds pairs text limits cuts to_come (count + 1) out new given.next
   give-more count before out old new here given were g more knows =
       let first = first-chunk limits cuts here given (drop count to_come) g were.rest in
       let one = one-more count to_come given.chunk first.rest first.joined in
@@ -105,17 +105,17 @@ module _ (cell : ℕ → Cell) (table : FlatTable) (text : List ℕ) (limits : L
         stands = λ _. g.stands;
       }
 
-  pub none-more : (count : ℕ) (out : List Chunk) (window : Window) (here : Here) → AreGiven cell table text limits cuts to_come count out window here
+  pub none-more : (count : ℕ) (out : List Chunk) (window : Window) (here : Here) → AreGiven cell kinds pairs text limits cuts to_come count out window here
       → cuts_past here.told cuts ≡ [] → count ≡ length to_come
   none-more count out window here were none =
       none-left count to_come were.few (no-chunk limits cuts here (drop count to_come) none were.rest)
 
 -- what is to come of a text from a state that stands at a cut
-pub come-on : (cell : ℕ → Cell) (table : FlatTable) (text : List ℕ) (limits : Limits) (cuts : List Cut) (here : Here) (place : Place) (to_come : List Chunk)
+pub come-on : (cell : ℕ → Cell) (kinds : List ℕ) (pairs : Neighbours) (text : List ℕ) (limits : Limits) (cuts : List Cut) (here : Here) (place : Place) (to_come : List Chunk)
     → are_limits limits ≡ true → AreCutsPast 0 cuts → here.start ≤ here.told → IsStanding cuts here.start here.words
-    → IsAhead cell table text place (cuts_past here.start cuts) → place.words ≡ here.words → AreChunks limits cuts here to_come
-    → ChunksCome cell table text limits (record { place = place; start = here.start; told = here.told }) to_come
-come-on cell table text limits cuts here place to_come in_range rising order stands ahead words are = record {
+    → IsAhead cell kinds pairs text place (cuts_past here.start cuts) → place.words ≡ here.words → AreChunks limits cuts here to_come
+    → ChunksCome cell kinds pairs text limits (record { place = place; start = here.start; told = here.told }) to_come
+come-on cell kinds pairs text limits cuts here place to_come in_range rising order stands ahead words are = record {
   in_range = in_range;
   cuts = cuts;
   stands = record {
@@ -128,19 +128,19 @@ come-on cell table text limits cuts here place to_come in_range rising order sta
 }
 
 -- the window still has the cuts, and those from a later start on
-pub knows-on : (cell : ℕ → Cell) (table : FlatTable) (text : List ℕ) (cuts : List Cut) (old new : Window) (was here : Here) → Knows cell table text cuts old was
-    → AreKept cell table text cuts new → new.home.at ≤ here.start → here.start ≤ here.told → Knows cell table text cuts new here
-knows-on cell table text cuts old new was here knows kept home told = record { rising = knows.rising; kept = kept; home = home; told = told }
+pub knows-on : (cell : ℕ → Cell) (kinds : List ℕ) (pairs : Neighbours) (text : List ℕ) (cuts : List Cut) (old new : Window) (was here : Here) → Knows cell kinds pairs text cuts old was
+    → AreKept cell kinds pairs text cuts new → new.home.at ≤ here.start → here.start ≤ here.told → Knows cell kinds pairs text cuts new here
+knows-on cell kinds pairs text cuts old new was here knows kept home told = record { rising = knows.rising; kept = kept; home = home; told = told }
 
 pub home-same : (old new : Window) (at : ℕ) → new.home ≡ old.home → old.home.at ≤ at → new.home.at ≤ at
 home-same old new at same before = subst (λ (m : Mark). m.at ≤ at) (sym same) before
 
 -- the window at a state has the cuts from there on
-pub knows-first : (cell : ℕ → Cell) (table : FlatTable) (text : List ℕ) (limits : Limits) (state : ChunkState) (to_come : List Chunk) (window : Window)
-    → (come : ChunksCome cell table text limits state to_come) → window.home ≡ record { place = state.place; at = state.start }
-    → ((cuts : List Cut) → AreCutsPast 0 cuts → IsMark cell table text cuts (record { place = state.place; at = state.start }) → AreKept cell table text cuts window)
-    → Knows cell table text come.cuts window (here_of state)
-knows-first cell table text limits state to_come window come same are =
+pub knows-first : (cell : ℕ → Cell) (kinds : List ℕ) (pairs : Neighbours) (text : List ℕ) (limits : Limits) (state : ChunkState) (to_come : List Chunk) (window : Window)
+    → (come : ChunksCome cell kinds pairs text limits state to_come) → window.home ≡ record { place = state.place; at = state.start }
+    → ((cuts : List Cut) → AreCutsPast 0 cuts → IsMark cell kinds pairs text cuts (record { place = state.place; at = state.start }) → AreKept cell kinds pairs text cuts window)
+    → Knows cell kinds pairs text come.cuts window (here_of state)
+knows-first cell kinds pairs text limits state to_come window come same are =
     let s = come.stands in
     record {
       rising = s.rising;
@@ -150,20 +150,20 @@ knows-first cell table text limits state to_come window come same are =
     }
 
 -- what is kept twice is kept, and where a search begins doesn't matter to it
-pub keeps-more : (table : FlatTable) (text : List ℕ) (first next last : Window) → KeepsCuts table text first next → KeepsCuts table text next last
-    → KeepsCuts table text first last
-keeps-more table text first next last keeps more = record {
+pub keeps-more : (kinds : List ℕ) (pairs : Neighbours) (text : List ℕ) (first next last : Window) → KeepsCuts kinds pairs text first next → KeepsCuts kinds pairs text next last
+    → KeepsCuts kinds pairs text first last
+keeps-more kinds pairs text first next last keeps more = record {
   kept = λ kept. more.kept (keeps.kept kept);
   home = more.home ∙ keeps.home;
   are = λ cell cuts rising are. more.are cell cuts rising (keeps.are cell cuts rising are);
 }
 
-pub keeps-read : (table : FlatTable) (text : List ℕ) (old new : Window) → new.home ≡ old.home
+pub keeps-read : (kinds : List ℕ) (pairs : Neighbours) (text : List ℕ) (old new : Window) → new.home ≡ old.home
     → (IsKept text old → StandWithin (length text) new.older.count new.older.cuts) → StandWithin (length text) new.newer.count new.newer.cuts
-    → ((cell : ℕ → Cell) (cuts : List Cut) → AreCutsPast 0 cuts → AreKept cell table text cuts old
-    → IsBlock cell table text cuts new.older × IsBlock cell table text cuts new.newer × AreRead text new.words)
-    → KeepsCuts table text old new
-keeps-read table text old new home older newer are = record {
+    → ((cell : ℕ → Cell) (cuts : List Cut) → AreCutsPast 0 cuts → AreKept cell kinds pairs text cuts old
+    → IsBlock cell kinds pairs text cuts new.older × IsBlock cell kinds pairs text cuts new.newer × AreRead text new.words)
+    → KeepsCuts kinds pairs text old new
+keeps-read kinds pairs text old new home older newer are = record {
   kept = λ kept. record { older = older kept; newer = newer };
   home = home;
   are = λ cell cuts rising were. (
@@ -171,15 +171,15 @@ keeps-read table text old new home older newer are = record {
       record {
         older = now.0;
         newer = now.1;
-        home = subst (IsMark cell table text cuts) (sym home) were.home;
+        home = subst (IsMark cell kinds pairs text cuts) (sym home) were.home;
         words = now.2;
         within = record { older = older were.within; newer = newer };
       });
 }
 
-pub keeps-from : (table : FlatTable) (text : List ℕ) (old new : Window) (next : ℕ) → KeepsCuts table text old new
-    → KeepsCuts table text old (record new { next = next })
-keeps-from table text old new next keeps = record {
+pub keeps-from : (kinds : List ℕ) (pairs : Neighbours) (text : List ℕ) (old new : Window) (next : ℕ) → KeepsCuts kinds pairs text old new
+    → KeepsCuts kinds pairs text old (record new { next = next })
+keeps-from kinds pairs text old new next keeps = record {
   kept = λ kept. (let k = keeps.kept kept in record { older = k.older; newer = k.newer });
   home = keeps.home;
   are = λ cell cuts rising were. (
@@ -188,11 +188,11 @@ keeps-from table text old new next keeps = record {
 }
 
 -- and the start of a chunk stays behind the place from which cuts can be read again
-pub keeps-behind : (table : FlatTable) (text : List ℕ) (old new : Window) (at : ℕ) → KeepsCuts table text old new → old.home.at ≤ at → new.home.at ≤ at
-keeps-behind table text old new at keeps before = home-same old new at keeps.home before
+pub keeps-behind : (kinds : List ℕ) (pairs : Neighbours) (text : List ℕ) (old new : Window) (at : ℕ) → KeepsCuts kinds pairs text old new → old.home.at ≤ at → new.home.at ≤ at
+keeps-behind kinds pairs text old new at keeps before = home-same old new at keeps.home before
 
-pub knows-still : (cell : ℕ → Cell) (table : FlatTable) (text : List ℕ) (cuts : List Cut) (old new : Window) (here : Here) → KeepsCuts table text old new
-    → Knows cell table text cuts old here → Knows cell table text cuts new here
-knows-still cell table text cuts old new here keeps knows =
-    knows-on cell table text cuts old new here here knows (keeps.are cell cuts knows.rising knows.kept) (keeps-behind table text old new here.start keeps knows.home)
+pub knows-still : (cell : ℕ → Cell) (kinds : List ℕ) (pairs : Neighbours) (text : List ℕ) (cuts : List Cut) (old new : Window) (here : Here) → KeepsCuts kinds pairs text old new
+    → Knows cell kinds pairs text cuts old here → Knows cell kinds pairs text cuts new here
+knows-still cell kinds pairs text cuts old new here keeps knows =
+    knows-on cell kinds pairs text cuts old new here here knows (keeps.are cell cuts knows.rising knows.kept) (keeps-behind kinds pairs text old new here.start keeps knows.home)
     knows.told

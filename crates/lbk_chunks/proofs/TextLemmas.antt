@@ -4,10 +4,10 @@ use Rattle.bstr.specs.Utf8.{Decoded, decoded, pieces, lossy_chars}
 use Rattle.bstr.proofs.lemmas.PieceLemmas.{piece-bounds, pieces-nil, pieces-step}
 use Rattle.lbk_rules.specs.declared.Break.{Break}
 use Rattle.lbk_rules.specs.declared.Cell.{Cell}
-use Rattle.lbk_rules.specs.declared.flat_table.FlatTable.{FlatTable}
+use Rattle.lbk_rules.specs.declared.neighbours.Neighbours.{Neighbours}
 use Rattle.lbk_values.specs.declared.profile.Profile.{Profile}
 use Rattle.lbk_rules.specs.Breaks.{break_by, is_no}
-use Rattle.lbk_rules.specs.FlatTable.{IsFlatOf}
+use Rattle.lbk_rules.specs.FlatTable.{IsFlatBy}
 use Rattle.lbk_rules.specs.Marks.{Marked, marks}
 use Rattle.lbk_bytes.specs.Bytes.{breaks_after, breaks_of_bytes}
 use Rattle.lbk_calls.specs.State.{start_in}
@@ -78,14 +78,14 @@ text-rising profile cell text =
     cuts-rising 0 0 (words_of text) (breaks_of_bytes profile cell text)
     (breaks-rising 0 (pieces text) (marks profile cell (lossy_chars text)) (pieces-some (length text) text (omega arith)))
 
-stands-at_start : (cell : ℕ → Cell) (table : FlatTable) (text : List ℕ) (profile : Profile) → IsFlatOf table cell
-    → IsAt cell table text (cuts_of profile cell text) (state_start profile)
-stands-at_start cell table text profile flat =
+stands-at_start : (cell : ℕ → Cell) (kinds : List ℕ) (pairs : Neighbours) (text : List ℕ) (profile : Profile) → IsFlatBy kinds pairs cell
+    → IsAt cell kinds pairs text (cuts_of profile cell text) (state_start profile)
+stands-at_start cell kinds pairs text profile flat =
     let rising = text-rising profile cell text in
     record {
       ahead = record {
         breaks = breaks_of_bytes profile cell text;
-        comes = (bytes-begin table text (start_in profile)).start cell profile flat refl;
+        comes = (bytes-begin kinds pairs text (start_in profile)).start cell profile flat refl;
         counted = record { few = omega arith; onward = words-onward 0 (pieces text) (parts_of (scalars_of (pieces text))) };
         rising = breaks-rising 0 (pieces text) (marks profile cell (lossy_chars text)) (pieces-some (length text) text (omega arith));
         among = past-all 0 0 (cuts_of profile cell text) (omega arith) rising;
@@ -95,13 +95,13 @@ stands-at_start cell table text profile flat =
       told = omega arith;
     }
 
-pub chunks-start : (cell : ℕ → Cell) (table : FlatTable) (text : List ℕ) (limits : Limits) (profile : Profile) (state : ChunkState) (to_come : List Chunk)
-    → IsFlatOf table cell → are_limits limits ≡ true → state ≡ state_start profile → AreChunks limits (cuts_of profile cell text) text_start to_come
-    → ChunksCome cell table text limits state to_come
-chunks-start cell table text limits profile state to_come flat in_range starts are =
-    subst (λ s. ChunksCome cell table text limits s to_come) (sym starts) (record {
+pub chunks-start : (cell : ℕ → Cell) (kinds : List ℕ) (pairs : Neighbours) (text : List ℕ) (limits : Limits) (profile : Profile) (state : ChunkState) (to_come : List Chunk)
+    → IsFlatBy kinds pairs cell → are_limits limits ≡ true → state ≡ state_start profile → AreChunks limits (cuts_of profile cell text) text_start to_come
+    → ChunksCome cell kinds pairs text limits state to_come
+chunks-start cell kinds pairs text limits profile state to_come flat in_range starts are =
+    subst (λ s. ChunksCome cell kinds pairs text limits s to_come) (sym starts) (record {
       in_range = in_range;
       cuts = cuts_of profile cell text;
-      stands = stands-at_start cell table text profile flat;
+      stands = stands-at_start cell kinds pairs text profile flat;
       chunks = are;
     })

@@ -2,7 +2,7 @@
 use Rattle.std.proofs.Common.{◌≡◌, ℕ, ◌-◌, ◌++◌, ◌<◌, ◌≤◌, ⊎_elim, List, [], ◌∷◌, length, take, slice_index_or, refl, sym, ap, subst, ◌∙◌, arith}
 use Rattle.std.proofs.lemmas.Bool.{cases_lt}
 use Rattle.lbk_rules.specs.declared.Cell.{Cell}
-use Rattle.lbk_rules.specs.declared.flat_table.FlatTable.{FlatTable}
+use Rattle.lbk_rules.specs.declared.neighbours.Neighbours.{Neighbours}
 use Rattle.lbk_chunks.specs.declared.cut.Cut.{Cut}
 use Rattle.lbk_chunks.specs.declared.cursor.Filled.{Filled}
 use Rattle.lbk_chunks.specs.declared.cut.Mark.{Mark}
@@ -37,33 +37,33 @@ one-front : (out : List Cut) → length out ≡ 64 → take 1 out ≡ slice_inde
 one-front [] size = absurd (omega arith)
 one-front (c ∷ cs) size = refl
 
-module _ (cell : ℕ → Cell) (table : FlatTable) (text : List ℕ) (cuts : List Cut) (rising : AreCutsPast 0 cuts) (at words : ℕ) (stands : IsStanding cuts at words) where
+module _ (cell : ℕ → Cell) (kinds : List ℕ) (pairs : Neighbours) (text : List ℕ) (cuts : List Cut) (rising : AreCutsPast 0 cuts) (at words : ℕ) (stands : IsStanding cuts at words) where
   -- the place there
-  pub place-there : (here : Mark) → IsMark cell table text cuts here → here.at ≤ at → at ≤ here.at
-      → IsAhead cell table text here.place (cuts_past at cuts) × (here.place.words ≡ words)
+  pub place-there : (here : Mark) → IsMark cell kinds pairs text cuts here → here.at ≤ at → at ≤ here.at
+      → IsAhead cell kinds pairs text here.place (cuts_past at cuts) × (here.place.words ≡ words)
   place-there here is before after =
       let same : here.at ≡ at = omega (arith, before, after) in (
-        subst (λ n. IsAhead cell table text here.place (cuts_past n cuts)) same is.ahead,
+        subst (λ n. IsAhead cell kinds pairs text here.place (cuts_past n cuts)) same is.ahead,
         is.counted stands.0 (stands.1 ∙ sym same) stands.3 ∙ stands.2,
       )
 
   -- one cut further
-  pub place-on : (here behind : Mark) (out : List Cut) (filled : Filled) → IsMark cell table text cuts here → here.at < at
-      → AreFirst cell table text (cuts_past here.at cuts) 1 out filled → filled.count ≡ 1 → length out ≡ 64
+  pub place-on : (here behind : Mark) (out : List Cut) (filled : Filled) → IsMark cell kinds pairs text cuts here → here.at < at
+      → AreFirst cell kinds pairs text (cuts_past here.at cuts) 1 out filled → filled.count ≡ 1 → length out ≡ 64
       → behind.place ≡ filled.place → behind.at ≡ (slice_index_or out 0 no_cut).at
       → filled.place.words ≡ (slice_index_or out (filled.count - 1) no_cut).words
-      → IsMark cell table text cuts behind × (behind.at ≤ at)
+      → IsMark cell kinds pairs text cuts behind × (behind.at ≤ at)
   place-on here behind out filled is below first one size same_place same_at counted =
       let zero_there : filled.count - 1 ≡ 0 = omega (arith, one) in
       let there : behind.at ≡ (slice_index_or out (filled.count - 1) no_cut).at = same_at ∙ ap (λ n. (slice_index_or out n no_cut).at) (sym zero_there) in
       let front : take filled.count out ≡ slice_index_or out 0 no_cut ∷ [] = ap (λ n. take n out) one ∙ one-front out size in
       let joined : cuts_past here.at cuts ≡ slice_index_or out 0 no_cut ∷ first.rest = first.joined ∙ ap (λ l. l ++ first.rest) front in
       let before = standing-next cuts here.at at words (slice_index_or out 0 no_cut) first.rest stands below joined in (
-        mark-behind cell table text cuts rising here behind 1 out filled is first (omega (arith, one)) (omega (arith, one, size)) same_place there counted,
+        mark-behind cell kinds pairs text cuts rising here behind 1 out filled is first (omega (arith, one)) (omega (arith, one, size)) same_place there counted,
         omega (arith, before, same_at),
       )
 
-  pub place-none : (here : Mark) (out : List Cut) (filled : Filled) → here.at < at → AreFirst cell table text (cuts_past here.at cuts) 1 out filled → filled.count ≡ 0 → ⊥
+  pub place-none : (here : Mark) (out : List Cut) (filled : Filled) → here.at < at → AreFirst cell kinds pairs text (cuts_past here.at cuts) 1 out filled → filled.count ≡ 0 → ⊥
   place-none here out filled below first none =
       standing-none cuts here.at at words stands below
       (first.joined ∙ ap (λ l. l ++ first.rest) (ap (λ n. take n out) none) ∙ first.all (omega (arith, none)))

@@ -4,7 +4,7 @@ use Rattle.std.specs.Prelude.{◌⊎◌, take, slice_index_or, Option, Some, Non
 use Rattle.std.specs.List.{list_all}
 use Rattle.lbk_rules.specs.declared.Break.{Break}
 use Rattle.lbk_rules.specs.declared.Cell.{Cell}
-use Rattle.lbk_rules.specs.declared.flat_table.FlatTable.{FlatTable}
+use Rattle.lbk_rules.specs.declared.neighbours.Neighbours.{Neighbours}
 use Rattle.lbk_bytes.specs.declared.raw_break.RawBreak.{RawBreak}
 use Rattle.lbk_bytes.specs.Shown.{raw_of}
 use Rattle.lbk_calls.specs.declared.interface.State.{State}
@@ -76,10 +76,10 @@ pub record IsPassed (text : List ℕ) (at : ℕ) (old new : Place) : Type 0 wher
       → cuts_among new.words (words_ahead text new) (b ∷ bs) ≡ cuts_among old.words (words_ahead text old) (b ∷ bs)
 
 -- these cuts are left from a place on
-pub record IsAhead (cell : ℕ → Cell) (table : FlatTable) (text : List ℕ) (place : Place) (cuts : List Cut) : Type
-    0 where
+pub record IsAhead (cell : ℕ → Cell) (kinds : List ℕ) (pairs : Neighbours) (text : List ℕ) (place : Place)
+    (cuts : List Cut) : Type 0 where
   pub breaks : List Break
-  pub comes : Comes cell table text place.breaks breaks
+  pub comes : Comes cell kinds pairs text place.breaks breaks
   pub counted : AreCounted text place
   pub rising : AreBreaksPast 0 breaks
   pub among : cuts ≡ cuts_among place.words (words_ahead text place) breaks
@@ -115,11 +115,11 @@ abbrev pub early_in : List Cut → Option Cut → ℕ → Option Cut
 early_in out early k = if k == 0 then early else Some (slice_index_or out (k - 1) no_cut)
 
 -- the first breaks fill the front of a block, or are all, and the others are left from a state on
-pub record AreNext (cell : ℕ → Cell) (table : FlatTable) (text : List ℕ) (breaks : List Break) (room : ℕ)
-    (block : List RawBreak) (next : NextBreaks) : Type 0 where
+pub record AreNext (cell : ℕ → Cell) (kinds : List ℕ) (pairs : Neighbours) (text : List ℕ) (breaks : List Break)
+    (room : ℕ) (block : List RawBreak) (next : NextBreaks) : Type 0 where
   pub counted : next.count ≡ min room (length breaks)
   pub shown : map raw_of (take next.count breaks) ≡ take next.count block
-  pub onward : Comes cell table text next.state (drop next.count breaks)
+  pub onward : Comes cell kinds pairs text next.state (drop next.count breaks)
 
 -- the cuts at the front of a block were found, and the others are among these breaks
 pub record AreAmong (text : List ℕ) (cuts : List Cut) (breaks : List Break) (filled : Filled) (words : WordBlock)
@@ -130,11 +130,11 @@ pub record AreAmong (text : List ℕ) (cuts : List Cut) (breaks : List Break) (f
   pub joined : cuts ≡ take filled.count out ++ cuts_among filled.place.words (words_ahead text filled.place) breaks
 
 -- the first cuts fill the front of a block, or are all, and the others are left from a place on
-pub record AreFirst (cell : ℕ → Cell) (table : FlatTable) (text : List ℕ) (cuts : List Cut) (room : ℕ) (out : List Cut)
-    (filled : Filled) : Type 0 where
+pub record AreFirst (cell : ℕ → Cell) (kinds : List ℕ) (pairs : Neighbours) (text : List ℕ) (cuts : List Cut) (room : ℕ)
+    (out : List Cut) (filled : Filled) : Type 0 where
   pub rest : List Cut
   pub joined : cuts ≡ take filled.count out ++ rest
-  pub onward : IsAhead cell table text filled.place rest
+  pub onward : IsAhead cell kinds pairs text filled.place rest
   pub all : filled.count < room → rest ≡ []
 
 -- this is one of the cuts
@@ -147,8 +147,9 @@ abbrev pub IsStanding : List Cut → ℕ → ℕ → Type 0
 IsStanding cuts at words = (c : Cut) × (c.at ≡ at) × (c.words ≡ words) × IsCutOf cuts c
 
 -- the cuts past a byte are left from the place, and it counts the words before the cut there
-pub record IsMark (cell : ℕ → Cell) (table : FlatTable) (text : List ℕ) (cuts : List Cut) (mark : Mark) : Type 0 where
-  pub ahead : IsAhead cell table text mark.place (cuts_past mark.at cuts)
+pub record IsMark (cell : ℕ → Cell) (kinds : List ℕ) (pairs : Neighbours) (text : List ℕ) (cuts : List Cut)
+    (mark : Mark) : Type 0 where
+  pub ahead : IsAhead cell kinds pairs text mark.place (cuts_past mark.at cuts)
   pub counted : (c : Cut) → c.at ≡ mark.at → IsCutOf cuts c → mark.place.words ≡ c.words
 
 -- the cut at this index of a block is its first one past a byte
@@ -158,13 +159,13 @@ pub record IsFirstPast (block : CutBlock) (at k : ℕ) : Type 0 where
   pub first : (k ≡ 0) ⊎ ((slice_index_or block.cuts (k - 1) no_cut).at ≤ at)
 
 -- the first cuts past a byte are in the block
-pub record IsBlock (cell : ℕ → Cell) (table : FlatTable) (text : List ℕ) (cuts : List Cut) (block : CutBlock) : Type
-    0 where
-  pub before : IsMark cell table text cuts block.before
+pub record IsBlock (cell : ℕ → Cell) (kinds : List ℕ) (pairs : Neighbours) (text : List ℕ) (cuts : List Cut)
+    (block : CutBlock) : Type 0 where
+  pub before : IsMark cell kinds pairs text cuts block.before
   pub rest : List Cut
   pub joined : cuts_past block.before.at cuts ≡ take block.count block.cuts ++ rest
   pub all : block.count < block.room → rest ≡ []
-  pub behind : block.count ≡ block.room → IsMark cell table text cuts block.behind
+  pub behind : block.count ≡ block.room → IsMark cell kinds pairs text cuts block.behind
 
 -- with any table, the cuts of a window are within the text
 pub record IsKept (text : List ℕ) (window : Window) : Type 0 where
@@ -172,33 +173,33 @@ pub record IsKept (text : List ℕ) (window : Window) : Type 0 where
   pub newer : StandWithin (length text) window.newer.count window.newer.cuts
 
 -- a window has cuts of a text, and a place from which it can read them again
-pub record AreKept (cell : ℕ → Cell) (table : FlatTable) (text : List ℕ) (cuts : List Cut) (window : Window) : Type
-    0 where
-  pub older : IsBlock cell table text cuts window.older
-  pub newer : IsBlock cell table text cuts window.newer
-  pub home : IsMark cell table text cuts window.home
+pub record AreKept (cell : ℕ → Cell) (kinds : List ℕ) (pairs : Neighbours) (text : List ℕ) (cuts : List Cut)
+    (window : Window) : Type 0 where
+  pub older : IsBlock cell kinds pairs text cuts window.older
+  pub newer : IsBlock cell kinds pairs text cuts window.newer
+  pub home : IsMark cell kinds pairs text cuts window.home
   pub words : AreRead text window.words
   pub within : IsKept text window
 
 -- what a window has of the cuts of a text, and the place from which it can read them again, it keeps
-pub record KeepsCuts (table : FlatTable) (text : List ℕ) (old new : Window) : Type 0 where
+pub record KeepsCuts (kinds : List ℕ) (pairs : Neighbours) (text : List ℕ) (old new : Window) : Type 0 where
   pub kept : IsKept text old → IsKept text new
   pub home : new.home ≡ old.home
-  pub are : (cell : ℕ → Cell) (cuts : List Cut) → AreCutsPast 0 cuts → AreKept cell table text cuts old
-      → AreKept cell table text cuts new
+  pub are : (cell : ℕ → Cell) (cuts : List Cut) → AreCutsPast 0 cuts → AreKept cell kinds pairs text cuts old
+      → AreKept cell kinds pairs text cuts new
 
 -- the window has the cuts of a text from the start of a chunk on
-pub record Knows (cell : ℕ → Cell) (table : FlatTable) (text : List ℕ) (cuts : List Cut) (window : Window)
-    (here : Here) : Type 0 where
+pub record Knows (cell : ℕ → Cell) (kinds : List ℕ) (pairs : Neighbours) (text : List ℕ) (cuts : List Cut)
+    (window : Window) (here : Here) : Type 0 where
   pub rising : AreCutsPast 0 cuts
-  pub kept : AreKept cell table text cuts window
+  pub kept : AreKept cell kinds pairs text cuts window
   pub home : window.home.at ≤ here.start
   pub told : here.start ≤ here.told
 
 -- a state is at a cut of a text with these cuts, or at its start
-pub record IsAt (cell : ℕ → Cell) (table : FlatTable) (text : List ℕ) (cuts : List Cut) (state : ChunkState) : Type
-    0 where
-  pub ahead : IsAhead cell table text state.place (cuts_past state.start cuts)
+pub record IsAt (cell : ℕ → Cell) (kinds : List ℕ) (pairs : Neighbours) (text : List ℕ) (cuts : List Cut)
+    (state : ChunkState) : Type 0 where
+  pub ahead : IsAhead cell kinds pairs text state.place (cuts_past state.start cuts)
   pub counted : (c : Cut) → c.at ≡ state.start → IsCutOf cuts c → state.place.words ≡ c.words
   pub rising : AreCutsPast 0 cuts
   pub told : state.start ≤ state.told
@@ -229,20 +230,21 @@ state_start profile = record {
 }
 
 -- these chunks are left from a state on
-pub record ChunksCome (cell : ℕ → Cell) (table : FlatTable) (text : List ℕ) (limits : Limits) (state : ChunkState)
-    (to_come : List Chunk) : Type 0 where
+pub record ChunksCome (cell : ℕ → Cell) (kinds : List ℕ) (pairs : Neighbours) (text : List ℕ) (limits : Limits)
+    (state : ChunkState) (to_come : List Chunk) : Type 0 where
   pub in_range : are_limits limits ≡ true
   pub cuts : List Cut
-  pub stands : IsAt cell table text cuts state
+  pub stands : IsAt cell kinds pairs text cuts state
   pub chunks : AreChunks limits cuts (here_of state) to_come
 
 -- the chunks that a call returned, and the state from which the others are left
-pub record AreGiven (cell : ℕ → Cell) (table : FlatTable) (text : List ℕ) (limits : Limits) (cuts : List Cut)
-    (to_come : List Chunk) (count : ℕ) (out : List Chunk) (window : Window) (here : Here) : Type 0 where
+pub record AreGiven (cell : ℕ → Cell) (kinds : List ℕ) (pairs : Neighbours) (text : List ℕ) (limits : Limits)
+    (cuts : List Cut) (to_come : List Chunk) (count : ℕ) (out : List Chunk) (window : Window)
+    (here : Here) : Type 0 where
   pub few : count ≤ length to_come
   pub front : take count out ≡ take count to_come
   pub rest : AreChunks limits cuts here (drop count to_come)
-  pub knows : Knows cell table text cuts window here
+  pub knows : Knows cell kinds pairs text cuts window here
   pub stands : 0 < count → IsStanding cuts here.start here.words
 
 -- a cut stands past one byte, at another or before it; the last that fits, and that at which the chunk may end early,

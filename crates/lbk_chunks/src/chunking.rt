@@ -5,7 +5,7 @@ ghost use Rattle.std.specs.Prelude.{if◌then◌else◌};
 ghost use Rattle.lbk_rules.specs.declared.Cell.{Cell};
 ghost use Rattle.lbk_chunks.specs.declared.chunk.Chunk.{Chunk};
 ghost use Rattle.lbk_chunks.specs.declared.cut.Cut.{Cut};
-ghost use Rattle.lbk_rules.specs.declared.flat_table.FlatTable.{FlatTable};
+ghost use Rattle.lbk_rules.specs.declared.neighbours.Neighbours.{Neighbours};
 ghost use Rattle.lbk_chunks.specs.Calls.{GivesChunks};
 ghost use Rattle.lbk_chunks.specs.Chunks.{AreChunks, AreTold, after, cuts_past, is_early};
 ghost use Rattle.lbk_chunks.specs.Chunks.{may_start, start_at};
@@ -16,21 +16,22 @@ use crate::choosing::{are_limits, fits, is_early, may_start};
 use crate::chunk::{Chunk, ChunkState, Here, Limits};
 use crate::cut::{Cut, Mark};
 use crate::window::Window;
-use lbk_rules::FlatTable;
+use lbk_rules::KindSource;
 
 /// Writes the next chunks of a text to the front of the block, from the state on, and returns how many: as many as the
 /// block holds, or all that are left. The text may be any bytes.
 ///
 /// Returns 0 and leaves the state unchanged if the block has no room, if no chunk is left, if the limits are out of
 /// range, or if the profile is unknown. The entries of the block after the chunks are unspecified.
-pub fn chunks(
-    table: &FlatTable,
+pub fn chunks<K: KindSource>(
+    table: &K,
     limits: &Limits,
     state: &mut ChunkState,
     text: &[u8],
     out: &mut [Chunk],
 ) -> usize
-    ensures { GivesChunks table.now limits.now text.now state.old state.new (length out.old) out.new result }
+    ensures { GivesChunks (K.kinds_of table.now) (K.pairs_of table.now) limits.now text.now state.old state.new
+        (length out.old) out.new result }
 {
     if !are_limits(limits) {
         return 0;
@@ -64,8 +65,8 @@ pub fn chunks(
 }
 
 /// Writes the chunks from here on to the front of the block.
-fn give_chunks(
-    table: &FlatTable,
+fn give_chunks<K: KindSource>(
+    table: &K,
     limits: &Limits,
     here: &mut Here,
     text: &[u8],
@@ -77,9 +78,10 @@ fn give_chunks(
     ensures told { IsKept text.now window.old → AreTold here.old.told here.new.told (length text.now) (take result out.new) }
     ensures order { here.new.start ≤ here.new.told }
     ensures given { (cell : ℕ → Cell) (cuts : List Cut) (to_come : List Chunk)
-        → Knows cell table.now text.now cuts window.old here.old
+        → Knows cell (K.kinds_of table.now) (K.pairs_of table.now) text.now cuts window.old here.old
         → AreChunks limits.now cuts here.old to_come
-        → AreGiven cell table.now text.now limits.now cuts to_come result out.new window.new here.new
+        → AreGiven cell (K.kinds_of table.now) (K.pairs_of table.now) text.now limits.now cuts to_come result out.new
+        window.new here.new
         × (result ≡ min (length out.old) (length to_come)) }
 {
     let mut count = 0;
@@ -103,15 +105,16 @@ struct Given {
 }
 
 /// The chunk from here on.
-fn next_chunk(
-    table: &FlatTable,
+fn next_chunk<K: KindSource>(
+    table: &K,
     limits: &Limits,
     here: &Here,
     text: &[u8],
     window: &mut Window,
 ) -> Option<Given>
-    ensures keeps { KeepsCuts table.now text.now window.old window.new }
-    ensures given { (cell : ℕ → Cell) (cuts : List Cut) → Knows cell table.now text.now cuts window.old here.now
+    ensures keeps { KeepsCuts (K.kinds_of table.now) (K.pairs_of table.now) text.now window.old window.new }
+    ensures given { (cell : ℕ → Cell) (cuts : List Cut)
+        → Knows cell (K.kinds_of table.now) (K.pairs_of table.now) text.now cuts window.old here.now
         → MatchOption result (cuts_past here.now.told cuts ≡ []) (IsGiven limits.now cuts here.now) }
     ensures places { IfSome result (λ given. (given.chunk.start ≡ here.now.start)
         × (given.next.told ≡ given.chunk.end) × (given.next.start ≤ given.next.told)) }
@@ -151,15 +154,16 @@ struct Fitting {
 }
 
 /// The cut at which the chunk ends.
-fn chunk_end(
-    table: &FlatTable,
+fn chunk_end<K: KindSource>(
+    table: &K,
     limits: &Limits,
     here: &Here,
     text: &[u8],
     window: &mut Window,
 ) -> Option<Cut>
-    ensures keeps { KeepsCuts table.now text.now window.old window.new }
-    ensures end { (cell : ℕ → Cell) (cuts : List Cut) → Knows cell table.now text.now cuts window.old here.now
+    ensures keeps { KeepsCuts (K.kinds_of table.now) (K.pairs_of table.now) text.now window.old window.new }
+    ensures end { (cell : ℕ → Cell) (cuts : List Cut)
+        → Knows cell (K.kinds_of table.now) (K.pairs_of table.now) text.now cuts window.old here.now
         → MatchOption result (cuts_past here.now.told cuts ≡ [])
         (λ end. IsEnd limits.now cuts here.now end × IsCutOf cuts end) }
     ensures within { IsKept text.now window.old
@@ -228,8 +232,8 @@ fn fit_up_to(
 /// Goes on over the cuts of a block that fit.
 #[inline(always)]
 fn fit_on(limits: &Limits, here: &Here, window: &Window, start: Fitting) -> Fitting
-    ensures ending { (cell : ℕ → Cell) (table : FlatTable) (text : List ℕ) (cuts : List Cut)
-        → Knows cell table text cuts window.now here.now
+    ensures ending { (cell : ℕ → Cell) (kinds : List ℕ) (pairs : Neighbours) (text : List ℕ) (cuts : List Cut)
+        → Knows cell kinds pairs text cuts window.now here.now
         → IsEnding limits.now cuts here.now start.last start.early
         → IsEnding limits.now cuts here.now result.last result.early }
     ensures placed { (text : List ℕ) → IsKept text window.now → ArePlaced here.now.told (length text) start
@@ -271,16 +275,17 @@ fn early_place(limits: &Limits, here: &Here, cut: &Cut, place: usize, early: usi
 }
 
 /// Where the next chunk starts, after one that ends at a cut.
-fn next_start(
-    table: &FlatTable,
+fn next_start<K: KindSource>(
+    table: &K,
     limits: &Limits,
     here: &Here,
     end: &Cut,
     text: &[u8],
     window: &mut Window,
 ) -> Here
-    ensures keeps { KeepsCuts table.now text.now window.old window.new }
-    ensures next { (cell : ℕ → Cell) (cuts : List Cut) → Knows cell table.now text.now cuts window.old here.now
+    ensures keeps { KeepsCuts (K.kinds_of table.now) (K.pairs_of table.now) text.now window.old window.new }
+    ensures next { (cell : ℕ → Cell) (cuts : List Cut)
+        → Knows cell (K.kinds_of table.now) (K.pairs_of table.now) text.now cuts window.old here.now
         → here.now.told < end.now.at → IsCutOf cuts end.now
         → (result ≡ after limits.now cuts here.now end.now) × IsStanding cuts result.start result.words }
     ensures told { (result.told ≡ end.now.at) × (result.start ≤ result.told) }

@@ -17,7 +17,7 @@ use crate::word_block::WordBlock;
 use crate::words_behind::{pass_known, pass_words};
 use lbk_bytes::RawBreak;
 use lbk_calls::{State, give_breaks};
-use lbk_rules::FlatTable;
+use lbk_rules::KindSource;
 
 /// How far a block is filled with cuts.
 #[derive(Clone, Copy)]
@@ -36,8 +36,8 @@ static NO_BREAKS: [RawBreak; 64] = [RawBreak {
 }; 64];
 
 /// Writes the first cuts from a place on to the front of a block: as many as there is room for, or all.
-pub(crate) fn fill_cuts(
-    table: &FlatTable,
+pub(crate) fn fill_cuts<K: KindSource>(
+    table: &K,
     text: &[u8],
     place: Place,
     words: &mut WordBlock,
@@ -46,7 +46,8 @@ pub(crate) fn fill_cuts(
 ) -> Filled
     requires room { room ≤ 64 }
     ensures first { (cell : ℕ → Cell) (cuts : List Cut) → AreRead text.now words.old
-        → IsAhead cell table.now text.now place cuts → AreFirst cell table.now text.now cuts room out.new result
+        → IsAhead cell (K.kinds_of table.now) (K.pairs_of table.now) text.now place cuts
+        → AreFirst cell (K.kinds_of table.now) (K.pairs_of table.now) text.now cuts room out.new result
         × AreRead text.now words.new }
     ensures room { result.count ≤ room }
     ensures within { StandWithin (length text.now) result.count out.new }
@@ -89,16 +90,23 @@ pub(crate) struct NextBreaks {
 }
 
 /// Writes the first breaks from a state on to the front of a block.
-fn next_breaks(table: &FlatTable, text: &[u8], state: State, block: &mut [RawBreak]) -> NextBreaks
-    ensures first { (cell : ℕ → Cell) (breaks : List Break) → Comes cell table.now text.now state breaks
-        → AreNext cell table.now text.now breaks (length block.old) block.new result }
+fn next_breaks<K: KindSource>(
+    table: &K,
+    text: &[u8],
+    state: State,
+    block: &mut [RawBreak],
+) -> NextBreaks
+    ensures first { (cell : ℕ → Cell) (breaks : List Break)
+        → Comes cell (K.kinds_of table.now) (K.pairs_of table.now) text.now state breaks
+        → AreNext cell (K.kinds_of table.now) (K.pairs_of table.now) text.now breaks (length block.old) block.new
+        result }
     ensures few { result.count ≤ length block.old }
     ensures within { (k : ℕ) → k < result.count → (slice_index_or block.new k no_break).at ≤ length text.now }
     ensures shorter { (result.count ≡ 0) ⊎ (breaks_left text.now result.state < breaks_left text.now state) }
     ensures onward { breaks_left text.now result.state ≤ breaks_left text.now state }
 {
     let mut state = state;
-    let count = give_breaks::<true>(table, &mut state, text, block);
+    let count = give_breaks::<true, K>(table, &mut state, text, block);
     NextBreaks { count, state }
 }
 

@@ -8,7 +8,7 @@ ghost use Rattle.lbk_chunks.specs.Blocks.{last_or, no_cut};
 use crate::cursor::fill_cuts;
 use crate::cut::{Cut, Mark, NO_CUTS};
 use crate::word_block::WordBlock;
-use lbk_rules::FlatTable;
+use lbk_rules::KindSource;
 
 /// How many cuts a block holds.
 pub(crate) const BLOCK: usize = 64;
@@ -49,9 +49,9 @@ impl CutBlock {
     }
 
     /// Reads the cuts from a place on, which replace those that it has.
-    pub(crate) fn read(
+    pub(crate) fn read<K: KindSource>(
         &mut self,
-        table: &FlatTable,
+        table: &K,
         text: &[u8],
         mark: Mark,
         room: usize,
@@ -61,7 +61,8 @@ impl CutBlock {
         ensures within { StandWithin (length text.now) self.new.count self.new.cuts }
         ensures before { (self.new.before ≡ mark) × (self.new.room ≡ room) }
         ensures block { (cell : ℕ → Cell) (cuts : List Cut) → AreCutsPast 0 cuts → AreRead text.now words.old
-            → IsMark cell table.now text.now cuts mark → IsBlock cell table.now text.now cuts self.new
+            → IsMark cell (K.kinds_of table.now) (K.pairs_of table.now) text.now cuts mark
+            → IsBlock cell (K.kinds_of table.now) (K.pairs_of table.now) text.now cuts self.new
             × AreRead text.now words.new }
         ensures shorter { (self.new.count ≡ 0)
             ⊎ (breaks_left text.now self.new.behind.place.breaks < breaks_left text.now mark.place.breaks) }

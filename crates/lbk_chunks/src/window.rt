@@ -2,6 +2,7 @@
 
 ghost use Rattle.std.specs.Prelude.{◌≡◌, ◌⊎◌, ℕ, ◌<◌, ◌≤◌, [], ◌∷◌, false, true, List, IfSome, MatchOption, length};
 ghost use Rattle.lbk_rules.specs.declared.Cell.{Cell};
+ghost use Rattle.lbk_rules.specs.declared.neighbours.Neighbours.{Neighbours};
 ghost use Rattle.lbk_chunks.specs.declared.cut.Cut.{Cut};
 ghost use Rattle.lbk_chunks.specs.Chunks.{cuts_past};
 ghost use Rattle.lbk_chunks.specs.Coming.{AreKept, AreRead, IsAhead, IsBlock, IsKept, IsMark, IsStanding, KeepsCuts};
@@ -12,7 +13,7 @@ use crate::cursor::fill_cuts;
 use crate::cut::{Cut, Mark, NO_CUTS, Place};
 use crate::cut_block::{BLOCK, CutBlock};
 use crate::word_block::WordBlock;
-use lbk_rules::FlatTable;
+use lbk_rules::KindSource;
 
 /// How many cuts are read first. Each further block has twice as many, up to the most that a block holds.
 const FIRST: usize = 4;
@@ -34,11 +35,12 @@ pub(crate) struct Window {
 
 impl Window {
     /// The cuts from a place on.
-    pub(crate) fn new(table: &FlatTable, text: &[u8], home: Mark) -> Window
+    pub(crate) fn new<K: KindSource>(table: &K, text: &[u8], home: Mark) -> Window
         ensures kept { IsKept text.now result }
         ensures home { result.home ≡ home }
         ensures are { (cell : ℕ → Cell) (cuts : List Cut) → AreCutsPast 0 cuts
-            → IsMark cell table.now text.now cuts home → AreKept cell table.now text.now cuts result }
+            → IsMark cell (K.kinds_of table.now) (K.pairs_of table.now) text.now cuts home
+            → AreKept cell (K.kinds_of table.now) (K.pairs_of table.now) text.now cuts result }
     {
         let mut words = WordBlock::none();
         let mut newer = CutBlock::none(home);
@@ -54,10 +56,15 @@ impl Window {
 
     /// The first cut past a byte.
     #[inline(always)]
-    pub(crate) fn first_past(&mut self, table: &FlatTable, text: &[u8], at: usize) -> Option<Cut>
-        ensures keeps { KeepsCuts table.now text.now self.old self.new }
+    pub(crate) fn first_past<K: KindSource>(
+        &mut self,
+        table: &K,
+        text: &[u8],
+        at: usize,
+    ) -> Option<Cut>
+        ensures keeps { KeepsCuts (K.kinds_of table.now) (K.pairs_of table.now) text.now self.old self.new }
         ensures first { (cell : ℕ → Cell) (cuts : List Cut) → AreCutsPast 0 cuts
-            → AreKept cell table.now text.now cuts self.old → self.old.home.at ≤ at
+            → AreKept cell (K.kinds_of table.now) (K.pairs_of table.now) text.now cuts self.old → self.old.home.at ≤ at
             → MatchOption result (cuts_past at cuts ≡ []) (λ cut. cuts_past at cuts ≡ cut ∷ cuts_past cut.at cuts) }
         ensures past { IfSome result (λ cut. at < cut.at) }
         ensures within { IsKept text.now self.old → IfSome result (λ cut. cut.at ≤ length text.now) }
@@ -85,8 +92,8 @@ impl Window {
     pub(crate) fn block_past(&self, at: usize) -> &CutBlock
         ensures within { (text : List ℕ) → IsKept text self.now
             → StandWithin (length text) result.now.count result.now.cuts }
-        ensures block { (cell : ℕ → Cell) (table : FlatTable) (text : List ℕ) (cuts : List Cut)
-            → AreKept cell table text cuts self.now → IsBlock cell table text cuts result.now }
+        ensures block { (cell : ℕ → Cell) (kinds : List ℕ) (pairs : Neighbours) (text : List ℕ) (cuts : List Cut)
+            → AreKept cell kinds pairs text cuts self.now → IsBlock cell kinds pairs text cuts result.now }
     {
         if self.older.reaches(at) {
             return &self.older;
@@ -95,8 +102,8 @@ impl Window {
     }
 
     /// Reads the cuts again from the place that is kept, if the newer ones are past a byte.
-    fn reread(&mut self, table: &FlatTable, text: &[u8], at: usize)
-        ensures keeps { KeepsCuts table.now text.now self.old self.new }
+    fn reread<K: KindSource>(&mut self, table: &K, text: &[u8], at: usize)
+        ensures keeps { KeepsCuts (K.kinds_of table.now) (K.pairs_of table.now) text.now self.old self.new }
         ensures before { self.old.home.at ≤ at → self.new.newer.before.at ≤ at }
     {
         if self.newer.before.at <= at {
@@ -107,9 +114,9 @@ impl Window {
     }
 
     /// Reads the cuts after the newer ones.
-    fn read_on(&mut self, table: &FlatTable, text: &[u8])
+    fn read_on<K: KindSource>(&mut self, table: &K, text: &[u8])
         requires { self.old.newer.count ≡ self.old.newer.room }
-        ensures keeps { KeepsCuts table.now text.now self.old self.new }
+        ensures keeps { KeepsCuts (K.kinds_of table.now) (K.pairs_of table.now) text.now self.old self.new }
         ensures before { self.new.newer.before ≡ self.old.newer.behind }
         ensures shorter { (self.new.newer.count ≡ 0)
             ⊎ (breaks_left text.now self.new.newer.behind.place.breaks < breaks_left text.now
@@ -125,11 +132,11 @@ impl Window {
 
     /// Reads cuts until the newer reach past a byte, and returns whether they do.
     #[inline(never)]
-    fn read_past(&mut self, table: &FlatTable, text: &[u8], at: usize) -> bool
-        ensures keeps { KeepsCuts table.now text.now self.old self.new }
+    fn read_past<K: KindSource>(&mut self, table: &K, text: &[u8], at: usize) -> bool
+        ensures keeps { KeepsCuts (K.kinds_of table.now) (K.pairs_of table.now) text.now self.old self.new }
         ensures reaches { result ≡ true → (self.new.newer.before.at ≤ at) × (at < self.new.newer.behind.at) }
         ensures none { (cell : ℕ → Cell) (cuts : List Cut) → AreCutsPast 0 cuts
-            → AreKept cell table.now text.now cuts self.old → self.old.home.at ≤ at
+            → AreKept cell (K.kinds_of table.now) (K.pairs_of table.now) text.now cuts self.old → self.old.home.at ≤ at
             → result ≡ false → cuts_past at cuts ≡ [] }
     {
         self.reread(table, text, at);
@@ -146,8 +153,8 @@ impl Window {
     pub(crate) fn settle(&mut self, at: usize)
         ensures kept { (text : List ℕ) → IsKept text self.old → IsKept text self.new }
         ensures home { self.old.home.at ≤ at → self.new.home.at ≤ at }
-        ensures are { (cell : ℕ → Cell) (table : FlatTable) (text : List ℕ) (cuts : List Cut)
-            → AreKept cell table text cuts self.old → AreKept cell table text cuts self.new }
+        ensures are { (cell : ℕ → Cell) (kinds : List ℕ) (pairs : Neighbours) (text : List ℕ) (cuts : List Cut)
+            → AreKept cell kinds pairs text cuts self.old → AreKept cell kinds pairs text cuts self.new }
     {
         if self.newer.before.at <= at {
             self.home = self.newer.before;
@@ -157,10 +164,11 @@ impl Window {
     }
 
     /// The place of the cut at the offset of a state.
-    pub(crate) fn place_of(&mut self, table: &FlatTable, text: &[u8], at: usize) -> Place
+    pub(crate) fn place_of<K: KindSource>(&mut self, table: &K, text: &[u8], at: usize) -> Place
         ensures { (cell : ℕ → Cell) (cuts : List Cut) (words : ℕ) → AreCutsPast 0 cuts
-            → AreKept cell table.now text.now cuts self.old → self.old.home.at ≤ at
-            → IsStanding cuts at words → IsAhead cell table.now text.now result (cuts_past at cuts)
+            → AreKept cell (K.kinds_of table.now) (K.pairs_of table.now) text.now cuts self.old → self.old.home.at ≤ at
+            → IsStanding cuts at words → IsAhead cell (K.kinds_of table.now) (K.pairs_of table.now) text.now result
+            (cuts_past at cuts)
             × (result.words ≡ words) }
     {
         let mut here = self.near(table, text, at);
@@ -179,10 +187,11 @@ impl Window {
     }
 
     /// The nearest known place at a byte or before it.
-    fn near(&mut self, table: &FlatTable, text: &[u8], at: usize) -> Mark
+    fn near<K: KindSource>(&mut self, table: &K, text: &[u8], at: usize) -> Mark
         ensures before { self.old.home.at ≤ at → result.at ≤ at }
         ensures mark { (cell : ℕ → Cell) (cuts : List Cut) → AreCutsPast 0 cuts
-            → AreKept cell table.now text.now cuts self.old → IsMark cell table.now text.now cuts result
+            → AreKept cell (K.kinds_of table.now) (K.pairs_of table.now) text.now cuts self.old
+            → IsMark cell (K.kinds_of table.now) (K.pairs_of table.now) text.now cuts result
             × AreRead text.now self.new.words }
     {
         let many = self.many_up_to(at);

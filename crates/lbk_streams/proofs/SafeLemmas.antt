@@ -9,7 +9,7 @@ use Rattle.lbk_rules.specs.declared.Class.{Class}
 use Rattle.lbk_values.specs.declared.profile.Profile.{Profile}
 use Rattle.lbk_rules.specs.Ends.{ends_between}
 use Rattle.lbk_rules.specs.Joins.{must_end_between}
-use Rattle.lbk_rules.specs.declared.flat_table.FlatTable.{FlatTable}
+use Rattle.lbk_rules.specs.declared.neighbours.Neighbours.{Neighbours}
 use Rattle.lbk_rules.specs.FlatTable.{AreFlatKinds}
 use Rattle.lbk_streams.specs.Cuts.{BeginsIn, CutsAfter, CutsBefore, EndsBefore, IsPieceStart, IsSafeCut, IsSafeIn, JoinsAt, JoinsIn}
 use Rattle.lbk_streams.specs.Looking.{LastIs, NextIs}
@@ -119,13 +119,13 @@ unsafe-here pieces_of cell text at place may stays told =
 
 -- What a call promises that cuts a text, by what it found
 
-module _ (pieces_of : List ℕ → List Decoded) (table : FlatTable) (text : List ℕ) (at result : ℕ)
+module _ (pieces_of : List ℕ → List Decoded) (kinds : List ℕ) (pairs : Neighbours) (text : List ℕ) (at result : ℕ)
     (joins : (profile : Profile) (cell : ℕ → Cell) → 0 < result → result < length text → IsSafeIn pieces_of cell text result → JoinsIn pieces_of profile cell text result)
     (begins : BeginsIn pieces_of text result)
-    (is_safe : (cell : ℕ → Cell) → AreFlatKinds table.kinds cell → IsSafeIn pieces_of cell text result) where
+    (is_safe : (cell : ℕ → Cell) → AreFlatKinds kinds cell → IsSafeIn pieces_of cell text result) where
   pub cuts-after : result ≤ length text → min at (length text) ≤ result → (at ≡ 0 → result ≡ 0)
-      → ((cell : ℕ → Cell) (place : ℕ) → AreFlatKinds table.kinds cell → at ≤ place → place < result → ¬ (IsSafeIn pieces_of cell text place))
-      → CutsAfter pieces_of table text at result
+      → ((cell : ℕ → Cell) (place : ℕ) → AreFlatKinds kinds cell → at ≤ place → place < result → ¬ (IsSafeIn pieces_of cell text place))
+      → CutsAfter pieces_of kinds pairs text at result
   cuts-after within behind start least = record {
     within = within;
     past = λ past. omega arith;
@@ -138,8 +138,8 @@ module _ (pieces_of : List ℕ → List Decoded) (table : FlatTable) (text : Lis
   }
 
   pub cuts-before : result ≤ min at (length text) → (length text ≤ at → result ≡ length text)
-      → ((cell : ℕ → Cell) (place : ℕ) → AreFlatKinds table.kinds cell → result < place → place ≤ at → place ≤ length text → ¬ (IsSafeIn pieces_of cell text place))
-      → CutsBefore pieces_of table text at result
+      → ((cell : ℕ → Cell) (place : ℕ) → AreFlatKinds kinds cell → result < place → place ≤ at → place ≤ length text → ¬ (IsSafeIn pieces_of cell text place))
+      → CutsBefore pieces_of kinds pairs text at result
   cuts-before before past greatest = record {
     within = omega arith;
     past = past;

@@ -22,9 +22,9 @@ use Rattle.lbk_rules.specs.Verdict.{verdict_between_in}
 use Rattle.lbk_rules.proofs.EndLemmas.{heads-joins, joins_no_break}
 use Rattle.lbk_rules.proofs.HeldLemmas.{is_held-chain}
 use Rattle.lbk_rules.specs.declared.steps.Step.{Step}
-use Rattle.lbk_rules.specs.declared.flat_table.FlatTable.{FlatTable}
+use Rattle.lbk_rules.specs.declared.neighbours.Neighbours.{Neighbours}
 use Rattle.lbk_rules.specs.declared.steps.TheConstants.{HELD}
-use Rattle.lbk_rules.specs.FlatTable.{IsFlatOf, KnowsTaken}
+use Rattle.lbk_rules.specs.FlatTable.{IsFlatBy, KnowsTaken}
 use Rattle.lbk_rules.specs.Kinds.{kind_cell, real_kind}
 use Rattle.lbk_rules.specs.RowMachineFits.{normals}
 use Rattle.lbk_rules.specs.Rows.{IsPlace, IsShown, step_by, steps_in, verdict_shown}
@@ -52,13 +52,13 @@ mark-soft ZWJ _ = refl
 mark-soft _ h = absurd (false≢true h)
 
 -- a position that rule 15b decides stands before a quotation mark
-held-soft : (cell : ℕ → Cell) (table : FlatTable) (taken : List ℕ) (row c : ℕ) (other : Step)
-    → IsFlatOf table cell → KnowsTaken cell row taken → IsScalar c
-    → (IsPlace row → other ≡ step_by (steps_in Second) row (get_or table.kinds c 0)) → other.shown ≡ HELD
+held-soft : (cell : ℕ → Cell) (kinds : List ℕ) (pairs : Neighbours) (taken : List ℕ) (row c : ℕ) (other : Step)
+    → IsFlatBy kinds pairs cell → KnowsTaken cell row taken → IsScalar c
+    → (IsPlace row → other ≡ step_by (steps_in Second) row (get_or kinds c 0)) → other.shown ≡ HELD
     → hard (normal (cell c)).class ≡ false
 unfolding is_held
-held-soft cell table taken row c other flat known scalar is_other held =
-    let number = get_or table.kinds c 0 in
+held-soft cell kinds pairs taken row c other flat known scalar is_other held =
+    let number = get_or kinds c 0 in
     let kind = real_kind number in
     let same = flat.kinds c scalar in
     let step = steps-here row number (step_by (steps_in First) row number) other known.0 refl (is_other known.0) in
@@ -229,11 +229,11 @@ Stands-on profile cell place next p ps all given front after c size is_char is_s
     }
 
 -- the row that a step leads to
-pub knows-next : (cell : ℕ → Cell) (table : FlatTable) (row c : ℕ) (one : Step) → IsFlatOf table cell → IsScalar c
-    → (IsPlace row → one ≡ step_by (steps_in First) row (get_or table.kinds c 0))
+pub knows-next : (cell : ℕ → Cell) (kinds : List ℕ) (pairs : Neighbours) (row c : ℕ) (one : Step) → IsFlatBy kinds pairs cell → IsScalar c
+    → (IsPlace row → one ≡ step_by (steps_in First) row (get_or kinds c 0))
     → (taken : List ℕ) → KnowsTaken cell row taken → KnowsTaken cell one.next (taken ++ c ∷ [])
-knows-next cell table row c one flat scalar is_one taken known =
-    let number = get_or table.kinds c 0 in
+knows-next cell kinds pairs row c one flat scalar is_one taken known =
+    let number = get_or kinds c 0 in
     let step = steps-here row number one (step_by (steps_in Second) row number) known.0 (is_one known.0) refl in
     knows-more cell row one.next c (real_kind number) (flat.kinds c scalar) step.begins step.leads taken known
 
@@ -258,16 +258,16 @@ loud-code code loud =
     ] refl
 
 -- what a number decides that waits for nothing
-pub decides-now : (profile : Profile) (cell : ℕ → Cell) (table : FlatTable) (taken : List ℕ) (at row c : ℕ) (one other : Step)
+pub decides-now : (profile : Profile) (cell : ℕ → Cell) (kinds : List ℕ) (pairs : Neighbours) (taken : List ℕ) (at row c : ℕ) (one other : Step)
     (right : List Cell)
-    → IsFlatOf table cell → KnowsTaken cell row taken → IsScalar c
-    → (IsPlace row → one ≡ step_by (steps_in First) row (get_or table.kinds c 0))
-    → (IsPlace row → other ≡ step_by (steps_in profile) row (get_or table.kinds c 0))
+    → IsFlatBy kinds pairs cell → KnowsTaken cell row taken → IsScalar c
+    → (IsPlace row → one ≡ step_by (steps_in First) row (get_or kinds c 0))
+    → (IsPlace row → other ≡ step_by (steps_in profile) row (get_or kinds c 0))
     → (profile ≡ Second → other.shown ≡ HELD → is_no (verdict_shown one.shown).kind ≡ true)
     → with_break at (verdict_shown other.shown) [] ≡ with_break at (verdict_between_in profile (map cell taken) (cell c ∷ right)) []
-decides-now First cell table taken at row c one other right flat known scalar is_one is_other quiet =
-    ap (λ (v : Verdict). with_break at v []) (decides-first table.kinds cell taken row c other right flat.kinds known scalar (is_other known.0))
-decides-now Second cell table taken at row c one other right flat known scalar is_one is_other quiet =
+decides-now First cell kinds pairs taken at row c one other right flat known scalar is_one is_other quiet =
+    ap (λ (v : Verdict). with_break at v []) (decides-first kinds cell taken row c other right flat.kinds known scalar (is_other known.0))
+decides-now Second cell kinds pairs taken at row c one other right flat known scalar is_one is_other quiet =
     (elim (other.shown == HELD)
     as (λ b. (other.shown == HELD) ≡ b
     → with_break at (verdict_shown other.shown) [] ≡ with_break at (verdict_between_in Second (map cell taken) (cell c ∷ right)) []) [
@@ -279,29 +279,29 @@ decides-now Second cell table taken at row c one other right flat known scalar i
           → with_break at (verdict_shown other.shown) [] ≡ with_break at (verdict_between_in Second (map cell taken) (cell c ∷ right)) []) [
             | true ↦ λ closed.
                 ap (λ (v : Verdict). with_break at v [])
-                (decides-closed table.kinds cell taken row c other right flat.kinds known scalar (is_other known.0) closed)
+                (decides-closed kinds cell taken row c other right flat.kinds known scalar (is_other known.0) closed)
             | false ↦ λ stays.
                 none ∙ sym (silent-code at one.shown (quiet refl held))
                 ∙ ap (λ (v : Verdict). with_break at v [])
-                (decides-open table.kinds cell taken row c one other right flat.kinds known scalar (is_one known.0) (is_other known.0) held stays)
+                (decides-open kinds cell taken row c one other right flat.kinds known scalar (is_one known.0) (is_other known.0) held stays)
           ]) refl
       | false ↦ λ apart.
           let unheld : ¬ (other.shown ≡ HELD) = λ held. absurd (false≢true (sym apart ∙ same-test other.shown HELD held)) in
           ap (λ (v : Verdict). with_break at v [])
-          (decides-apart table.kinds cell taken row c other right flat.kinds known scalar (is_other known.0) unheld)
+          (decides-apart kinds cell taken row c other right flat.kinds known scalar (is_other known.0) unheld)
     ]) refl
 
 -- what waits where rule 15b decides
-pub decides-late : (cell : ℕ → Cell) (table : FlatTable) (taken : List ℕ) (place next : StreamPosition) (ps : List Decoded) (c : ℕ) (one other : Step)
-    → IsFlatOf table cell → KnowsTaken cell place.row taken → IsScalar c
-    → (IsPlace place.row → one ≡ step_by (steps_in First) place.row (get_or table.kinds c 0))
-    → (IsPlace place.row → other ≡ step_by (steps_in Second) place.row (get_or table.kinds c 0))
+pub decides-late : (cell : ℕ → Cell) (kinds : List ℕ) (pairs : Neighbours) (taken : List ℕ) (place next : StreamPosition) (ps : List Decoded) (c : ℕ) (one other : Step)
+    → IsFlatBy kinds pairs cell → KnowsTaken cell place.row taken → IsScalar c
+    → (IsPlace place.row → one ≡ step_by (steps_in First) place.row (get_or kinds c 0))
+    → (IsPlace place.row → other ≡ step_by (steps_in Second) place.row (get_or kinds c 0))
     → other.shown ≡ HELD → is_no (verdict_shown one.shown).kind ≡ false → next.held_at ≡ place.at → next.held_code ≡ one.shown
     → late_break cell next ps
     ≡ with_break place.at (verdict_between_in Second (map cell taken) (cell c ∷ map cell (scalars_of ps))) []
-decides-late cell table taken place next ps c one other flat known scalar is_one is_other held breaks held_same code_same =
+decides-late cell kinds pairs taken place next ps c one other flat known scalar is_one is_other held breaks held_same code_same =
     let right = map cell (scalars_of ps) in
-    let soft = held-soft cell table taken place.row c other flat known scalar is_other held in
+    let soft = held-soft cell kinds pairs taken place.row c other flat known scalar is_other held in
     let some : (next.held_code == 0) ≡ false = ap (λ n. n == 0) code_same ∙ loud-code one.shown breaks in
     let same : with_break next.held_at (verdict_shown next.held_code) [] ≡ with_break place.at (verdict_shown one.shown) [] =
     ap (λ n. with_break n (verdict_shown next.held_code) []) held_same ∙ ap (λ n. with_break place.at (verdict_shown n) []) code_same in
@@ -310,29 +310,29 @@ decides-late cell table taken place next ps c one other flat known scalar is_one
     → late_break cell next ps ≡ with_break place.at (verdict_between_in Second (map cell taken) (cell c ∷ right)) []) [
       | true ↦ λ is.
           let closed = ap (λ b. leaves_closed (units_after b (cells_of cell ps))) soft ∙ is in
-          let decided = decides-closed table.kinds cell taken place.row c other right flat.kinds known scalar (is_other known.0) closed in
+          let decided = decides-closed kinds cell taken place.row c other right flat.kinds known scalar (is_other known.0) closed in
           late-some cell next ps true some is ∙ sym (silent-held place.at other.shown held)
           ∙ ap (λ (v : Verdict). with_break place.at v []) decided
       | false ↦ λ is.
           let stays = ap (λ b. leaves_closed (units_after b (cells_of cell ps))) soft ∙ is in
-          let decided = decides-open table.kinds cell taken place.row c one other right flat.kinds known scalar (is_one known.0) (is_other known.0) held stays in
+          let decided = decides-open kinds cell taken place.row c one other right flat.kinds known scalar (is_one known.0) (is_other known.0) held stays in
           late-some cell next ps false some is ∙ same ∙ ap (λ (v : Verdict). with_break place.at v []) decided
     ]) refl
 
 -- that it waits
-pub waits-now : (cell : ℕ → Cell) (table : FlatTable) (taken : List ℕ) (place next : StreamPosition) (c : ℕ) (one other : Step)
-    → IsFlatOf table cell → KnowsTaken cell place.row taken → IsScalar c
-    → (IsPlace place.row → one ≡ step_by (steps_in First) place.row (get_or table.kinds c 0))
-    → (IsPlace place.row → other ≡ step_by (steps_in Second) place.row (get_or table.kinds c 0))
+pub waits-now : (cell : ℕ → Cell) (kinds : List ℕ) (pairs : Neighbours) (taken : List ℕ) (place next : StreamPosition) (c : ℕ) (one other : Step)
+    → IsFlatBy kinds pairs cell → KnowsTaken cell place.row taken → IsScalar c
+    → (IsPlace place.row → one ≡ step_by (steps_in First) place.row (get_or kinds c 0))
+    → (IsPlace place.row → other ≡ step_by (steps_in Second) place.row (get_or kinds c 0))
     → other.shown ≡ HELD → is_no (verdict_shown one.shown).kind ≡ false → next.held_at ≡ place.at → next.held_code ≡ one.shown → place.at < next.at
     → Waits Second cell (taken ++ c ∷ []) next
-waits-now cell table taken place next c one other flat known scalar is_one is_other held shows_break held_same code_same onward = record {
+waits-now cell kinds pairs taken place next c one other flat known scalar is_one is_other held shows_break held_same code_same onward = record {
   second = refl;
   breaks = ap (λ n. is_no (verdict_shown n).kind) code_same ∙ shows_break;
-  coded = subst IsShown (sym code_same) (steps-here place.row (get_or table.kinds c 0) one other known.0 (is_one known.0) (is_other known.0)).shows.0;
+  coded = subst IsShown (sym code_same) (steps-here place.row (get_or kinds c 0) one other known.0 (is_one known.0) (is_other known.0)).shows.0;
   before = omega arith;
   front = taken;
   last = c;
   joined = refl;
-  soft = held-soft cell table taken place.row c other flat known scalar is_other held;
+  soft = held-soft cell kinds pairs taken place.row c other flat known scalar is_other held;
 }

@@ -14,8 +14,8 @@ use Rattle.lbk_rules.specs.Breaks.{break_by, is_no}
 use Rattle.lbk_rules.specs.Ends.{end_after, ends_line}
 use Rattle.lbk_rules.specs.Verdict.{verdict_between_in}
 use Rattle.lbk_rules.proofs.ParagraphLemmas.{or-true}
-use Rattle.lbk_rules.specs.declared.flat_table.FlatTable.{FlatTable}
-use Rattle.lbk_rules.specs.FlatTable.{IsFlatOf, KnowsTaken}
+use Rattle.lbk_rules.specs.declared.neighbours.Neighbours.{Neighbours}
+use Rattle.lbk_rules.specs.FlatTable.{IsFlatBy, KnowsTaken}
 use Rattle.lbk_rules.specs.Rows.{verdict_shown}
 use Rattle.lbk_rules.proofs.FlatLemmas.{left-start}
 use Rattle.lbk_streams.specs.declared.stream.Feeding.{Feeding}
@@ -28,12 +28,12 @@ use Rattle.lbk_streams.specs.Stands.{Ahead, Feeds, Stands, StreamsIn, ahead, fro
 use Rattle.lbk_streams.specs.Streams.{AreUnsettledIn, cut_units, late_break, part_stream, place_of}
 
 -- the start of a stream, or of a part of one
-pub Streams-part : {A : Type 0} (pieces_of : List A → List Decoded) (carried : List ℕ → List A) (cell : ℕ → Cell) (table : FlatTable) (goes_on : Bool) (profile : Profile) (at : ℕ) (text : List A) (stream : Stream) (to_come : List Break)
-    → IsFlatOf table cell → at + length text < 2 ^ 64 → stream ≡ part_stream goes_on profile at
+pub Streams-part : {A : Type 0} (pieces_of : List A → List Decoded) (carried : List ℕ → List A) (cell : ℕ → Cell) (kinds : List ℕ) (pairs : Neighbours) (goes_on : Bool) (profile : Profile) (at : ℕ) (text : List A) (stream : Stream) (to_come : List Break)
+    → IsFlatBy kinds pairs cell → at + length text < 2 ^ 64 → stream ≡ part_stream goes_on profile at
     → to_come ≡ onward_to (end_in goes_on) profile cell [] at (pieces_of text)
-    → StreamsIn pieces_of carried cell table stream text to_come
-Streams-part pieces_of carried cell table part profile at text stream to_come flat short starts whole =
-    subst (λ s. StreamsIn pieces_of carried cell table s text to_come) (sym starts) (flagged part profile whole)
+    → StreamsIn pieces_of carried cell kinds pairs stream text to_come
+Streams-part pieces_of carried cell kinds pairs part profile at text stream to_come flat short starts whole =
+    subst (λ s. StreamsIn pieces_of carried cell kinds pairs s text to_come) (sym starts) (flagged part profile whole)
   where
     begun : (goes_on : Bool) (profile : Profile) → to_come ≡ onward_to (end_in goes_on) profile cell [] at (pieces_of text)
         → Stands profile cell (place_of (part_stream goes_on profile at)) (pieces_of text) (record { breaks = to_come; goes_on = goes_on }) []
@@ -58,7 +58,7 @@ Streams-part pieces_of carried cell table part profile at text stream to_come fl
     same false Second = refl
 
     flagged : (part : Bool) (profile : Profile) → to_come ≡ onward_to (end_in part) profile cell [] at (pieces_of text)
-        → StreamsIn pieces_of carried cell table (part_stream part profile at) text to_come
+        → StreamsIn pieces_of carried cell kinds pairs (part_stream part profile at) text to_come
     flagged part profile whole = record {
       profile = profile;
       named = named part profile;
@@ -130,12 +130,12 @@ named-one p q stream is also = cc
 
 module _ {A : Type 0} (pieces_of : List A → List Decoded) (carried : List ℕ → List A) (profile : Profile) (cell : ℕ → Cell) where
   -- where a call begins on a stream from which breaks may come
-  pub Feeds-streams : (table : FlatTable) (old : Stream) (piece more : List A) (to_come given : List Break) (start : Feeding A)
+  pub Feeds-streams : (kinds : List ℕ) (pairs : Neighbours) (old : Stream) (piece more : List A) (to_come given : List Break) (start : Feeding A)
       → profile_numbered (plain_number old.profile) ≡ Some profile → old.ended ≡ 0
       → start.place ≡ place_of old → front_of start.cut ≡ cut_units carried old → start.taken ≡ 0 → start.cut.size ≡ length (cut_units carried old) → given ≡ []
-      → (s : StreamsIn pieces_of carried cell table old (piece ++ more) to_come)
+      → (s : StreamsIn pieces_of carried cell kinds pairs old (piece ++ more) to_come)
       → Feeds pieces_of profile cell (old.at + length (cut_units carried old)) piece more start (ahead old.profile to_come) given
-  Feeds-streams table old piece more to_come given start named unended place_same cut_same none size nothing s =
+  Feeds-streams kinds pairs old piece more to_come given start named unended place_same cut_same none size nothing s =
       let same : s.profile ≡ profile = named-one s.profile profile old s.named named in
       let all = ahead old.profile to_come in
       let begins : cut_units carried old ++ (piece ++ more) ≡ front_of start.cut ++ (drop start.taken piece ++ more) =
@@ -152,13 +152,13 @@ module _ {A : Type 0} (pieces_of : List A → List Decoded) (carried : List ℕ 
       }
 
   -- the others come from where it ends
-  pub Streams-next : (table : FlatTable) (base : ℕ) (old new : Stream) (piece more : List A) (to_come given : List Break)
+  pub Streams-next : (kinds : List ℕ) (pairs : Neighbours) (base : ℕ) (old new : Stream) (piece more : List A) (to_come given : List Break)
       (here : Feeding A) (count : ℕ)
-      → profile_numbered (plain_number old.profile) ≡ Some profile → old.ended ≡ 0 → IsFlatOf table cell
+      → profile_numbered (plain_number old.profile) ≡ Some profile → old.ended ≡ 0 → IsFlatBy kinds pairs cell
       → place_of new ≡ here.place → cut_units carried new ≡ front_of here.cut → new.profile ≡ old.profile → new.ended ≡ old.ended
       → length given ≡ count → Feeds pieces_of profile cell base piece more here (ahead old.profile to_come) given
-      → StreamsIn pieces_of carried cell table new (drop here.taken piece ++ more) (drop count to_come)
-  Streams-next table base old new piece more to_come given here count named unended flat place_same cut_same kept ended_same many f =
+      → StreamsIn pieces_of carried cell kinds pairs new (drop here.taken piece ++ more) (drop count to_come)
+  Streams-next kinds pairs base old new piece more to_come given here count named unended flat place_same cut_same kept ended_same many f =
       let units = drop here.taken piece ++ more in
       record {
         profile = profile;
@@ -222,10 +222,10 @@ module _ {A : Type 0} (pieces_of : List A → List Decoded) (carried : List ℕ 
       ap (λ n. take n (listed here.cut.units) ++ (drop here.taken piece ++ [])) none ∙ ap (λ n. drop n piece ++ []) all ∙ ap (λ l. l ++ []) (drop-length piece) in
       Stands-end profile cell here.place (pieces_of units) (ahead number to_come) given (ap pieces_of nothing ∙ ends) f.stands ∙ sym (end f.stands.taken f.stands.knows f.stands.some)
 
-  pub Streams-end : (table : FlatTable) (old new : Stream) (units : List A) (to_come after : List Break) (count : ℕ)
-      → profile_numbered (plain_number old.profile) ≡ Some profile → IsFlatOf table cell → new.profile ≡ old.profile → new.ended ≡ 1
-      → to_come ≡ after → length after ≡ count → StreamsIn pieces_of carried cell table new units (drop count to_come)
-  Streams-end table old new units to_come after count named flat kept ended all many = record {
+  pub Streams-end : (kinds : List ℕ) (pairs : Neighbours) (old new : Stream) (units : List A) (to_come after : List Break) (count : ℕ)
+      → profile_numbered (plain_number old.profile) ≡ Some profile → IsFlatBy kinds pairs cell → new.profile ≡ old.profile → new.ended ≡ 1
+      → to_come ≡ after → length after ≡ count → StreamsIn pieces_of carried cell kinds pairs new units (drop count to_come)
+  Streams-end kinds pairs old new units to_come after count named flat kept ended all many = record {
     profile = profile;
     named = ap (λ n. profile_numbered (plain_number n)) kept ∙ named;
     flat = flat;
@@ -235,16 +235,16 @@ module _ {A : Type 0} (pieces_of : List A → List Decoded) (carried : List ℕ 
   }
 
 -- from a stream that has ended nothing comes
-pub ended-none : {A : Type 0} (pieces_of : List A → List Decoded) (carried : List ℕ → List A) (cell : ℕ → Cell) (table : FlatTable) (old : Stream) (more : List A) (to_come : List Break)
-    → (0 < old.ended) ⊎ (profile_numbered (plain_number old.profile) ≡ None) → StreamsIn pieces_of carried cell table old more to_come → (to_come ≡ []) × (0 < old.ended)
-ended-none pieces_of carried cell table old more to_come (inl ended) s = (s.none_come ended, ended)
-ended-none pieces_of carried cell table old more to_come (inr unnamed) s = absurd (let unknown : ⊥ = (let named = s.named in cc) in unknown)
+pub ended-none : {A : Type 0} (pieces_of : List A → List Decoded) (carried : List ℕ → List A) (cell : ℕ → Cell) (kinds : List ℕ) (pairs : Neighbours) (old : Stream) (more : List A) (to_come : List Break)
+    → (0 < old.ended) ⊎ (profile_numbered (plain_number old.profile) ≡ None) → StreamsIn pieces_of carried cell kinds pairs old more to_come → (to_come ≡ []) × (0 < old.ended)
+ended-none pieces_of carried cell kinds pairs old more to_come (inl ended) s = (s.none_come ended, ended)
+ended-none pieces_of carried cell kinds pairs old more to_come (inr unnamed) s = absurd (let unknown : ⊥ = (let named = s.named in cc) in unknown)
 
 -- what has ended goes on as it is, whatever follows
-pub ended-stays : {A : Type 0} (pieces_of : List A → List Decoded) (carried : List ℕ → List A) (cell : ℕ → Cell) (table : FlatTable) (old : Stream) (more other : List A) (to_come : List Break)
-    → (0 < old.ended) ⊎ (profile_numbered (plain_number old.profile) ≡ None) → StreamsIn pieces_of carried cell table old more to_come → StreamsIn pieces_of carried cell table old other to_come
-ended-stays pieces_of carried cell table old more other to_come spent s =
-    let none = ended-none pieces_of carried cell table old more to_come spent s in
+pub ended-stays : {A : Type 0} (pieces_of : List A → List Decoded) (carried : List ℕ → List A) (cell : ℕ → Cell) (kinds : List ℕ) (pairs : Neighbours) (old : Stream) (more other : List A) (to_come : List Break)
+    → (0 < old.ended) ⊎ (profile_numbered (plain_number old.profile) ≡ None) → StreamsIn pieces_of carried cell kinds pairs old more to_come → StreamsIn pieces_of carried cell kinds pairs old other to_come
+ended-stays pieces_of carried cell kinds pairs old more other to_come spent s =
+    let none = ended-none pieces_of carried cell kinds pairs old more to_come spent s in
     record {
       profile = s.profile;
       named = s.named;
@@ -263,9 +263,9 @@ unnamed-high (suc (suc (suc zero))) none = absurd (let unknown : ⊥ = cc in unk
 unnamed-high (suc (suc (suc (suc n)))) none = omega arith
 
 -- what the last call gives
-pub record IsClosed {A : Type 0} (pieces_of : List A → List Decoded) (carried : List ℕ → List A) (cell : ℕ → Cell) (table : FlatTable) (new : Stream) (units : List A) (to_come after : List Break) (count room : ℕ) : Type 0 where
+pub record IsClosed {A : Type 0} (pieces_of : List A → List Decoded) (carried : List ℕ → List A) (cell : ℕ → Cell) (kinds : List ℕ) (pairs : Neighbours) (new : Stream) (units : List A) (to_come after : List Break) (count room : ℕ) : Type 0 where
   pub front : after ≡ take count to_come
-  pub rest : StreamsIn pieces_of carried cell table new units (drop count to_come)
+  pub rest : StreamsIn pieces_of carried cell kinds pairs new units (drop count to_come)
   pub end : count < room → count ≡ length to_come
 
 -- how the call ends: with a full block, or with the end of the stream
@@ -282,19 +282,19 @@ pub record Closes {A : Type 0} (carried : List ℕ → List A) (profile : Profil
   pub end : done.count < room → (taken : List ℕ) → KnowsTaken cell done.place.row taken → (0 < done.place.row → 0 < length taken)
       → after ≡ given ++ end_in (goes_on old.profile) profile cell taken done.place.at
 
-pub Feeds-closed : {A : Type 0} (pieces_of : List A → List Decoded) (carried : List ℕ → List A) (profile : Profile) (cell : ℕ → Cell) (table : FlatTable) (base : ℕ) (old new : Stream) (piece : List A) (to_come given after : List Break)
+pub Feeds-closed : {A : Type 0} (pieces_of : List A → List Decoded) (carried : List ℕ → List A) (profile : Profile) (cell : ℕ → Cell) (kinds : List ℕ) (pairs : Neighbours) (base : ℕ) (old new : Stream) (piece : List A) (to_come given after : List Break)
     (done : Feeding A) (count room : ℕ)
-    → pieces_of [] ≡ [] → profile_numbered (plain_number old.profile) ≡ Some profile → old.ended ≡ 0 → IsFlatOf table cell → Closes carried profile cell old new done piece given after count room
+    → pieces_of [] ≡ [] → profile_numbered (plain_number old.profile) ≡ Some profile → old.ended ≡ 0 → IsFlatBy kinds pairs cell → Closes carried profile cell old new done piece given after count room
     → Feeds pieces_of profile cell base piece [] done (ahead old.profile to_come) given
-    → IsClosed pieces_of carried cell table new (drop done.taken piece ++ []) to_come after count room
-Feeds-closed pieces_of carried profile cell table base old new piece to_come given after done count room ends named unended flat x f =
+    → IsClosed pieces_of carried cell kinds pairs new (drop done.taken piece ++ []) to_come after count room
+Feeds-closed pieces_of carried profile cell kinds pairs base old new piece to_come given after done count room ends named unended flat x f =
     ⊎_elim
     (λ (free : done.count < room).
     let all : to_come ≡ after =
     Feeds-ended pieces_of carried profile cell old.profile base piece to_come given after done ends (x.cut free) (x.taken free) (x.end free) f in
     record {
       front = sym (ap (take count) all ∙ ap (λ n. take n after) (sym x.counted) ∙ take-length after);
-      rest = Streams-end pieces_of carried profile cell table old new (drop done.taken piece ++ []) to_come after count named flat x.kept (x.ended free) all x.counted;
+      rest = Streams-end pieces_of carried profile cell kinds pairs old new (drop done.taken piece ++ []) to_come after count named flat x.kept (x.ended free) all x.counted;
       end = λ _. sym x.counted ∙ ap length (sym all);
     })
     (λ (no_room : room ≤ done.count).
@@ -305,7 +305,7 @@ Feeds-closed pieces_of carried profile cell table base old new piece to_come giv
     record {
       front = full.0 ∙ Feeds-front pieces_of carried profile cell old.profile base piece [] to_come given done count many f;
       rest =
-          Streams-next pieces_of carried profile cell table base old new piece [] to_come given done count named unended flat full.1 full.2 x.kept full.3 many f;
+          Streams-next pieces_of carried profile cell kinds pairs base old new piece [] to_come given done count named unended flat full.1 full.2 x.kept full.3 many f;
       end = λ free. absurd (omega arith);
     })
     (cases_lt done.count room)

@@ -2,7 +2,7 @@
 use Rattle.std.proofs.Common.{◌≡◌, ℕ, ◌+◌, ◌%◌, ◌^◌, ◌<◌, ◌≤◌, Bool, true, false, cond, min, List, length, sym, ap, ◌∙◌, arith}
 use Rattle.std.proofs.lemmas.Bool.{false≢true}
 use Rattle.bstr.specs.Utf8.{Decoded}
-use Rattle.lbk_rules.specs.declared.flat_table.FlatTable.{FlatTable}
+use Rattle.lbk_rules.specs.declared.neighbours.Neighbours.{Neighbours}
 use Rattle.lbk_values.specs.declared.profile.Profile.{Profile}
 use Rattle.lbk_bytes.specs.declared.raw_break.RawBreak.{RawBreak}
 use Rattle.lbk_streams.specs.declared.stream.Cut.{Cut}
@@ -136,12 +136,12 @@ Takes-then widest end old start mid here new result long s t = record {
   ordered = λ base from fits o. t.ordered base from fits (s.ordered base from fits o);
 }
 
-pub TakesOf-then : {A : Type 0} (pieces_of : List A → List Decoded) (widest : ℕ) (table : FlatTable) (profile : Profile) (piece : List A)
+pub TakesOf-then : {A : Type 0} (pieces_of : List A → List Decoded) (widest : ℕ) (kinds : List ℕ) (pairs : Neighbours) (profile : Profile) (piece : List A)
     (old : List RawBreak) (start : Feeding A) (mid : List RawBreak) (here : Feeding A) (new : List RawBreak) (result : Feeding A)
     → length mid ≡ length old
-    → TakesOf pieces_of widest table profile piece old start mid here → TakesOf pieces_of widest table profile piece mid here new result
-    → TakesOf pieces_of widest table profile piece old start new result
-TakesOf-then pieces_of widest table profile piece old start mid here new result long s t = record {
+    → TakesOf pieces_of widest kinds pairs profile piece old start mid here → TakesOf pieces_of widest kinds pairs profile piece mid here new result
+    → TakesOf pieces_of widest kinds pairs profile piece old start new result
+TakesOf-then pieces_of widest kinds pairs profile piece old start mid here new result long s t = record {
   takes = Takes-then widest (length piece) old start mid here new result long s.takes t.takes;
   within = (omega (arith, s.within.0, t.within.0), t.within.1);
   feeds = λ cell more flat base all feeds. t.feeds cell more flat base all (s.feeds cell more flat base all feeds);

@@ -6,8 +6,8 @@ use Rattle.bstr.specs.Utf8.{Decoded, pieces}
 use Rattle.lbk_rules.specs.declared.Break.{Break}
 use Rattle.lbk_rules.specs.declared.Cell.{Cell}
 use Rattle.lbk_values.specs.declared.profile.Profile.{Profile}
-use Rattle.lbk_rules.specs.declared.flat_table.FlatTable.{FlatTable}
-use Rattle.lbk_rules.specs.FlatTable.{IsFlatOf}
+use Rattle.lbk_rules.specs.declared.neighbours.Neighbours.{Neighbours}
+use Rattle.lbk_rules.specs.FlatTable.{IsFlatBy}
 use Rattle.lbk_rules.specs.Joins.{moved, must_end_between}
 use Rattle.lbk_bytes.specs.Bytes.{breaks_of_part}
 use Rattle.lbk_bytes.specs.Reached.{scalars_of}
@@ -58,24 +58,24 @@ module _ (pieces_of : List ℕ → List Decoded) where
 
   -- what a call promises that cuts a text at or after a unit. Whatever the table, it cuts no scalar, and no units that
   -- are read as one U+FFFD
-  pub record CutsAfter (table : FlatTable) (text : List ℕ) (at result : ℕ) : Type 0 where
+  pub record CutsAfter (kinds : List ℕ) (pairs : Neighbours) (text : List ℕ) (at result : ℕ) : Type 0 where
     pub within : result ≤ length text
     pub past : length text ≤ at → result ≡ length text
     pub behind : at ≤ length text → at ≤ result
     pub start : at ≡ 0 → result ≡ 0
     pub begins : BeginsIn text result
-    pub first : (cell : ℕ → Cell) → IsFlatOf table cell → IsCutAfterIn cell text at result
-    pub joined : (cell : ℕ → Cell) (profile : Profile) → IsFlatOf table cell → 0 < result → result < length text
+    pub first : (cell : ℕ → Cell) → IsFlatBy kinds pairs cell → IsCutAfterIn cell text at result
+    pub joined : (cell : ℕ → Cell) (profile : Profile) → IsFlatBy kinds pairs cell → 0 < result → result < length text
         → JoinsIn profile cell text result
 
   -- and at or before one
-  pub record CutsBefore (table : FlatTable) (text : List ℕ) (at result : ℕ) : Type 0 where
+  pub record CutsBefore (kinds : List ℕ) (pairs : Neighbours) (text : List ℕ) (at result : ℕ) : Type 0 where
     pub within : result ≤ length text
     pub past : length text ≤ at → result ≡ length text
     pub before : result ≤ at
     pub begins : BeginsIn text result
-    pub last : (cell : ℕ → Cell) → IsFlatOf table cell → IsCutBeforeIn cell text at result
-    pub joined : (cell : ℕ → Cell) (profile : Profile) → IsFlatOf table cell → 0 < result → result < length text
+    pub last : (cell : ℕ → Cell) → IsFlatBy kinds pairs cell → IsCutBeforeIn cell text at result
+    pub joined : (cell : ℕ → Cell) (profile : Profile) → IsFlatBy kinds pairs cell → 0 < result → result < length text
         → JoinsIn profile cell text result
 
 -- the same of bytes, read as UTF-8

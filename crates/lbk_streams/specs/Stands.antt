@@ -9,8 +9,8 @@ use Rattle.lbk_values.specs.declared.profile.Profile.TheVariants.{Second}
 use Rattle.lbk_rules.specs.Classes.{hard}
 use Rattle.lbk_rules.specs.Breaks.{is_no}
 use Rattle.lbk_rules.specs.Normal.{normal}
-use Rattle.lbk_rules.specs.declared.flat_table.FlatTable.{FlatTable}
-use Rattle.lbk_rules.specs.FlatTable.{IsFlatOf, KnowsTaken}
+use Rattle.lbk_rules.specs.declared.neighbours.Neighbours.{Neighbours}
+use Rattle.lbk_rules.specs.FlatTable.{IsFlatBy, KnowsTaken}
 use Rattle.lbk_rules.specs.Rows.{IsShown, verdict_shown}
 use Rattle.lbk_streams.specs.declared.stream.Cut.{Cut}
 use Rattle.lbk_streams.specs.declared.stream.Fed.{Fed}
@@ -95,10 +95,10 @@ ahead number to_come = record { breaks = to_come; goes_on = goes_on number }
 
 -- where these units are still to come, these breaks are
 pub record StreamsIn {A : Type 0} (pieces_of : List A → List Decoded) (carried : List ℕ → List A) (cell : ℕ → Cell)
-    (table : FlatTable) (stream : Stream) (more : List A) (to_come : List Break) : Type 0 where
+    (kinds : List ℕ) (pairs : Neighbours) (stream : Stream) (more : List A) (to_come : List Break) : Type 0 where
   pub profile : Profile
   pub named : profile_numbered (plain_number stream.profile) ≡ Some profile
-  pub flat : IsFlatOf table cell
+  pub flat : IsFlatBy kinds pairs cell
   pub goes_on : stream.ended ≡ 0
       → Stands profile cell (place_of stream) (pieces_of (cut_units carried stream ++ more))
       (ahead stream.profile to_come) []
@@ -106,15 +106,16 @@ pub record StreamsIn {A : Type 0} (pieces_of : List A → List Decoded) (carried
   pub none_come : 0 < stream.ended → to_come ≡ []
 
 -- the same of bytes
-abbrev pub Streams : (ℕ → Cell) → FlatTable → Stream → List ℕ → List Break → Type 0
+abbrev pub Streams : (ℕ → Cell) → List ℕ → Neighbours → Stream → List ℕ → List Break → Type 0
 Streams = StreamsIn pieces (λ bytes. bytes)
 
 -- what a call does with a piece, behind which these units follow
 pub record Gives {A : Type 0} (pieces_of : List A → List Decoded) (carried : List ℕ → List A)
-    (could_go_on : List A → Bool) (cell : ℕ → Cell) (table : FlatTable) (old new : Stream) (piece more : List A)
-    (last : Bool) (to_come : List Break) (fed : Fed) (given : List Break) (room : ℕ) : Type 0 where
+    (could_go_on : List A → Bool) (cell : ℕ → Cell) (kinds : List ℕ) (pairs : Neighbours) (old new : Stream)
+    (piece more : List A) (last : Bool) (to_come : List Break) (fed : Fed) (given : List Break)
+    (room : ℕ) : Type 0 where
   pub front : given ≡ take fed.count to_come
-  pub rest : StreamsIn pieces_of carried cell table new (drop fed.taken piece ++ more) (drop fed.count to_come)
+  pub rest : StreamsIn pieces_of carried cell kinds pairs new (drop fed.taken piece ++ more) (drop fed.count to_come)
   pub settled : last ≡ false → fed.count < room
       → AreUnsettledIn pieces_of carried could_go_on cell new more (drop fed.count to_come)
   pub seen : new.at + length (cut_units carried new) ≡ old.at + length (cut_units carried old) + fed.taken

@@ -2,9 +2,9 @@
 use Rattle.std.specs.Prelude.{◌≡◌, ◌⊎◌, ℕ, ◌+◌, ◌%◌, ◌^◌, ◌<◌, ◌≤◌, min, Bool, true, List, length, if◌then◌else◌}
 use Rattle.bstr.specs.Utf8.{Decoded}
 use Rattle.lbk_rules.specs.declared.Cell.{Cell}
-use Rattle.lbk_rules.specs.declared.flat_table.FlatTable.{FlatTable}
+use Rattle.lbk_rules.specs.declared.neighbours.Neighbours.{Neighbours}
 use Rattle.lbk_values.specs.declared.profile.Profile.{Profile}
-use Rattle.lbk_rules.specs.FlatTable.{IsFlatOf}
+use Rattle.lbk_rules.specs.FlatTable.{IsFlatBy}
 use Rattle.lbk_bytes.specs.declared.raw_break.RawBreak.{RawBreak}
 use Rattle.lbk_bytes.specs.Order.{AreBreaks}
 use Rattle.lbk_bytes.specs.Shown.{given_in}
@@ -55,18 +55,18 @@ FeedsOn pieces_of profile cell piece more old start new result =
     → Feeds pieces_of profile cell base piece more result all (given_in new result.count)
 
 -- a call takes units of this piece, whatever follows it
-pub record TakesOf {A : Type 0} (pieces_of : List A → List Decoded) (widest : ℕ) (table : FlatTable) (profile : Profile)
-    (piece : List A) (old : List RawBreak) (start : Feeding A) (new : List RawBreak) (result : Feeding A)
-    : Type 0 where
+pub record TakesOf {A : Type 0} (pieces_of : List A → List Decoded) (widest : ℕ) (kinds : List ℕ) (pairs : Neighbours)
+    (profile : Profile) (piece : List A) (old : List RawBreak) (start : Feeding A) (new : List RawBreak)
+    (result : Feeding A) : Type 0 where
   pub takes : Takes widest (length piece) old start new result
   pub within : (start.taken ≤ result.taken) × (result.taken ≤ length piece)
-  pub feeds : (cell : ℕ → Cell) (more : List A) → IsFlatOf table cell
+  pub feeds : (cell : ℕ → Cell) (more : List A) → IsFlatBy kinds pairs cell
       → FeedsOn pieces_of profile cell piece more old start new result
 
 -- it takes one unit at least, and leaves none that no more units could make a scalar of, unless the block is full
 pub record TakesSome {A : Type 0} (could_go_on : List A → Bool) (pieces_of : List A → List Decoded) (widest : ℕ)
-    (table : FlatTable) (profile : Profile) (piece : List A) (old : List RawBreak) (start : Feeding A)
+    (kinds : List ℕ) (pairs : Neighbours) (profile : Profile) (piece : List A) (old : List RawBreak) (start : Feeding A)
     (new : List RawBreak) (result : Feeding A) : Type 0 where
-  pub takes : TakesOf pieces_of widest table profile piece old start new result
+  pub takes : TakesOf pieces_of widest kinds pairs profile piece old start new result
   pub onward : start.taken < result.taken
   pub unfinished : result.count < length old → IsOpen could_go_on widest result.cut

@@ -2,7 +2,7 @@
 
 ghost use Rattle.std.specs.Prelude.{◌≡◌, ◌⊎◌, ℕ, ◌+◌, ◌-◌, ◌<◌, ◌≤◌, ◌++◌, [], true, false, List, drop, length};
 ghost use Rattle.lbk_rules.specs.declared.Cell.{Cell};
-ghost use Rattle.lbk_rules.specs.FlatTable.{IsFlatOf};
+ghost use Rattle.lbk_rules.specs.FlatTable.{IsFlatBy};
 ghost use Rattle.lbk_streams.specs.Stands.{front_of};
 ghost use Rattle.lbk_streams.specs.Taking.{FeedsOn, IsOpen, Takes, TakesOf, TakesSome};
 
@@ -12,18 +12,19 @@ use crate::stream::{Cut, Feeding};
 use crate::stream_unit::StreamUnit;
 use crate::taking::take_scalar;
 use lbk_bytes::RawBreak;
-use lbk_rules::{FlatTable, Profile};
+use lbk_rules::{KindSource, Profile};
 
 /// Takes a piece, until the block is full.
-pub(crate) fn take_piece<U: StreamUnit>(
-    table: &FlatTable,
+pub(crate) fn take_piece<U: StreamUnit, K: KindSource>(
+    table: &K,
     profile: Profile,
     start: Feeding<U>,
     piece: &[U],
     out: &mut [RawBreak],
 ) -> Feeding<U>
     requires { (start.cut.size ≤ U.widest) × (start.count ≤ length out.old) × (start.taken ≤ length piece.now) }
-    ensures takes { TakesOf U.pieces_of U.widest table.now profile piece.now out.old start out.new result }
+    ensures takes { TakesOf U.pieces_of U.widest (K.kinds_of table.now) (K.pairs_of table.now) profile piece.now out.old
+        start out.new result }
     ensures settled { result.count < length out.old
         → (result.taken ≡ length piece.now) × IsOpen U.could_go_on U.widest result.cut }
 {
@@ -36,8 +37,8 @@ pub(crate) fn take_piece<U: StreamUnit>(
 
 /// Takes the scalars that are whole out of the units that were cut, until the block is full. Where `last`, nothing
 /// follows them, and all are.
-pub(crate) fn drain<U: StreamUnit>(
-    table: &FlatTable,
+pub(crate) fn drain<U: StreamUnit, K: KindSource>(
+    table: &K,
     profile: Profile,
     start: Feeding<U>,
     last: bool,
@@ -49,7 +50,8 @@ pub(crate) fn drain<U: StreamUnit>(
     ensures unfinished { last ≡ false → result.count < length out.old → IsOpen U.could_go_on U.widest result.cut }
     ensures done { last ≡ true → result.count < length out.old → result.cut.size ≡ 0 }
     ensures full { start.count ≡ length out.old → (result ≡ start) × (out.new ≡ out.old) }
-    ensures feeds { (cell : ℕ → Cell) (piece more : List U) → IsFlatOf table.now cell
+    ensures feeds { (cell : ℕ → Cell) (piece more : List U)
+        → IsFlatBy (K.kinds_of table.now) (K.pairs_of table.now) cell
         → (last ≡ true → start.count < length out.old → drop start.taken piece ++ more ≡ [])
         → FeedsOn U.pieces_of profile cell piece more out.old start out.new result }
 {
@@ -75,8 +77,8 @@ fn is_whole<U: StreamUnit>(cut: &Cut<U>, last: bool) -> bool
 }
 
 /// Takes one scalar out of the units that were cut.
-fn take_cut<U: StreamUnit>(
-    table: &FlatTable,
+fn take_cut<U: StreamUnit, K: KindSource>(
+    table: &K,
     profile: Profile,
     here: Feeding<U>,
     out: &mut [RawBreak],
@@ -85,7 +87,8 @@ fn take_cut<U: StreamUnit>(
     ensures takes { Takes U.widest here.taken out.old here out.new result }
     ensures taken { result.taken ≡ here.taken }
     ensures onward { result.cut.size + (length out.old - result.count) < here.cut.size + (length out.old - here.count) }
-    ensures feeds { (cell : ℕ → Cell) (piece more : List U) → IsFlatOf table.now cell
+    ensures feeds { (cell : ℕ → Cell) (piece more : List U)
+        → IsFlatBy (K.kinds_of table.now) (K.pairs_of table.now) cell
         → (U.could_go_on (front_of here.cut) ≡ false) ⊎ (drop here.taken piece ++ more ≡ [])
         → FeedsOn U.pieces_of profile cell piece more out.old here out.new result }
 {
@@ -109,15 +112,16 @@ fn take_cut<U: StreamUnit>(
 }
 
 /// Takes a unit of the piece, or many.
-fn take_more<U: StreamUnit>(
-    table: &FlatTable,
+fn take_more<U: StreamUnit, K: KindSource>(
+    table: &K,
     profile: Profile,
     here: Feeding<U>,
     piece: &[U],
     out: &mut [RawBreak],
 ) -> Feeding<U>
     requires { (here.cut.size < U.widest) × (here.count < length out.old) × (here.taken < length piece.now) }
-    ensures { TakesSome U.could_go_on U.pieces_of U.widest table.now profile piece.now out.old here out.new result }
+    ensures { TakesSome U.could_go_on U.pieces_of U.widest (K.kinds_of table.now) (K.pairs_of table.now) profile
+        piece.now out.old here out.new result }
 {
     if here.cut.size == 0 {
         if !U::could_go_on(&piece[here.taken..]) {
@@ -135,8 +139,8 @@ fn take_more<U: StreamUnit>(
 }
 
 /// Takes a scalar of the piece, and then those that need no care.
-fn take_run<U: StreamUnit>(
-    table: &FlatTable,
+fn take_run<U: StreamUnit, K: KindSource>(
+    table: &K,
     profile: Profile,
     here: Feeding<U>,
     piece: &[U],
@@ -144,7 +148,8 @@ fn take_run<U: StreamUnit>(
 ) -> Feeding<U>
     requires { (here.cut.size ≡ 0) × (here.count < length out.old) × (here.taken < length piece.now)
         × (U.could_go_on (drop here.taken piece.now) ≡ false) }
-    ensures { TakesSome U.could_go_on U.pieces_of U.widest table.now profile piece.now out.old here out.new result }
+    ensures { TakesSome U.could_go_on U.pieces_of U.widest (K.kinds_of table.now) (K.pairs_of table.now) profile
+        piece.now out.old here out.new result }
 {
     let rest = &piece[here.taken..];
     let first = U::first(rest);

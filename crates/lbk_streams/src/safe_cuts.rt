@@ -9,7 +9,7 @@ ghost use Rattle.lbk_streams.specs.Cuts.{CutsAfter, CutsBefore, IsPieceStart};
 ghost use Rattle.lbk_streams.specs.Looking.{LastIs, NextIs};
 
 use bstr::{decode_last_lossy, decode_lossy};
-use lbk_rules::{Class, FlatTable};
+use lbk_rules::{Class, KindSource};
 
 /// The first byte at or after `at` at which a part of a text may begin: one before which a line must end (UAX #14,
 /// section 6.1, rules LB4 and LB5), or the end of the text. A place past the text counts as its end, and 0 is its
@@ -17,8 +17,8 @@ use lbk_rules::{Class, FlatTable};
 ///
 /// The breaks of the parts are those of the whole: the places of a later part count from its start, and where another
 /// part follows a part, its end is by rule 4 or 5, in the place of 3.
-pub fn cut(table: &FlatTable, text: &[u8], at: usize) -> usize
-    ensures { CutsAfter pieces table.now text.now at result }
+pub fn cut<K: KindSource>(table: &K, text: &[u8], at: usize) -> usize
+    ensures { CutsAfter pieces (K.kinds_of table.now) (K.pairs_of table.now) text.now at result }
 {
     if text.len() <= at {
         return text.len();
@@ -41,8 +41,8 @@ pub fn cut(table: &FlatTable, text: &[u8], at: usize) -> usize
 }
 
 /// The last byte at or before `at` at which a part of a text may begin. A place past the text counts as its end.
-pub fn cut_before(table: &FlatTable, text: &[u8], at: usize) -> usize
-    ensures { CutsBefore pieces table.now text.now at result }
+pub fn cut_before<K: KindSource>(table: &K, text: &[u8], at: usize) -> usize
+    ensures { CutsBefore pieces (K.kinds_of table.now) (K.pairs_of table.now) text.now at result }
 {
     if text.len() <= at {
         return text.len();
@@ -74,22 +74,22 @@ fn piece_start(text: &[u8], end: usize) -> usize
 }
 
 /// The class of the piece that begins at `place`, and how many bytes it has.
-fn class_at(table: &FlatTable, text: &[u8], place: usize) -> (Class, usize)
+fn class_at<K: KindSource>(table: &K, text: &[u8], place: usize) -> (Class, usize)
     requires { place < length text.now }
-    ensures class { (cell : ℕ → Cell) → AreFlatKinds table.now.kinds cell → NextIs cell text.now place result.0 }
+    ensures class { (cell : ℕ → Cell) → AreFlatKinds (K.kinds_of table.now) cell → NextIs cell text.now place result.0 }
     ensures size { result.1 ≡ (decoded (drop place text.now)).size }
 {
     let (c, size) = decode_lossy(&text[place..]);
-    (table.cell(c).class, size)
+    (table.cell_by_kind(c).class, size)
 }
 
 /// The class of the piece before `place`, where another begins or the text ends, and how many bytes it has.
-fn class_before(table: &FlatTable, text: &[u8], place: usize) -> (Class, usize)
+fn class_before<K: KindSource>(table: &K, text: &[u8], place: usize) -> (Class, usize)
     requires some { 0 < place }
     requires within { place ≤ length text.now }
     requires begins { IsPieceStart text.now place }
-    ensures last { (cell : ℕ → Cell) → AreFlatKinds table.now.kinds cell → LastIs cell text.now place result.0 }
-    ensures first { (cell : ℕ → Cell) → AreFlatKinds table.now.kinds cell
+    ensures last { (cell : ℕ → Cell) → AreFlatKinds (K.kinds_of table.now) cell → LastIs cell text.now place result.0 }
+    ensures first { (cell : ℕ → Cell) → AreFlatKinds (K.kinds_of table.now) cell
         → NextIs cell text.now (place - result.1) result.0 }
     ensures some { 0 < result.1 }
     ensures fits { result.1 ≤ place }
@@ -97,7 +97,7 @@ fn class_before(table: &FlatTable, text: &[u8], place: usize) -> (Class, usize)
     ensures size { (decoded (drop (place - result.1) text.now)).size ≡ result.1 }
 {
     let (c, size) = decode_last_lossy(&text[..place]);
-    (table.cell(c).class, size)
+    (table.cell_by_kind(c).class, size)
 }
 
 /// Whether a line must end between scalars of these classes (rules LB4 and LB5).

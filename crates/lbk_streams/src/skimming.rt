@@ -2,7 +2,7 @@
 
 ghost use Rattle.std.specs.Prelude.{◌≡◌, ℕ, ◌+◌, ◌-◌, ◌^◌, ◌<◌, ◌≤◌, ◌++◌, [], List, drop, length, map};
 ghost use Rattle.lbk_rules.specs.declared.Cell.{Cell};
-ghost use Rattle.lbk_rules.specs.FlatTable.{IsFlatOf};
+ghost use Rattle.lbk_rules.specs.FlatTable.{IsFlatBy};
 ghost use Rattle.lbk_rules.specs.Rows.{IsPlace};
 ghost use Rattle.lbk_streams.specs.declared.stream.StreamPosition.{StreamPosition};
 ghost use Rattle.lbk_bytes.specs.Order.{AreBreaks, AreInOrder};
@@ -14,11 +14,11 @@ ghost use Rattle.lbk_streams.specs.Taking.{TakesOf};
 use crate::stream::{Feeding, StreamPosition};
 use crate::stream_unit::StreamUnit;
 use lbk_bytes::{FillState, RawBreak};
-use lbk_rules::{FlatTable, Profile, place_by};
+use lbk_rules::{KindSource, Profile, place_by};
 
 /// Goes on until a scalar needs care, the block is full or the piece ends.
-pub(crate) fn skim<U: StreamUnit>(
-    table: &FlatTable,
+pub(crate) fn skim<U: StreamUnit, K: KindSource>(
+    table: &K,
     profile: Profile,
     here: Feeding<U>,
     piece: &[U],
@@ -26,7 +26,8 @@ pub(crate) fn skim<U: StreamUnit>(
 ) -> Feeding<U>
     requires { (here.cut.size ≡ 0) × (here.place.held_code ≡ 0) × (here.count ≤ length out.old) × (0 < here.taken)
         × (here.taken ≤ length piece.now) }
-    ensures takes { TakesOf U.pieces_of U.widest table.now profile piece.now out.old here out.new result }
+    ensures takes { TakesOf U.pieces_of U.widest (K.kinds_of table.now) (K.pairs_of table.now) profile piece.now out.old
+        here out.new result }
     ensures none_cut { result.cut.size ≡ 0 }
 {
     let end = skim_into(
@@ -51,8 +52,8 @@ pub(crate) fn skim<U: StreamUnit>(
 }
 
 /// The same from a unit of the piece, into what is left of the block.
-fn skim_into<U: StreamUnit>(
-    table: &FlatTable,
+fn skim_into<U: StreamUnit, K: KindSource>(
+    table: &K,
     profile: Profile,
     place: StreamPosition,
     from: usize,
@@ -67,7 +68,7 @@ fn skim_into<U: StreamUnit>(
     ensures in_order { from ≤ place.at → place.at + (result.at - from) < 2 ^ 64
         → AreInOrder room.new result.count place.at (place.at + (result.at - from)) }
     ensures stands { (cell : ℕ → Cell) (more : List U) (all : Ahead) (next : StreamPosition)
-        → IsFlatOf table.now cell
+        → IsFlatBy (K.kinds_of table.now) (K.pairs_of table.now) cell
         → place.held_code ≡ 0 → 0 < from → from ≤ place.at
         → next.at ≡ place.at + (result.at - from) → next.row ≡ result.row → next.held_code ≡ 0
         → place.at + (result.at - from) < 2 ^ 64

@@ -2,7 +2,7 @@
 
 ghost use Rattle.std.specs.Prelude.{◌≡◌, ℕ, ◌<◌, ◌≤◌, ◌++◌, Bool, true, false, List, length, take};
 ghost use Rattle.lbk_rules.specs.declared.Cell.{Cell};
-ghost use Rattle.lbk_rules.specs.FlatTable.{IsFlatOf};
+ghost use Rattle.lbk_rules.specs.FlatTable.{IsFlatBy};
 ghost use Rattle.lbk_bytes.specs.Order.{IsBreak};
 ghost use Rattle.lbk_bytes.specs.Reached.{onward_to};
 ghost use Rattle.lbk_units.specs.Filling.{GivesOf, GoesOn, IsInText};
@@ -12,7 +12,7 @@ ghost use Rattle.lbk_streams.specs.Stands.{HoldsCut, front_of};
 
 use crate::stream::{Cut, Stream};
 use lbk_bytes::{FillState, RawBreak};
-use lbk_rules::{FlatTable, Profile};
+use lbk_rules::{KindSource, Profile};
 use lbk_units::{Unit, UnitScalar};
 
 /// A code unit of a text that arrives in pieces.
@@ -63,8 +63,8 @@ pub trait StreamUnit: Unit {
 
     /// Takes scalars of a piece until a held position comes, the block is full or the last units of the piece come,
     /// whatever may follow it.
-    fn fill_piece(
-        table: &FlatTable,
+    fn fill_piece<K: KindSource>(
+        table: &K,
         profile: Profile,
         start: FillState,
         piece: &[Self],
@@ -72,7 +72,8 @@ pub trait StreamUnit: Unit {
     ) -> FillState
         requires { IsInText start (length piece.now) (length out.old) }
         ensures goes_on { GoesOn IsBreak (length piece.now) out.old start out.new result }
-        ensures gives { (cell : ℕ → Cell) (more : List Self) → IsFlatOf table.now cell
+        ensures gives { (cell : ℕ → Cell) (more : List Self)
+            → IsFlatBy (K.kinds_of table.now) (K.pairs_of table.now) cell
             → GivesOf onward_to profile cell (on_from Self.pieces_of (piece.now ++ more)) out.old start out.new
             result };
 

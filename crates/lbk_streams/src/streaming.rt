@@ -6,7 +6,7 @@ ghost use Rattle.lbk_rules.specs.declared.Break.{Break};
 ghost use Rattle.lbk_rules.specs.declared.Cell.{Cell};
 ghost use Rattle.lbk_values.specs.declared.profile.Profile.{Profile};
 ghost use Rattle.lbk_rules.specs.Joins.{moved};
-ghost use Rattle.lbk_rules.specs.FlatTable.{IsFlatOf, KnowsTaken};
+ghost use Rattle.lbk_rules.specs.FlatTable.{IsFlatBy, KnowsTaken};
 ghost use Rattle.lbk_bytes.specs.Bytes.{end_in};
 ghost use Rattle.lbk_bytes.specs.Order.{AreBreaks, AreInOrder};
 ghost use Rattle.lbk_bytes.specs.Shown.{given_in};
@@ -20,7 +20,7 @@ use crate::feeding::{drain, take_piece};
 use crate::stream::{Fed, Feeding, Stream, StreamPosition};
 use crate::stream_unit::StreamUnit;
 use lbk_bytes::{RawBreak, goes_on, plain_number, profile_numbered, put_end};
-use lbk_rules::{FlatTable, Profile, place_by};
+use lbk_rules::{KindSource, Profile, place_by};
 
 /// Takes the next piece of a stream, and writes the breaks that it settles (UAX #14, section 3) to the front of the
 /// block, as many as it holds. It takes all units of the piece, unless the block is full. If `last` is set, nothing
@@ -31,8 +31,8 @@ use lbk_rules::{FlatTable, Profile, place_by};
 /// is unchanged. If the stream has ended or its profile is unknown, all is taken and no break is returned. With any
 /// table and stream, the breaks are breaks of rules, and a loop of calls while the block is full terminates. With any
 /// table, the offsets of a stream rise from its start.
-pub fn feed<U: StreamUnit>(
-    table: &FlatTable,
+pub fn feed<U: StreamUnit, K: KindSource>(
+    table: &K,
     stream: &mut Stream,
     piece: &[U],
     last: bool,
@@ -58,40 +58,48 @@ pub fn feed<U: StreamUnit>(
         → stream.new.at + length (cut_units U.carried stream.new)
         ≡ stream.old.at + length (cut_units U.carried stream.old) + result.taken }
     ensures only_last { last ≡ false → stream.new.ended ≡ stream.old.ended }
-    ensures start { (cell : ℕ → Cell) (profile : Profile) (text : List U) → IsFlatOf table.now cell
+    ensures start { (cell : ℕ → Cell) (profile : Profile) (text : List U)
+        → IsFlatBy (K.kinds_of table.now) (K.pairs_of table.now) cell
         → length text < 2 ^ 64
         → stream.old ≡ stream_start profile
-        → StreamsIn U.pieces_of U.carried cell table.now stream.old text (breaks_of_pieces profile cell (U.pieces_of
+        → StreamsIn U.pieces_of U.carried cell (K.kinds_of table.now) (K.pairs_of table.now) stream.old text
+        (breaks_of_pieces profile cell (U.pieces_of
         text)) }
     // A part of a text: places count from the text's start, if the part's place is given, and the text may go on
     // after it.
     ensures part { (cell : ℕ → Cell) (profile : Profile) (goes_on : Bool) (at : ℕ) (text : List U)
-        → IsFlatOf table.now cell → at + length text < 2 ^ 64
+        → IsFlatBy (K.kinds_of table.now) (K.pairs_of table.now) cell → at + length text < 2 ^ 64
         → stream.old ≡ part_stream goes_on profile at
-        → StreamsIn U.pieces_of U.carried cell table.now stream.old text
+        → StreamsIn U.pieces_of U.carried cell (K.kinds_of table.now) (K.pairs_of table.now) stream.old text
         (map (moved at) (breaks_of_part_of goes_on profile cell (U.pieces_of text))) }
     // Whatever units follow the piece (none, where it is the last): what comes of all of them comes first of this call.
     ensures front { (cell : ℕ → Cell) (more : List U) (to_come : List Break)
-        → StreamsIn U.pieces_of U.carried cell table.now stream.old (piece.now ++ more) to_come
+        → StreamsIn U.pieces_of U.carried cell (K.kinds_of table.now) (K.pairs_of table.now) stream.old
+        (piece.now ++ more) to_come
         → (last ≡ true → more ≡ []) → given_in out.new result.count ≡ take result.count to_come }
     ensures rest { (cell : ℕ → Cell) (more : List U) (to_come : List Break)
-        → StreamsIn U.pieces_of U.carried cell table.now stream.old (piece.now ++ more) to_come
+        → StreamsIn U.pieces_of U.carried cell (K.kinds_of table.now) (K.pairs_of table.now) stream.old
+        (piece.now ++ more) to_come
         → (last ≡ true → more ≡ [])
-        → StreamsIn U.pieces_of U.carried cell table.now stream.new (drop result.taken piece.now ++ more) (drop
+        → StreamsIn U.pieces_of U.carried cell (K.kinds_of table.now) (K.pairs_of table.now) stream.new
+        (drop result.taken piece.now ++ more) (drop
         result.count to_come) }
     ensures settled { (cell : ℕ → Cell) (more : List U) (to_come : List Break)
-        → StreamsIn U.pieces_of U.carried cell table.now stream.old (piece.now ++ more) to_come
+        → StreamsIn U.pieces_of U.carried cell (K.kinds_of table.now) (K.pairs_of table.now) stream.old
+        (piece.now ++ more) to_come
         → last ≡ false → stream.old.ended ≡ 0 → result.count < length out.old
         → AreUnsettledIn U.pieces_of U.carried U.could_go_on cell stream.new more (drop result.count to_come) }
     ensures seen { (cell : ℕ → Cell) (more : List U) (to_come : List Break)
-        → StreamsIn U.pieces_of U.carried cell table.now stream.old (piece.now ++ more) to_come
+        → StreamsIn U.pieces_of U.carried cell (K.kinds_of table.now) (K.pairs_of table.now) stream.old
+        (piece.now ++ more) to_come
         → (last ≡ true → more ≡ []) → stream.old.ended ≡ 0
         → stream.new.at + length (cut_units U.carried stream.new)
         ≡ stream.old.at + length (cut_units U.carried stream.old) + result.taken }
     ensures cut { stream.old.cut_size ≤ U.widest → stream.new.cut_size ≤ U.widest }
     ensures closed { last ≡ true → stream.old.ended ≡ 0 → stream.old.profile ≤ 3 → result.count < length out.old
         → (stream.new.cut_size ≡ 0) × (stream.new.held_code ≡ 0) }
-    ensures end { (cell : ℕ → Cell) (to_come : List Break) → StreamsIn U.pieces_of U.carried cell table.now stream.old
+    ensures end { (cell : ℕ → Cell) (to_come : List Break) → StreamsIn U.pieces_of U.carried cell (K.kinds_of table.now)
+        (K.pairs_of table.now) stream.old
         piece.now to_come
         → last ≡ true → result.count < length out.old → result.count ≡ length to_come }
     ensures ended { last ≡ true → result.count < length out.old → 0 < stream.new.ended ⊎ (3 < stream.old.profile) }

@@ -9,7 +9,7 @@ ghost use Rattle.lbk_values.specs.declared.profile.Profile.TheVariants.{Second};
 ghost use Rattle.lbk_rules.specs.Breaks.{is_no};
 ghost use Rattle.lbk_rules.specs.Classes.{mark};
 ghost use Rattle.lbk_rules.specs.Normal.{normal};
-ghost use Rattle.lbk_rules.specs.FlatTable.{AreFlatKinds, IsFlatOf};
+ghost use Rattle.lbk_rules.specs.FlatTable.{AreFlatKinds, IsFlatBy};
 ghost use Rattle.lbk_rules.specs.Rows.{IsShown, verdict_shown};
 ghost use Rattle.lbk_bytes.specs.Shown.{given_in};
 ghost use Rattle.lbk_streams.specs.Stands.{Ahead, Stands};
@@ -17,7 +17,7 @@ ghost use Rattle.lbk_streams.specs.Taking.{Steps};
 
 use crate::stream::StreamPosition;
 use lbk_bytes::{RawBreak, put};
-use lbk_rules::{FlatTable, HELD, Profile, place_by, shown_by, shows_break, step_in};
+use lbk_rules::{HELD, KindSource, Profile, place_by, shown_by, shows_break, step_in};
 use lbk_units::UnitScalar;
 
 /// A place, and how many breaks stand in the front of the block.
@@ -30,8 +30,8 @@ pub(crate) struct Step {
 }
 
 /// Takes a scalar: first it decides the position that waits, and then the one before the scalar.
-pub(crate) fn take_scalar(
-    table: &FlatTable,
+pub(crate) fn take_scalar<K: KindSource>(
+    table: &K,
     profile: Profile,
     place: StreamPosition,
     next: UnitScalar,
@@ -42,7 +42,7 @@ pub(crate) fn take_scalar(
     ensures steps { Steps next.size out.old count place out.new result }
     ensures full { result.passed ≡ false → result.count ≡ length out.old }
     ensures stands { (cell : ℕ → Cell) (p : Decoded) (ps : List Decoded) (all : Ahead)
-        → IsFlatOf table.now cell
+        → IsFlatBy (K.kinds_of table.now) (K.pairs_of table.now) cell
         → next.scalar ≡ or_replacement p.char → next.size ≡ p.size → 0 < next.size → place.at + next.size < 2 ^ 64
         → Stands profile cell place (p ∷ ps) all (given_in out.old count)
         → Stands profile cell result.place (if result.passed then ps else p ∷ ps) all
@@ -65,20 +65,20 @@ pub(crate) fn take_scalar(
 }
 
 /// Decides the position that waits, if `c` heads a unit.
-fn meet(
-    table: &FlatTable,
+fn meet<K: KindSource>(
+    table: &K,
     place: StreamPosition,
     c: char,
     out: &mut [RawBreak],
     count: usize,
 ) -> (StreamPosition, usize)
     requires { count < length out.old }
-    ensures joins { (cell : ℕ → Cell) → AreFlatKinds table.now.kinds cell → 0 < result.0.held_code
+    ensures joins { (cell : ℕ → Cell) → AreFlatKinds (K.kinds_of table.now) cell → 0 < result.0.held_code
         → mark (normal (cell c)).class ≡ true }
     ensures steps { Steps 0 out.old count place out.new
         (record { place = result.0; count = result.1; passed = false }) }
     ensures stands { (profile : Profile) (cell : ℕ → Cell) (p : Decoded) (ps : List Decoded) (all : Ahead)
-        → IsFlatOf table.now cell
+        → IsFlatBy (K.kinds_of table.now) (K.pairs_of table.now) cell
         → c ≡ or_replacement p.char
         → Stands profile cell place (p ∷ ps) all (given_in out.old count)
         → Stands profile cell result.0 (p ∷ ps) all (given_in out.new result.1) }
@@ -86,7 +86,7 @@ fn meet(
     if place.held_code == 0 {
         return (place, count);
     }
-    let cell = table.cell(c);
+    let cell = table.cell_by_kind(c);
     let Some(closes) = cell.unit_closes(false) else {
         return (place, count);
     };
@@ -105,8 +105,8 @@ fn meet(
 }
 
 /// Takes the scalar. Where a position waits yet, the scalar is a mark that joins what is before it.
-fn pass(
-    table: &FlatTable,
+fn pass<K: KindSource>(
+    table: &K,
     profile: Profile,
     place: StreamPosition,
     c: char,
@@ -118,13 +118,13 @@ fn pass(
     ensures steps { Steps size out.old count place out.new
         (record { place = result.0; count = result.1; passed = true }) }
     ensures stands { (cell : ℕ → Cell) (p : Decoded) (ps : List Decoded) (all : Ahead)
-        → IsFlatOf table.now cell
+        → IsFlatBy (K.kinds_of table.now) (K.pairs_of table.now) cell
         → c ≡ or_replacement p.char → size ≡ p.size → 0 < size → place.at + size < 2 ^ 64
         → (0 < place.held_code → mark (normal (cell c)).class ≡ true)
         → Stands profile cell place (p ∷ ps) all (given_in out.old count)
         → Stands profile cell result.0 ps all (given_in out.new result.1) }
 {
-    let kind = table.kinds[c as usize];
+    let kind = table.kind_at(c as u32);
     let row = place_by(place.row);
     let first = step_in(Profile::First, row, kind);
     let at = place.at.wrapping_add(size as u64);

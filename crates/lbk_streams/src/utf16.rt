@@ -10,7 +10,7 @@ use crate::cutting::listed;
 use crate::stream::{Cut, Four, Stream};
 use crate::stream_unit::StreamUnit;
 use lbk_bytes::{FillState, RawBreak};
-use lbk_rules::{FlatTable, Profile};
+use lbk_rules::{KindSource, Profile};
 use lbk_units::{Breaks, Unit, UnitScalar, fill_part};
 
 impl StreamUnit for u16 {
@@ -76,8 +76,8 @@ impl StreamUnit for u16 {
         u16::first(&units[..cut.size])
     }
 
-    fn fill_piece(
-        table: &FlatTable,
+    fn fill_piece<K: KindSource>(
+        table: &K,
         profile: Profile,
         start: FillState,
         piece: &[u16],
@@ -88,9 +88,9 @@ impl StreamUnit for u16 {
         }
         let last = piece.len() - 1;
         if is_high(piece[last]) {
-            return fill_part::<u16, Breaks>(table, profile, start, &piece[..last], out);
+            return fill_part::<u16, Breaks, K>(table, profile, start, &piece[..last], out);
         }
-        fill_part::<u16, Breaks>(table, profile, start, piece, out)
+        fill_part::<u16, Breaks, K>(table, profile, start, piece, out)
     }
 }
 

@@ -9,14 +9,14 @@ ghost use Rattle.lbk_streams.specs.Cuts.{BeginsIn, CutsAfter, CutsBefore, IsSafe
 ghost use Rattle.lbk_streams.specs.Looking.{EndsInScalar, is_pair};
 
 use crate::safe_cuts::must_end;
-use lbk_rules::FlatTable;
+use lbk_rules::KindSource;
 use lbk_units::Unit;
 
 /// The first unit at or after `at` at which a part of a text in UTF-16 may begin: one before which a line must end
 /// (UAX #14, section 6.1, rules LB4 and LB5), or the end of the text. A place past the text counts as its end, and 0
 /// is its start, at which the first part begins.
-pub fn cut_utf16(table: &FlatTable, text: &[u16], at: usize) -> usize
-    ensures { CutsAfter pieces_of_utf16 table.now text.now at result }
+pub fn cut_utf16<K: KindSource>(table: &K, text: &[u16], at: usize) -> usize
+    ensures { CutsAfter pieces_of_utf16 (K.kinds_of table.now) (K.pairs_of table.now) text.now at result }
 {
     if text.len() <= at {
         return text.len();
@@ -33,8 +33,8 @@ pub fn cut_utf16(table: &FlatTable, text: &[u16], at: usize) -> usize
 
 /// The last unit at or before `at` at which a part of a text in UTF-16 may begin. A place past the text counts as its
 /// end.
-pub fn cut_before_utf16(table: &FlatTable, text: &[u16], at: usize) -> usize
-    ensures { CutsBefore pieces_of_utf16 table.now text.now at result }
+pub fn cut_before_utf16<K: KindSource>(table: &K, text: &[u16], at: usize) -> usize
+    ensures { CutsBefore pieces_of_utf16 (K.kinds_of table.now) (K.pairs_of table.now) text.now at result }
 {
     if text.len() <= at {
         return text.len();
@@ -50,10 +50,10 @@ pub fn cut_before_utf16(table: &FlatTable, text: &[u16], at: usize) -> usize
 }
 
 /// Whether a part of a text may begin at this unit.
-fn may_begin(table: &FlatTable, text: &[u16], place: usize) -> bool
+fn may_begin<K: KindSource>(table: &K, text: &[u16], place: usize) -> bool
     requires { place < length text.now }
     ensures begins { result ≡ true → BeginsIn pieces_of_utf16 text.now place }
-    ensures safe { (cell : ℕ → Cell) → AreFlatKinds table.now.kinds cell
+    ensures safe { (cell : ℕ → Cell) → AreFlatKinds (K.kinds_of table.now) cell
         → (result ≡ true ↔ IsSafeIn pieces_of_utf16 cell text.now place) }
     ensures start { place ≡ 0 → result ≡ true }
 {
@@ -65,7 +65,10 @@ fn may_begin(table: &FlatTable, text: &[u16], place: usize) -> bool
     }
     let last = scalar_before(text, place);
     let next = u16::front(&text[place..]).scalar;
-    must_end(table.cell(last).class, table.cell(next).class)
+    must_end(
+        table.cell_by_kind(last).class,
+        table.cell_by_kind(next).class,
+    )
 }
 
 /// The last scalar before a unit, where no surrogate pair stands around that place.

@@ -10,7 +10,7 @@ use crate::cutting::listed;
 use crate::stream::{Cut, Four, Stream};
 use crate::stream_unit::StreamUnit;
 use lbk_bytes::{FillState, RawBreak, fill_common, is_second};
-use lbk_rules::{FlatTable, Profile};
+use lbk_rules::{KindSource, Profile};
 use lbk_scalars::is_continuation;
 use lbk_units::{Unit, UnitScalar};
 
@@ -81,8 +81,8 @@ impl StreamUnit for u8 {
         u8::first(&bytes[..cut.size])
     }
 
-    fn fill_piece(
-        table: &FlatTable,
+    fn fill_piece<K: KindSource>(
+        table: &K,
         profile: Profile,
         start: FillState,
         piece: &[u8],

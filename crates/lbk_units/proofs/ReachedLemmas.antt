@@ -11,8 +11,8 @@ use Rattle.lbk_values.specs.declared.profile.Profile.{Profile}
 use Rattle.lbk_rules.specs.declared.Verdict.{Verdict}
 use Rattle.lbk_rules.specs.Normal.{normal}
 use Rattle.lbk_rules.specs.Verdict.{verdict_between_in}
-use Rattle.lbk_rules.specs.declared.flat_table.FlatTable.{FlatTable}
-use Rattle.lbk_rules.specs.FlatTable.{AreFlatKinds, IsFlatOf, KnowsTaken}
+use Rattle.lbk_rules.specs.declared.neighbours.Neighbours.{Neighbours}
+use Rattle.lbk_rules.specs.FlatTable.{AreFlatKinds, IsFlatBy, KnowsTaken}
 use Rattle.lbk_rules.specs.Kinds.{kind_cell, real_kind}
 use Rattle.lbk_rules.specs.RowMachineFits.{normals}
 use Rattle.lbk_rules.specs.Rows.{left_at, step_by, steps_in, verdict_shown}
@@ -96,12 +96,12 @@ module _ (from : Onward) (add : ℕ → Verdict → List Break → List Break)
       front
 
 -- a call ends that has filled a block
-pub filled : {A : Type 0} (Is : RawBreak → Type 0) (onward : AtEnd → Onward) (pieces_of : List A → List Decoded) (table : FlatTable) (profile : Profile) (text : List A)
+pub filled : {A : Type 0} (Is : RawBreak → Type 0) (onward : AtEnd → Onward) (pieces_of : List A → List Decoded) (kinds : List ℕ) (pairs : Neighbours) (profile : Profile) (text : List A)
     (old : List RawBreak) (start : FillState) (new : List RawBreak) (result : FillState)
     → GoesOn Is (length text) old start new result → (length old ≡ 0 → result ≡ start) → (result.count < length old → result.at ≡ length text)
-    → ((cell : ℕ → Cell) → IsFlatOf table cell → GivesOf onward profile cell (on_from pieces_of text) old start new result)
-    → Fills Is onward pieces_of table profile text old start new result
-filled Is onward pieces_of table profile text old start new result on no_room stops gives = record {
+    → ((cell : ℕ → Cell) → IsFlatBy kinds pairs cell → GivesOf onward profile cell (on_from pieces_of text) old start new result)
+    → Fills Is onward pieces_of kinds pairs profile text old start new result
+filled Is onward pieces_of kinds pairs profile text old start new result on no_room stops gives = record {
   within = on.within;
   stops = stops;
   no_room = no_room;

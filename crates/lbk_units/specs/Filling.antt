@@ -2,9 +2,9 @@
 use Rattle.std.specs.Prelude.{◌≡◌, ℕ, ◌<◌, ◌≤◌, List, length}
 use Rattle.bstr.specs.Utf8.{Decoded}
 use Rattle.lbk_rules.specs.declared.Cell.{Cell}
-use Rattle.lbk_rules.specs.declared.flat_table.FlatTable.{FlatTable}
+use Rattle.lbk_rules.specs.declared.neighbours.Neighbours.{Neighbours}
 use Rattle.lbk_values.specs.declared.profile.Profile.{Profile}
-use Rattle.lbk_rules.specs.FlatTable.{AreFlatKinds, IsFlatOf}
+use Rattle.lbk_rules.specs.FlatTable.{AreFlatKinds, IsFlatBy}
 use Rattle.lbk_rules.specs.Rows.{steps_in}
 use Rattle.lbk_rules.specs.declared.steps.Step.{Step}
 use Rattle.lbk_bytes.specs.declared.fill_state.FillState.{FillState}
@@ -45,14 +45,14 @@ pub record RunsOn {A : Type 0} (Is : RawBreak → Type 0) (onward : AtEnd → On
 
 -- the block is filled until it is full or the text ends
 pub record Fills {A : Type 0} (Is : RawBreak → Type 0) (onward : AtEnd → Onward) (pieces_of : List A → List Decoded)
-    (table : FlatTable) (profile : Profile) (text : List A) (old : List RawBreak) (start : FillState)
+    (kinds : List ℕ) (pairs : Neighbours) (profile : Profile) (text : List A) (old : List RawBreak) (start : FillState)
     (new : List RawBreak) (result : FillState) : Type 0 where
   pub within : IsInText result (length text) (length old)
   pub stops : result.count < length old → result.at ≡ length text
   pub no_room : length old ≡ 0 → result ≡ start
   pub in_order : (from : ℕ) → IsInOrderBy Is old start.count from start.at
       → IsInOrderBy Is new result.count from result.at
-  pub reached : (cell : ℕ → Cell) (all : Ahead) → IsFlatOf table cell
+  pub reached : (cell : ℕ → Cell) (all : Ahead) → IsFlatBy kinds pairs cell
       → UnitsReachedBy (onward all.end) profile cell (on_from pieces_of text) all.breaks start
       (given_in old start.count)
       → UnitsReachedBy (onward all.end) profile cell (on_from pieces_of text) all.breaks result

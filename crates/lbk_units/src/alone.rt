@@ -4,10 +4,10 @@ ghost use Rattle.std.specs.Prelude.{◌≡◌, ◌+◌, ◌≤◌, length};
 ghost use Rattle.lbk_units.specs.Filling.{IsInText, RunsOn};
 ghost use Rattle.lbk_units.specs.Terms.{AreSteps};
 
-use crate::filling::{CODES, run};
+use crate::filling::run;
 use crate::target::Target;
 use lbk_bytes::{FillState, RawBreak, Unit};
-use lbk_rules::{HELD, Rows, step_at};
+use lbk_rules::{HELD, KindSource, Rows, step_at};
 
 /// How many units are few: the loop is not begun for fewer, and where it ends sooner, more go by the other one.
 pub(crate) const FEW: usize = 16;
@@ -19,26 +19,27 @@ const MOST: usize = 2048;
 /// scalars of one unit, some go by the other loop before that one is tried again: more each time, as long as it soon ends
 /// again.
 #[inline(never)]
-pub(crate) fn run_mixed<U: Unit, T: Target>(
+pub(crate) fn run_mixed<U: Unit, T: Target, K: KindSource>(
     start: FillState,
     text: &[U],
     out: &mut [RawBreak],
-    kinds: &[u8; CODES],
+    kinds: &K,
     steps: &Rows,
 ) -> FillState
     requires place { IsInText start (length text.now) (length out.old) }
     requires steps { AreSteps steps.now }
-    ensures { RunsOn T.entry T.onward U.pieces_of kinds.now steps.now text.now out.old start out.new result }
+    ensures { RunsOn T.entry T.onward U.pieces_of (K.kinds_of kinds.now) steps.now text.now out.old start out.new
+        result }
 {
     let mut here = start;
     let mut some = FEW;
     loop {
         let free = (out.len() - here.count).min(text.len() - here.at);
         if free <= FEW {
-            return run::<U, T>(here, text.len(), text, out, kinds, steps);
+            return run::<U, T, K>(here, text.len(), text, out, kinds, steps);
         }
         let end = here.at + free;
-        let past = run_alone::<U, T>(here, end, text, out, kinds, steps);
+        let past = run_alone::<U, T, K>(here, end, text, out, kinds, steps);
         if past.at == end {
             here = past;
             continue;
@@ -49,7 +50,7 @@ pub(crate) fn run_mixed<U: Unit, T: Target>(
             FEW
         };
         let until = past.at + some.min(text.len() - past.at);
-        let next = run::<U, T>(past, until, text, out, kinds, steps);
+        let next = run::<U, T, K>(past, until, text, out, kinds, steps);
         if next.at < until {
             return next;
         }
@@ -61,18 +62,19 @@ pub(crate) fn run_mixed<U: Unit, T: Target>(
 /// position before each, so that one test a scalar tells whether it is the last. It calls nothing and stands apart, as
 /// `run`.
 #[inline(never)]
-fn run_alone<U: Unit, T: Target>(
+fn run_alone<U: Unit, T: Target, K: KindSource>(
     start: FillState,
     end: usize,
     text: &[U],
     out: &mut [RawBreak],
-    kinds: &[u8; CODES],
+    kinds: &K,
     steps: &Rows,
 ) -> FillState
     requires place { IsInText start (length text.now) (length out.old) }
     requires end { (end ≤ length text.now) × (start.count + end ≤ length out.old + start.at) }
     requires steps { AreSteps steps.now }
-    ensures { RunsOn T.entry T.onward U.pieces_of kinds.now steps.now text.now out.old start out.new result }
+    ensures { RunsOn T.entry T.onward U.pieces_of (K.kinds_of kinds.now) steps.now text.now out.old start out.new
+        result }
 {
     let mut count = start.count;
     let mut row = start.row;
@@ -81,7 +83,7 @@ fn run_alone<U: Unit, T: Target>(
         let Some(code) = U::alone(&text[at..]) else {
             break;
         };
-        let step = step_at(steps, row, kinds[code as usize]);
+        let step = step_at(steps, row, kinds.kind_at(code));
         if step.shown == HELD {
             break;
         }

@@ -3,7 +3,7 @@ use Rattle.lbk_bytes.proofs.FillsLemmas.{takes-twice}
 use Rattle.lbk_bytes.proofs.filling.fill_common.Goals as goal
 
 pub loop-part-init : goal.loop-part-init
-loop-part-init c =
+loop-part-init g c =
     let begun = c.emoji_first-here in
     let part = c.common_part-part.ensures in
     record {

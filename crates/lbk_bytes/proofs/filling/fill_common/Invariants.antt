@@ -3,10 +3,10 @@ use Rattle.lbk_bytes.specs.Steps.{FillsIn}
 use Rattle.lbk_bytes.proofs.filling.fill_common.Given as goal
 
 abbrev pub invariant-loop-part : goal.invariant-loop-part
-invariant-loop-part l = record {
+invariant-loop-part g l = record {
   until : l.part.until ≤ length l.text;
-  fills : FillsIn l.fn.profile l.table.kinds l.table.pairs l.text l.fn.out l.fn.start l.out l.part.here;
+  fills : FillsIn l.fn.profile (g.K.KindSource.kinds_of l.table) (g.K.KindSource.pairs_of l.table) l.text l.fn.out l.fn.start l.out l.part.here;
 }
 
 abbrev pub decreases-loop-part : goal.decreases-loop-part
-decreases-loop-part l = length l.text - l.part.until
+decreases-loop-part g l = length l.text - l.part.until

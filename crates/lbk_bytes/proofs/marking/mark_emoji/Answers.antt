@@ -3,7 +3,7 @@ use Rattle.lbk_bytes.proofs.MarkLemmas.{Marked-alone}
 use Rattle.lbk_bytes.proofs.marking.mark_emoji.Goals as goal
 
 pub returns-then-here-past : goal.returns-then-here-past
-returns-then-here-past c =
+returns-then-here-past g c =
     let a = c.args in
     let past = c.emoji-past in
     record {
@@ -15,7 +15,7 @@ returns-then-here-past c =
     }
 
 pub returns : goal.returns
-returns c =
+returns g c =
     let a = c.args in
     let past = c.emoji-past in
     let ones = c.take_ones.ensures in

@@ -3,18 +3,18 @@ use Rattle.lbk_bytes.proofs.MarkLemmas.{Marked-by-both, Marked-by-front}
 use Rattle.lbk_bytes.proofs.marking.mark_usual.Goals as goal
 
 pub mark_blocks-there-requires : goal.mark_blocks-there-requires
-mark_blocks-there-requires c =
+mark_blocks-there-requires g c =
     let until = length-take-le c.args.stop c.args.text.now c.requires.3 in
     (c.requires.0, c.requires.1, omega (arith, until), omega (arith, until), (c.args.profile, c.rows_of-steps.ensures))
 
 pub quick-past-requires-clause-steps : goal.quick-past-requires-clause-steps
-quick-past-requires-clause-steps c =
+quick-past-requires-clause-steps g c =
     let there = c.mark_blocks-there.ensures.within in
     let until = length-take-le c.args.stop c.args.text.now c.requires.3 in
     ((omega (arith, there.1), omega (arith, until)), there.0, omega (arith, there.2, until), omega (arith, until), (c.args.profile, c.rows_of-steps.ensures))
 
 pub returns-then-there-stop : goal.returns-then-there-stop
-returns-then-there-stop c =
+returns-then-there-stop g c =
     let a = c.args in
     let blocks = c.mark_blocks-there in
     let until = length-take-le a.stop a.text.now c.requires.3 in
@@ -27,7 +27,7 @@ returns-then-there-stop c =
     }
 
 pub returns-then-until-past : goal.returns-then-until-past
-returns-then-until-past c =
+returns-then-until-past g c =
     let a = c.args in
     let blocks = c.mark_blocks-there in
     let past = c.quick-past in
@@ -42,7 +42,7 @@ returns-then-until-past c =
     }
 
 pub returns : goal.returns
-returns c =
+returns g c =
     let a = c.args in
     let blocks = c.mark_blocks-there in
     let past = c.quick-past in

@@ -1,7 +1,7 @@
 use Rattle.lbk_bytes.proofs.one_word.one_word.Goals as goal
 
 pub returns-then-begun-stop : goal.returns-then-begun-stop
-returns-then-begun-stop c =
+returns-then-begun-stop g c =
     let begun = c.by_block-begun.ensures in
     let more = c.gathered.ensures.further in
     record {

@@ -9,16 +9,16 @@ use Rattle.lbk_words.specs.Words.{parts_of, scalars_of, words_among}
 use Rattle.lbk_c.proofs.laws.only_bytes_from_a_state_on.Goals as goal
 
 pub returns-clause-breaks : goal.returns-clause-breaks
-returns-clause-breaks c = λ cell table text other state. units-other (onward_in state.profile) pieces cell table text other (plain state)
+returns-clause-breaks c = λ cell kinds pairs text other state. units-other (onward_in state.profile) pieces cell kinds pairs text other (plain state)
 
 pub returns-clause-utf16 : goal.returns-clause-utf16
-returns-clause-utf16 c = λ cell table text other state. units-other (onward_in state.profile) pieces_of_utf16 cell table text other (plain state)
+returns-clause-utf16 c = λ cell kinds pairs text other state. units-other (onward_in state.profile) pieces_of_utf16 cell kinds pairs text other (plain state)
 
 pub returns-clause-utf32 : goal.returns-clause-utf32
-returns-clause-utf32 c = λ cell table text other state. units-other (onward_in state.profile) pieces_of_utf32 cell table text other (plain state)
+returns-clause-utf32 c = λ cell kinds pairs text other state. units-other (onward_in state.profile) pieces_of_utf32 cell kinds pairs text other (plain state)
 
 pub returns-clause-positions : goal.returns-clause-positions
-returns-clause-positions c = λ pieces_of cell table text other state. units-other (onward_all (position_end_in (goes_on state.profile))) pieces_of cell table text other (plain state)
+returns-clause-positions c = λ pieces_of cell kinds pairs text other state. units-other (onward_all (position_end_in (goes_on state.profile))) pieces_of cell kinds pairs text other (plain state)
 
 pub returns-clause-words : goal.returns-clause-words
 returns-clause-words c = λ text other at same. ap (λ bytes. words_among at (pieces bytes) (parts_of (scalars_of (pieces bytes)))) same

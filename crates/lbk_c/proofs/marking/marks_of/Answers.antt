@@ -22,14 +22,14 @@ returns-in_default g c =
         all = λ few unended within _. absurd (never-spent old size spent few unended within);
         more = λ few unended room. absurd (never-spent old size spent few unended (omega (arith, room)));
       };
-      begins = bytes-begin c.args.table.now c.args.text.now old;
+      begins = bytes-begin (g.K.KindSource.kinds_of c.args.table.now) (g.K.KindSource.pairs_of c.args.table.now) c.args.text.now old;
       marks_next = λ cell to_come comes.
           let from = onward_in old.profile in
-          let none = units-none from pieces cell c.args.table.now c.args.text.now (plain old) to_come spent comes in
+          let none = units-none from pieces cell (g.K.KindSource.kinds_of c.args.table.now) (g.K.KindSource.pairs_of c.args.table.now) c.args.text.now (plain old) to_come spent comes in
           record {
             bits = λ i _. c.clear.ensures i ∙ sym (ap (stands_among (old.at + i)) none);
-            rest = subst (Comes cell c.args.table.now c.args.text.now old) (none ∙ sym (ap (from_on (old.at + 64 * length c.args.words.now)) none)) comes;
-            boundary = λ unended. absurd (Comes-unspent from cell c.args.table.now c.args.text.now (plain old) to_come spent comes unended);
+            rest = subst (Comes cell (g.K.KindSource.kinds_of c.args.table.now) (g.K.KindSource.pairs_of c.args.table.now) c.args.text.now old) (none ∙ sym (ap (from_on (old.at + 64 * length c.args.words.now)) none)) comes;
+            boundary = λ unended. absurd (Comes-unspent from cell (g.K.KindSource.kinds_of c.args.table.now) (g.K.KindSource.pairs_of c.args.table.now) c.args.text.now (plain old) to_come spent comes unended);
           };
     }
 
@@ -39,7 +39,8 @@ returns g c =
     let old = c.args.state.now in
     let new = c.go_on.new.state in
     let words = c.go_on.new.words in
-    let table = c.args.table.now in
+    let kinds = g.K.KindSource.kinds_of c.args.table.now in
+    let pairs = g.K.KindSource.pairs_of c.args.table.now in
     let text = c.args.text.now in
     let profile = c.in-Some.profile in
     let going = subst (λ s. IsGoing profile s (length text)) c.plain.ensures c.in-Some.ensures in
@@ -54,17 +55,17 @@ returns g c =
         all = λ _ _ _. on.all;
         more = λ _ _. on.more;
       };
-      begins = bytes-begin table text old;
+      begins = bytes-begin kinds pairs text old;
       marks_next = λ cell to_come comes.
-          let marks = Comes-marks (onward_in old.profile) profile cell table text old.at (plain old) (plain new) to_come words on.marks going comes in
+          let marks = Comes-marks (onward_in old.profile) profile cell kinds pairs text old.at (plain old) (plain new) to_come words on.marks going comes in
           let kept = on.profile_same in
-          let next = Comes-behind (onward_in old.profile) profile cell table text old.at (plain old) (plain new) to_come words going (ap plain_number kept) comes marks in
+          let next = Comes-behind (onward_in old.profile) profile cell kinds pairs text old.at (plain old) (plain new) to_come words going (ap plain_number kept) comes marks in
           let same : length words ≡ length c.args.words.now = omega arith in
           record {
             bits = λ i h. marks.bits i (omega arith);
             rest =
-                subst (λ n. UnitsComeBy (onward_in new.profile) pieces cell table text (plain new) (from_on (old.at + 64 * n) to_come)) same
-                (subst (λ n. UnitsComeBy (onward_in n) pieces cell table text (plain new) (from_on (old.at + 64 * length words) to_come)) (sym kept) next);
+                subst (λ n. UnitsComeBy (onward_in new.profile) pieces cell kinds pairs text (plain new) (from_on (old.at + 64 * n) to_come)) same
+                (subst (λ n. UnitsComeBy (onward_in n) pieces cell kinds pairs text (plain new) (from_on (old.at + 64 * length words) to_come)) (sym kept) next);
             boundary = λ _. marks.boundary ∙ ap (λ n. boundary_from text old.at (old.at + 64 * n)) same;
           };
     }

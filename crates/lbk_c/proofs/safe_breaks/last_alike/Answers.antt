@@ -4,7 +4,7 @@ use Rattle.lbk_c.proofs.SafeWalks.{walks-end, walks-from, walks-on, walks-start}
 use Rattle.lbk_c.proofs.safe_breaks.last_alike.Goals as goal
 
 pub loop-here-init : goal.loop-here-init
-loop-here-init c =
+loop-here-init g c =
     let n = c.next_break-here.ensures in
     record {
       low = omega arith;
@@ -19,7 +19,7 @@ loop-here-init c =
     }
 
 pub loop-here-preserved-then-are_same : goal.loop-here-preserved-then-are_same
-loop-here-preserved-then-are_same c =
+loop-here-preserved-then-are_same g c =
     let i = c.loop-here.invariant in
     let n = c.next_break-next.ensures in
     let inside = c.loop-here-test.true in
@@ -41,7 +41,7 @@ loop-here-preserved-then-are_same c =
     }
 
 pub loop-here-preserved : goal.loop-here-preserved
-loop-here-preserved c =
+loop-here-preserved g c =
     let i = c.loop-here.invariant in
     let n = c.next_break-next.ensures in
     let f = c.next_break-first.ensures in
@@ -65,8 +65,8 @@ loop-here-preserved c =
     }
 
 pub returns-clause-safe : goal.returns-clause-safe
-returns-clause-safe c = λ cell flat some. (c.loop-here.invariant.walks cell flat some).safe_from
+returns-clause-safe g c = λ cell flat some. (c.loop-here.invariant.walks cell flat some).safe_from
 
 pub returns-clause-last : goal.returns-clause-last
-returns-clause-last c = λ cell flat some.
+returns-clause-last g c = λ cell flat some.
     walks-end c.args.rules cell c.args.text.now c.args.cut c.loop-here.safe c.loop-here.here (c.loop-here.invariant.walks cell flat some) c.loop-here-test.false

@@ -7,13 +7,13 @@ use Rattle.lbk_c.proofs.SegmentLemmas.{IsPut, IsStill, length-drop, put-given, s
 use Rattle.lbk_c.proofs.segments.lbk_segments.Goals as goal
 
 put-last : (c : goal.Then-given-lt-BLOCK)
-    → IsPut c.args.table.now c.args.text.now c.args.state.now (record { breaks = c.give_breaks-given.new.state; start = c.put_segments-state.result })
+    → IsPut c.args.table.now.kinds c.args.table.now.pairs c.args.text.now c.args.state.now (record { breaks = c.give_breaks-given.new.state; start = c.put_segments-state.result })
     c.put_segments-state.new.out (c.loop-block.count + c.give_breaks-given.result)
 put-last c =
     let g = c.give_breaks-given in
     let p = c.put_segments-state in
     let loop = c.loop-block in
-    put-given c.args.table.now c.args.text.now c.args.state.now loop.state g.new.state p.result loop.out p.new.out loop.block g.new.out _ loop.count g.result
+    put-given c.args.table.now.kinds c.args.table.now.pairs c.args.text.now c.args.state.now loop.state g.new.state p.result loop.out p.new.out loop.block g.new.out _ loop.count g.result
     c.min-room.result loop.invariant.put loop.invariant.block c.min-room.ensures (omega (arith, g.auto.out)) g.ensures p.auto.out p.ensures.front p.ensures.next
 
 pub loop-block-preserved : goal.loop-block-preserved
@@ -26,13 +26,13 @@ loop-block-preserved c =
     record {
       block = same-length g.new.out block room 64 (omega (arith, g.auto.out, size)) (omega (arith, c.min-room.ensures)) c.loop-block.invariant.block;
       put =
-          put-given c.args.table.now c.args.text.now c.args.state.now c.loop-block.state g.new.state p.result c.loop-block.out p.new.out block g.new.out _
+          put-given c.args.table.now.kinds c.args.table.now.pairs c.args.text.now c.args.state.now c.loop-block.state g.new.state p.result c.loop-block.out p.new.out block g.new.out _
           c.loop-block.count g.result room c.loop-block.invariant.put c.loop-block.invariant.block c.min-room.ensures (omega (arith, g.auto.out)) g.ensures
           p.auto.out p.ensures.front p.ensures.next;
     }
 
 pub returns-then-given-lt-BLOCK-clause-begins : goal.returns-then-given-lt-BLOCK-clause-begins
-returns-then-given-lt-BLOCK-clause-begins c = bytes-begin c.args.table.now c.args.text.now c.args.state.now.breaks
+returns-then-given-lt-BLOCK-clause-begins c = bytes-begin c.args.table.now.kinds c.args.table.now.pairs c.args.text.now c.args.state.now.breaks
 
 pub returns-then-given-lt-BLOCK-clause-gives : goal.returns-then-given-lt-BLOCK-clause-gives
 returns-then-given-lt-BLOCK-clause-gives c = λ cell to_come comes.

@@ -13,10 +13,10 @@ returns c =
       over = search rules;
       start = said.start;
       part = λ cell profile goes_on at text flat short starts.
-          subst (λ l. Streams cell c.args.table.now c.args.stream.now text l)
+          subst (λ l. Streams cell c.args.table.now.kinds c.args.table.now.pairs c.args.stream.now text l)
           (pieces-part goes_on profile cell at (pieces text) ∙ sym (part-onward goes_on profile cell at text))
           (said.part cell profile goes_on at text flat short starts);
-      next = feeds-next _ _ _ _ _ _ _ _ _ _ _ said.front said.rest said.settled said.seen;
+      next = feeds-next _ _ _ _ _ _ _ _ _ _ _ _ said.front said.rest said.settled said.seen;
       cut = said.cut;
       end = said.end;
     }

@@ -7,7 +7,7 @@ returns c = record {
   over = search rules;
   start = c.feed.ensures.start;
   part = c.feed.ensures.part;
-  next = feeds-next _ _ _ _ _ _ _ _ _ _ _ c.feed.ensures.front c.feed.ensures.rest c.feed.ensures.settled c.feed.ensures.seen;
+  next = feeds-next _ _ _ _ _ _ _ _ _ _ _ _ c.feed.ensures.front c.feed.ensures.rest c.feed.ensures.settled c.feed.ensures.seen;
   cut = c.feed.ensures.cut;
   end = c.feed.ensures.end;
 }

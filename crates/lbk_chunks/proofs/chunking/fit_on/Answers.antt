@@ -15,7 +15,7 @@ loop-k-init c =
       few = (omega arith, c.behind_cut-from.ensures.few);
       early = omega arith;
       last = ap (λ (d : Cut). d.at) (sym first);
-      ending = λ cell table text cuts knows begins. subst (λ d. IsEnding c.args.limits.now cuts c.args.here.now d start.early) (sym first) begins;
+      ending = λ cell kinds pairs text cuts knows begins. subst (λ d. IsEnding c.args.limits.now cuts c.args.here.now d start.early) (sym first) begins;
       placed = λ text kept were. (subst (StandsIn c.args.here.now.told _) (sym first) were.0, were.1);
       onward = omega arith;
     }
@@ -38,10 +38,10 @@ loop-k-preserved c =
       few = (omega (arith, i.few.0), omega (arith, c.loop-k-test.true));
       early = c.early_place-early.ensures.few (omega (arith, i.early));
       last = ap (λ (d : Cut). d.at) (sym same);
-      ending = λ cell table text cuts knows begins. (
-          let joined = block-next cell table text cuts knows.rising block k last (c.block_past-block.ensures.block cell table text cuts knows.kept)
+      ending = λ cell kinds pairs text cuts knows begins. (
+          let joined = block-next cell kinds pairs text cuts knows.rising block k last (c.block_past-block.ensures.block cell kinds pairs text cuts knows.kept)
           found.0 c.loop-k-test.true found.1 (omega (arith, i.last, c.if-next-last.false)) in
-          end-goes c.args.limits.now cuts c.args.here.now last next _ _ _ (i.ending cell table text cuts knows begins) joined
+          end-goes c.args.limits.now cuts c.args.here.now last next _ _ _ (i.ending cell kinds pairs text cuts knows begins) joined
           (cut-past cuts last.at next _ knows.rising joined) (sym (c.fits.ensures next refl refl) ∙ c.if-not-fits.false) same early);
       placed = λ text kept were. (
           let placed = i.placed text kept were in
@@ -51,13 +51,13 @@ loop-k-preserved c =
     }
 
 pub returns-then-early-eq0-clause-ending : goal.returns-then-early-eq0-clause-ending
-returns-then-early-eq0-clause-ending c = λ cell table text cuts knows begins.
+returns-then-early-eq0-clause-ending c = λ cell kinds pairs text cuts knows begins.
     let last = last_in c.block_past-block.result.now.cuts c.behind_cut-from.result c.args.start.last c.loop-k.k in
     subst (λ d. IsEnding c.args.limits.now cuts c.args.here.now d c.cut_or.result) (sym c.cut_before.ensures)
-    (subst (λ e. IsEnding c.args.limits.now cuts c.args.here.now last e) (sym c.cut_or.ensures) (c.loop-k.invariant.ending cell table text cuts knows begins))
+    (subst (λ e. IsEnding c.args.limits.now cuts c.args.here.now last e) (sym c.cut_or.ensures) (c.loop-k.invariant.ending cell kinds pairs text cuts knows begins))
 
 pub returns-else-early-eq0-clause-ending : goal.returns-else-early-eq0-clause-ending
-returns-else-early-eq0-clause-ending c = λ cell table text cuts knows begins.
+returns-else-early-eq0-clause-ending c = λ cell kinds pairs text cuts knows begins.
     let last = last_in c.block_past-block.result.now.cuts c.behind_cut-from.result c.args.start.last c.loop-k.k in
     subst (λ d. IsEnding c.args.limits.now cuts c.args.here.now d c.cut_or.result) (sym c.cut_before.ensures)
-    (subst (λ e. IsEnding c.args.limits.now cuts c.args.here.now last e) (sym c.cut_or.ensures) (c.loop-k.invariant.ending cell table text cuts knows begins))
+    (subst (λ e. IsEnding c.args.limits.now cuts c.args.here.now last e) (sym c.cut_or.ensures) (c.loop-k.invariant.ending cell kinds pairs text cuts knows begins))

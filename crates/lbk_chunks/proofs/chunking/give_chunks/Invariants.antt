@@ -7,14 +7,14 @@ use Rattle.lbk_chunks.specs.Coming.{AreGiven, IsKept, Knows}
 use Rattle.lbk_chunks.proofs.chunking.give_chunks.Given as goal
 
 abbrev pub invariant-loop-count : goal.invariant-loop-count
-invariant-loop-count l = record {
+invariant-loop-count g l = record {
   kept : IsKept l.text l.fn.window → IsKept l.text l.window;
   room : l.count ≤ length l.out;
   told : IsKept l.text l.fn.window → AreTold l.fn.here.told l.here.told (length l.text) (take l.count l.out);
   order : l.here.start ≤ l.here.told;
-  given : (cell : ℕ → Cell) (cuts : List Cut) (to_come : List Chunk) → Knows cell l.table l.text cuts l.fn.window l.fn.here
-      → AreChunks l.limits cuts l.fn.here to_come → AreGiven cell l.table l.text l.limits cuts to_come l.count l.out l.window l.here;
+  given : (cell : ℕ → Cell) (cuts : List Cut) (to_come : List Chunk) → Knows cell (g.K.KindSource.kinds_of l.table) (g.K.KindSource.pairs_of l.table) l.text cuts l.fn.window l.fn.here
+      → AreChunks l.limits cuts l.fn.here to_come → AreGiven cell (g.K.KindSource.kinds_of l.table) (g.K.KindSource.pairs_of l.table) l.text l.limits cuts to_come l.count l.out l.window l.here;
 }
 
 abbrev pub decreases-loop-count : goal.decreases-loop-count
-decreases-loop-count l = length l.out - l.count
+decreases-loop-count g l = length l.out - l.count

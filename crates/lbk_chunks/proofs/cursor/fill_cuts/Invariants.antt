@@ -6,9 +6,9 @@ use Rattle.lbk_chunks.proofs.CursorLemmas.{IsSoFar}
 use Rattle.lbk_chunks.proofs.cursor.fill_cuts.Given as goal
 
 abbrev pub invariant-loop-here : goal.invariant-loop-here
-invariant-loop-here l = record {
-  first : (cell : ℕ → Cell) (cuts : List Cut) → AreRead l.text l.fn.words → IsAhead cell l.table l.text l.fn.place cuts
-      → IsSoFar cell l.table l.text cuts l.out l.here l.words;
+invariant-loop-here g l = record {
+  first : (cell : ℕ → Cell) (cuts : List Cut) → AreRead l.text l.fn.words → IsAhead cell (g.K.KindSource.kinds_of l.table) (g.K.KindSource.pairs_of l.table) l.text l.fn.place cuts
+      → IsSoFar cell (g.K.KindSource.kinds_of l.table) (g.K.KindSource.pairs_of l.table) l.text cuts l.out l.here l.words;
   room : l.here.count ≤ l.fn.room;
   within : StandWithin (length l.text) l.here.count l.out;
   counted : 0 < l.here.count → l.here.count ≡ l.fn.room → l.here.place.words ≡ (slice_index_or l.out (l.here.count - 1) no_cut).words;
@@ -17,4 +17,4 @@ invariant-loop-here l = record {
 }
 
 abbrev pub decreases-loop-here : goal.decreases-loop-here
-decreases-loop-here l = breaks_left l.text l.here.place.breaks
+decreases-loop-here g l = breaks_left l.text l.here.place.breaks

@@ -3,7 +3,7 @@ use Rattle.lbk_chunks.proofs.BreakLemmas.{shown-front}
 use Rattle.lbk_chunks.proofs.cursor.next_breaks.Goals as goal
 
 pub returns-clause-first : goal.returns-clause-first
-returns-clause-first c = λ cell breaks comes.
+returns-clause-first g c = λ cell breaks comes.
     let give = c.give_breaks-count in
     let gives = give.ensures.gives cell breaks comes in
     record {
@@ -13,4 +13,4 @@ returns-clause-first c = λ cell breaks comes.
     }
 
 pub returns-clause-within : goal.returns-clause-within
-returns-clause-within c = λ k below. (let h = (c.give_breaks-count.ensures.goes_over.in_order.within k below).1 in omega (arith, h))
+returns-clause-within g c = λ k below. (let h = (c.give_breaks-count.ensures.goes_over.in_order.within k below).1 in omega (arith, h))

@@ -1,7 +1,7 @@
 use Rattle.std.proofs.Common.{◌≡◌, ◌⊎◌, ℕ, ◌++◌, [], List, false, drop, sym, subst, ⊎_elim, length-take-le, arith}
 use Rattle.std.proofs.lemmas.List.{append-nil}
 use Rattle.lbk_rules.specs.declared.Cell.{Cell}
-use Rattle.lbk_rules.specs.FlatTable.{IsFlatOf}
+use Rattle.lbk_rules.specs.FlatTable.{IsFlatBy}
 use Rattle.lbk_bytes.specs.Shown.{given_in}
 use Rattle.lbk_units.specs.Front.{IsFront}
 use Rattle.lbk_streams.specs.Stands.{Ahead, Feeds, front_of, listed}
@@ -13,7 +13,7 @@ use Rattle.lbk_streams.proofs.feeding.take_cut.Goals.{After-take_scalar-step}
 
 -- the scalar in front of the units that were cut is one of the text, whatever follows
 taken : (g : Over) (c : After-take_scalar-step g) → let here = c.args.here in let out = c.args.out.now in let step = c.take_scalar-step in
-    (cell : ℕ → Cell) (piece more : List g.row.U.Denot) → IsFlatOf c.args.table.now cell
+    (cell : ℕ → Cell) (piece more : List g.row.U.Denot) → IsFlatBy (g.K.KindSource.kinds_of c.args.table.now) (g.K.KindSource.pairs_of c.args.table.now) cell
     → (g.U.StreamUnit.could_go_on (front_of here.cut) ≡ false) ⊎ (drop here.taken piece ++ more ≡ [])
     → (base : ℕ) (all : Ahead) → Feeds g.U.Unit.pieces_of c.args.profile cell base piece more here all (given_in out here.count)
     → IsTaken g.U.Unit.pieces_of (front_of here.cut ++ (drop here.taken piece ++ more)) c.first_of_cut-first.result here.place step.result.place step.result.passed

@@ -26,7 +26,7 @@ loop-here-preserved g c =
     let l = c.loop-here in
     let take = c.take_more-here in
     record {
-      takes = TakesOf-then g.U.Unit.pieces_of g.U.StreamUnit.widest c.args.table.now c.args.profile c.args.piece.now c.args.out.now c.args.start l.out l.here take.new.out take.result
+      takes = TakesOf-then g.U.Unit.pieces_of g.U.StreamUnit.widest (g.K.KindSource.kinds_of c.args.table.now) (g.K.KindSource.pairs_of c.args.table.now) c.args.profile c.args.piece.now c.args.out.now c.args.start l.out l.here take.new.out take.result
           (omega arith) l.invariant.takes take.ensures.takes;
       unfinished = λ free. take.ensures.unfinished (omega arith);
     }

@@ -6,7 +6,7 @@ abbrev pub invariant-loop-here : goal.invariant-loop-here
 invariant-loop-here g l =
     let of = g.U.StreamUnit in
     record {
-      takes : TakesOf g.U.Unit.pieces_of of.widest l.fn.table l.fn.profile l.piece l.fn.out l.fn.start l.out l.here;
+      takes : TakesOf g.U.Unit.pieces_of of.widest (g.K.KindSource.kinds_of l.fn.table) (g.K.KindSource.pairs_of l.fn.table) l.fn.profile l.piece l.fn.out l.fn.start l.out l.here;
       unfinished : l.here.count < length l.out → IsOpen of.could_go_on of.widest l.here.cut;
     }
 

@@ -1,6 +1,6 @@
 use Rattle.std.proofs.Common.{◌≡◌, ℕ, ◌+◌, ◌-◌, ◌^◌, ◌<◌, ◌≤◌, ◌++◌, List, true, drop, length, take, sym, ap, subst, ◌∙◌, inl, length-drop, length-take-le, arith}
 use Rattle.lbk_rules.specs.declared.Cell.{Cell}
-use Rattle.lbk_rules.specs.FlatTable.{IsFlatOf}
+use Rattle.lbk_rules.specs.FlatTable.{IsFlatBy}
 use Rattle.lbk_bytes.specs.Shown.{given_in}
 use Rattle.lbk_units.specs.Front.{IsFront}
 use Rattle.lbk_bytes.proofs.PieceLemmas.{rest-of}
@@ -23,7 +23,7 @@ inside g c =
 
 -- and is one of the text, whatever follows
 taken : (g : Over) (c : After-take_scalar-step g) → let here = c.args.here in let out = c.args.out.now in let step = c.take_scalar-step in
-    (cell : ℕ → Cell) (more : List g.row.U.Denot) → IsFlatOf c.args.table.now cell
+    (cell : ℕ → Cell) (more : List g.row.U.Denot) → IsFlatBy (g.K.KindSource.kinds_of c.args.table.now) (g.K.KindSource.pairs_of c.args.table.now) cell
     → (base : ℕ) (all : Ahead) → Feeds g.U.Unit.pieces_of c.args.profile cell base c.args.piece.now more here all (given_in out here.count)
     → IsTaken g.U.Unit.pieces_of (drop here.taken c.args.piece.now ++ more) c.first-first.result here.place step.result.place step.result.passed c.args.profile cell all
     (given_in step.new.out step.result.count)
@@ -44,7 +44,7 @@ taken g c cell more flat base all feeds =
 
 -- where it is taken
 past : (g : Over) (c : After-take_scalar-step g) → let step = c.take_scalar-step in step.result.passed ≡ true
-    → TakesOf g.U.Unit.pieces_of g.U.StreamUnit.widest c.args.table.now c.args.profile c.args.piece.now c.args.out.now c.args.here step.new.out
+    → TakesOf g.U.Unit.pieces_of g.U.StreamUnit.widest (g.K.KindSource.kinds_of c.args.table.now) (g.K.KindSource.pairs_of c.args.table.now) c.args.profile c.args.piece.now c.args.out.now c.args.here step.new.out
     (record { place = step.result.place; cut = c.args.here.cut; taken = c.args.here.taken + c.first-first.result.size; count = step.result.count })
 past g c passed =
     let here = c.args.here in
@@ -130,7 +130,7 @@ returns g c =
     let here = c.args.here in
     record {
       takes =
-          TakesOf-then g.U.Unit.pieces_of g.U.StreamUnit.widest c.args.table.now c.args.profile c.args.piece.now c.args.out.now here step.new.out
+          TakesOf-then g.U.Unit.pieces_of g.U.StreamUnit.widest (g.K.KindSource.kinds_of c.args.table.now) (g.K.KindSource.pairs_of c.args.table.now) c.args.profile c.args.piece.now c.args.out.now here step.new.out
           (record { place = step.result.place; cut = here.cut; taken = here.taken + c.first-first.result.size; count = step.result.count }) c.skim.new.out c.skim.result
           (omega arith) (past g (goal.at.returns g c).After-take_scalar-step (not-false step.result.passed c.if-not-step.false)) c.skim.ensures.takes;
       onward = omega (arith, c.skim.ensures.takes.within.0, c.first-first.ensures.front.some);

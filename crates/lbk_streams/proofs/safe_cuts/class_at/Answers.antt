@@ -7,6 +7,6 @@ use Rattle.lbk_streams.proofs.safe_cuts.class_at.Goals as goal
 
 pub returns-clause-class : goal.returns-clause-class
 unfolding normal
-returns-clause-class c = λ cell are_kinds.
-    ap (λ (x : Cell). x.class) (c.cell.ensures cell are_kinds)
+returns-clause-class g c = λ cell are_kinds.
+    ap (λ (x : Cell). x.class) (c.cell_by_kind.ensures cell are_kinds)
     ∙ ap (λ x. (cell x).class) (c.decode_lossy-c.ensures.char ∙ ap (λ bs. or_replacement (decoded bs).char) (rest-of c.args.text.now c.args.place))

@@ -8,24 +8,24 @@ use Rattle.lbk_streams.proofs.SafeLemmas.{at-each, cuts-after, joins-safe, last-
 use Rattle.lbk_streams.proofs.safe_cuts.cut.Goals as goal
 
 pub returns-then-text-at : goal.returns-then-text-at
-returns-then-text-at c =
+returns-then-text-at g c =
     let text = c.args.text.now in
-    cuts-after pieces c.args.table.now text c.args.at (length text) (λ profile cell. joins-safe profile cell text (length text)) (starts_last text)
+    cuts-after pieces (g.K.KindSource.kinds_of c.args.table.now) (g.K.KindSource.pairs_of c.args.table.now) text c.args.at (length text) (λ profile cell. joins-safe profile cell text (length text)) (starts_last text)
     (λ cell are_kinds. inr (inl refl)) (omega arith) (omega arith) (λ first. omega arith) (λ cell place are_kinds from less. absurd (omega arith))
 
 pub returns-then-at-eq0 : goal.returns-then-at-eq0
-returns-then-at-eq0 c =
+returns-then-at-eq0 g c =
     let text = c.args.text.now in
-    cuts-after pieces c.args.table.now text c.args.at 0 (λ profile cell. joins-safe profile cell text 0) (starts_first text)
+    cuts-after pieces (g.K.KindSource.kinds_of c.args.table.now) (g.K.KindSource.pairs_of c.args.table.now) text c.args.at 0 (λ profile cell. joins-safe profile cell text 0) (starts_first text)
     (λ cell are_kinds. inl refl) (omega arith) (omega arith) (λ first. refl) (λ cell place are_kinds from less. absurd (omega arith))
 
 pub overflow_add-place : goal.overflow_add-place
-overflow_add-place c =
+overflow_add-place g c =
     let bounds = piece-within c.args.text.now c.piece_start-start.result (omega (arith, c.piece_start-start.ensures.before)) in
     omega (arith, bounds.1, c.class_at-last.ensures.size)
 
 pub loop-place-init : goal.loop-place-init
-loop-place-init c =
+loop-place-init g c =
     let text = c.args.text.now in
     let start = c.piece_start-start.result in
     let found = c.piece_start-start.ensures in
@@ -44,27 +44,27 @@ loop-place-init c =
     }
 
 pub returns-then-must_end : goal.returns-then-must_end
-returns-then-must_end c =
+returns-then-must_end g c =
     let text = c.args.text.now in
     let l = c.loop-place in
-    cuts-after pieces c.args.table.now text c.args.at l.place (λ profile cell. joins-safe profile cell text l.place) l.invariant.begins
+    cuts-after pieces (g.K.KindSource.kinds_of c.args.table.now) (g.K.KindSource.pairs_of c.args.table.now) text c.args.at l.place (λ profile cell. joins-safe profile cell text l.place) l.invariant.begins
     (λ cell are_kinds.
     safe cell text l.place l.last c.class_at-next.result.0 c.loop-place-test.true l.invariant.begins
     (l.invariant.last cell are_kinds) (c.class_at-next.ensures.class cell are_kinds) (sym c.must_end.ensures ∙ c.if-must_end.true))
     l.invariant.within (omega (arith, l.invariant.behind)) (λ first. absurd (omega arith)) l.invariant.none
 
 pub overflow_add-place-in-loop-place : goal.overflow_add-place-in-loop-place
-overflow_add-place-in-loop-place c =
+overflow_add-place-in-loop-place g c =
     let bounds = piece-within c.args.text.now c.loop-place.place c.loop-place-test.true in
     omega (arith, bounds.1, c.class_at-next.ensures.size)
 
 pub loop-place-smaller : goal.loop-place-smaller
-loop-place-smaller c =
+loop-place-smaller g c =
     let bounds = piece-within c.args.text.now c.loop-place.place c.loop-place-test.true in
     omega (arith, bounds.0, bounds.1, c.class_at-next.ensures.size)
 
 pub loop-place-preserved : goal.loop-place-preserved
-loop-place-preserved c =
+loop-place-preserved g c =
     let text = c.args.text.now in
     let l = c.loop-place in
     let at = l.place in
@@ -87,9 +87,9 @@ loop-place-preserved c =
     }
 
 pub returns : goal.returns
-returns c =
+returns g c =
     let text = c.args.text.now in
     let l = c.loop-place in
-    cuts-after pieces c.args.table.now text c.args.at l.place (λ profile cell. joins-safe profile cell text l.place) l.invariant.begins
+    cuts-after pieces (g.K.KindSource.kinds_of c.args.table.now) (g.K.KindSource.pairs_of c.args.table.now) text c.args.at l.place (λ profile cell. joins-safe profile cell text l.place) l.invariant.begins
     (λ cell are_kinds. inr (inl (omega (arith, l.invariant.within))))
     l.invariant.within (omega (arith, l.invariant.behind)) (λ first. absurd (omega arith)) l.invariant.none

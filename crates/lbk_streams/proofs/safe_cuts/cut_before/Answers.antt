@@ -6,13 +6,13 @@ use Rattle.lbk_streams.proofs.SafeLemmas.{at-each, cuts-before, joins-safe, safe
 use Rattle.lbk_streams.proofs.safe_cuts.cut_before.Goals as goal
 
 pub returns-then-text-at : goal.returns-then-text-at
-returns-then-text-at c =
+returns-then-text-at g c =
     let text = c.args.text.now in
-    cuts-before pieces c.args.table.now text c.args.at (length text) (λ profile cell. joins-safe profile cell text (length text)) (starts_last text)
+    cuts-before pieces (g.K.KindSource.kinds_of c.args.table.now) (g.K.KindSource.pairs_of c.args.table.now) text c.args.at (length text) (λ profile cell. joins-safe profile cell text (length text)) (starts_last text)
     (λ cell are_kinds. inr (inl refl)) (omega arith) (λ _. refl) (λ cell place are_kinds later up within. absurd (omega arith))
 
 pub loop-place-init : goal.loop-place-init
-loop-place-init c =
+loop-place-init g c =
     let text = c.args.text.now in
     let start = c.piece_start-start.result in
     let found = c.piece_start-start.ensures in
@@ -24,9 +24,9 @@ loop-place-init c =
     }
 
 pub returns-then-must_end : goal.returns-then-must_end
-returns-then-must_end c =
+returns-then-must_end g c =
     let l = c.loop-place in
-    cuts-before pieces c.args.table.now c.args.text.now c.args.at l.place (λ profile cell. joins-safe profile cell c.args.text.now l.place) l.invariant.begins
+    cuts-before pieces (g.K.KindSource.kinds_of c.args.table.now) (g.K.KindSource.pairs_of c.args.table.now) c.args.text.now c.args.at l.place (λ profile cell. joins-safe profile cell c.args.text.now l.place) l.invariant.begins
     (λ cell are_kinds.
     safe cell c.args.text.now l.place c.class_before-last.result.0 l.next (omega (arith, l.invariant.within)) l.invariant.begins
     (c.class_before-last.ensures.last cell are_kinds) (l.invariant.next cell are_kinds) (sym c.must_end.ensures ∙ c.if-must_end.true))
@@ -34,7 +34,7 @@ returns-then-must_end c =
     (λ cell place are_kinds later up within. l.invariant.none cell place are_kinds later up)
 
 pub loop-place-preserved : goal.loop-place-preserved
-loop-place-preserved c =
+loop-place-preserved g c =
     let text = c.args.text.now in
     let l = c.loop-place in
     let at = l.place in
@@ -57,9 +57,9 @@ loop-place-preserved c =
     }
 
 pub returns : goal.returns
-returns c =
+returns g c =
     let text = c.args.text.now in
     let l = c.loop-place in
-    cuts-before pieces c.args.table.now text c.args.at 0 (λ profile cell. joins-safe profile cell text 0) (starts_first text)
+    cuts-before pieces (g.K.KindSource.kinds_of c.args.table.now) (g.K.KindSource.pairs_of c.args.table.now) text c.args.at 0 (λ profile cell. joins-safe profile cell text 0) (starts_first text)
     (λ cell are_kinds. inl refl) (omega arith) (λ past. absurd (omega arith))
     (λ cell place are_kinds later up within. l.invariant.none cell place are_kinds (omega arith) up)

@@ -6,7 +6,7 @@ use Rattle.lbk_rules.specs.declared.Break.{Break}
 use Rattle.lbk_rules.specs.declared.Cell.{Cell}
 use Rattle.lbk_values.specs.declared.profile.Profile.{Profile}
 use Rattle.lbk_rules.specs.Joins.{moved}
-use Rattle.lbk_rules.specs.FlatTable.{IsFlatOf}
+use Rattle.lbk_rules.specs.FlatTable.{IsFlatBy}
 use Rattle.lbk_bytes.specs.Order.{AreInOrder}
 use Rattle.lbk_bytes.specs.Shown.{given_in}
 use Rattle.lbk_bytes.proofs.OrderLemmas.{AreInOrder-none, AreInOrder-wider}
@@ -26,20 +26,20 @@ use Rattle.lbk_streams.proofs.streaming.feed.Goals as goal
 use Rattle.lbk_streams.proofs.streaming.feed.Goals.{After-close, After-keep, After-take_piece-here, Start}
 
 -- a stream at the start of a text
-from-start : (g : Over) (c : Start g) → (cell : ℕ → Cell) (profile : Profile) (text : List g.row.U.Denot) → IsFlatOf c.args.table.now cell → length text < 2 ^ 64
+from-start : (g : Over) (c : Start g) → (cell : ℕ → Cell) (profile : Profile) (text : List g.row.U.Denot) → IsFlatBy (g.K.KindSource.kinds_of c.args.table.now) (g.K.KindSource.pairs_of c.args.table.now) cell → length text < 2 ^ 64
     → c.args.stream.now ≡ stream_start profile
-    → StreamsIn g.U.Unit.pieces_of g.U.StreamUnit.carried cell c.args.table.now c.args.stream.now text (breaks_of_pieces profile cell (g.U.Unit.pieces_of text))
+    → StreamsIn g.U.Unit.pieces_of g.U.StreamUnit.carried cell (g.K.KindSource.kinds_of c.args.table.now) (g.K.KindSource.pairs_of c.args.table.now) c.args.stream.now text (breaks_of_pieces profile cell (g.U.Unit.pieces_of text))
 from-start g c cell profile text flat short starts =
-    Streams-part g.U.Unit.pieces_of g.U.StreamUnit.carried cell c.args.table.now false profile 0 text c.args.stream.now _ flat (omega (arith, short)) starts (onward-start profile cell (g.U.Unit.pieces_of text))
+    Streams-part g.U.Unit.pieces_of g.U.StreamUnit.carried cell (g.K.KindSource.kinds_of c.args.table.now) (g.K.KindSource.pairs_of c.args.table.now) false profile 0 text c.args.stream.now _ flat (omega (arith, short)) starts (onward-start profile cell (g.U.Unit.pieces_of text))
 
 -- and at that of a part of one
 from-part : (g : Over) (c : Start g) → (cell : ℕ → Cell) (profile : Profile) (goes_on : Bool) (at : ℕ) (text : List g.row.U.Denot)
-    → IsFlatOf c.args.table.now cell → at + length text < 2 ^ 64 → c.args.stream.now ≡ part_stream goes_on profile at
-    → StreamsIn g.U.Unit.pieces_of g.U.StreamUnit.carried cell c.args.table.now c.args.stream.now text
+    → IsFlatBy (g.K.KindSource.kinds_of c.args.table.now) (g.K.KindSource.pairs_of c.args.table.now) cell → at + length text < 2 ^ 64 → c.args.stream.now ≡ part_stream goes_on profile at
+    → StreamsIn g.U.Unit.pieces_of g.U.StreamUnit.carried cell (g.K.KindSource.kinds_of c.args.table.now) (g.K.KindSource.pairs_of c.args.table.now) c.args.stream.now text
     (map (moved at) (breaks_of_part_of goes_on profile cell (g.U.Unit.pieces_of text)))
 from-part g c cell profile goes_on at text flat short starts =
     let ps = g.U.Unit.pieces_of text in
-    Streams-part g.U.Unit.pieces_of g.U.StreamUnit.carried cell c.args.table.now goes_on profile at text c.args.stream.now _ flat short starts
+    Streams-part g.U.Unit.pieces_of g.U.StreamUnit.carried cell (g.K.KindSource.kinds_of c.args.table.now) (g.K.KindSource.pairs_of c.args.table.now) goes_on profile at text c.args.stream.now _ flat short starts
     (pieces-onward goes_on profile cell at ps (units_of ps) (units-sizes ps))
 
 -- where the units that came end
@@ -69,7 +69,7 @@ ordered-last g c sound o =
 -- of the breaks to come, those after the piece was taken
 fed : (g : Over) (c : After-take_piece-here g) → let old = c.args.stream.now in let piece = c.args.piece.now in
     (cell : ℕ → Cell) (more : List g.row.U.Denot) (to_come : List Break)
-    → StreamsIn g.U.Unit.pieces_of g.U.StreamUnit.carried cell c.args.table.now old (piece ++ more) to_come
+    → StreamsIn g.U.Unit.pieces_of g.U.StreamUnit.carried cell (g.K.KindSource.kinds_of c.args.table.now) (g.K.KindSource.pairs_of c.args.table.now) old (piece ++ more) to_come
     → Feeds g.U.Unit.pieces_of c.in-Some.profile cell (base g.U.StreamUnit.carried c.args.stream.now) piece more c.take_piece-here.result (ahead old.profile to_come)
     (given_in c.take_piece-here.new.out c.take_piece-here.result.count)
 fed g c cell more to_come s =
@@ -77,16 +77,16 @@ fed g c cell more to_come s =
     let start = c.start_of-start in
     let live = c.in-Some.ensures in
     c.take_piece-here.ensures.takes.feeds cell more s.flat (base g.U.StreamUnit.carried c.args.stream.now) (ahead old.profile to_come)
-    (Feeds-streams g.U.Unit.pieces_of g.U.StreamUnit.carried c.in-Some.profile cell c.args.table.now old c.args.piece.now more to_come (given_in c.args.out.now start.result.count) start.result
+    (Feeds-streams g.U.Unit.pieces_of g.U.StreamUnit.carried c.in-Some.profile cell (g.K.KindSource.kinds_of c.args.table.now) (g.K.KindSource.pairs_of c.args.table.now) old c.args.piece.now more to_come (given_in c.args.out.now start.result.count) start.result
     live.1 live.0 start.ensures.place start.ensures.cut.units start.ensures.fresh.0 start.ensures.cut.size (ap (given_in c.args.out.now) start.ensures.fresh.1) s)
 
 -- what a call gives that goes on
 gives : (g : Over) (c : After-keep g) → let here = c.take_piece-here.result in
     (cell : ℕ → Cell) (more : List g.row.U.Denot) (to_come : List Break)
-    → StreamsIn g.U.Unit.pieces_of g.U.StreamUnit.carried cell c.args.table.now c.args.stream.now (c.args.piece.now ++ more) to_come
+    → StreamsIn g.U.Unit.pieces_of g.U.StreamUnit.carried cell (g.K.KindSource.kinds_of c.args.table.now) (g.K.KindSource.pairs_of c.args.table.now) c.args.stream.now (c.args.piece.now ++ more) to_come
     → Feeds g.U.Unit.pieces_of c.in-Some.profile cell (base g.U.StreamUnit.carried c.args.stream.now) c.args.piece.now more here (ahead c.args.stream.now.profile to_come)
     (given_in c.take_piece-here.new.out here.count)
-    → Gives g.U.Unit.pieces_of g.U.StreamUnit.carried g.U.StreamUnit.could_go_on cell c.args.table.now c.args.stream.now c.keep.new.stream c.args.piece.now more c.args.last to_come
+    → Gives g.U.Unit.pieces_of g.U.StreamUnit.carried g.U.StreamUnit.could_go_on cell (g.K.KindSource.kinds_of c.args.table.now) (g.K.KindSource.pairs_of c.args.table.now) c.args.stream.now c.keep.new.stream c.args.piece.now more c.args.last to_come
     (record { taken = here.taken; count = here.count }) (given_in c.take_piece-here.new.out here.count) (length c.args.out.now)
 gives g c cell more to_come s feeds =
     let of = g.U.Unit.pieces_of in
@@ -106,7 +106,7 @@ gives g c cell more to_come s feeds =
     record {
       front = Feeds-front of carried profile cell old.profile at_base piece more to_come given here here.count many feeds;
       rest =
-          Streams-next of carried profile cell c.args.table.now at_base old new piece more to_come given here here.count live.1 live.0 s.flat kept.place kept.cut.0
+          Streams-next of carried profile cell (g.K.KindSource.kinds_of c.args.table.now) (g.K.KindSource.pairs_of c.args.table.now) at_base old new piece more to_come given here here.count live.1 live.0 s.flat kept.place kept.cut.0
           kept.same.0 kept.same.1 many feeds;
       settled = λ _ free.
           Feeds-unsettled of carried profile cell g.U.StreamUnit.could_go_on old.profile at_base new piece more to_come given here here.count kept.place kept.cut.0
@@ -118,15 +118,16 @@ gives g c cell more to_come s feeds =
 -- what the last call gives
 gives-last : (g : Over) (c : After-close g) → let here = c.take_piece-here.result in
     (cell : ℕ → Cell) (more : List g.row.U.Denot) (to_come : List Break) → more ≡ []
-    → StreamsIn g.U.Unit.pieces_of g.U.StreamUnit.carried cell c.args.table.now c.args.stream.now (c.args.piece.now ++ more) to_come
+    → StreamsIn g.U.Unit.pieces_of g.U.StreamUnit.carried cell (g.K.KindSource.kinds_of c.args.table.now) (g.K.KindSource.pairs_of c.args.table.now) c.args.stream.now (c.args.piece.now ++ more) to_come
     → Feeds g.U.Unit.pieces_of c.in-Some.profile cell (base g.U.StreamUnit.carried c.args.stream.now) c.args.piece.now more here (ahead c.args.stream.now.profile to_come)
     (given_in c.take_piece-here.new.out here.count)
-    → Gives g.U.Unit.pieces_of g.U.StreamUnit.carried g.U.StreamUnit.could_go_on cell c.args.table.now c.args.stream.now c.close.new.stream c.args.piece.now more c.args.last to_come
+    → Gives g.U.Unit.pieces_of g.U.StreamUnit.carried g.U.StreamUnit.could_go_on cell (g.K.KindSource.kinds_of c.args.table.now) (g.K.KindSource.pairs_of c.args.table.now) c.args.stream.now c.close.new.stream c.args.piece.now more c.args.last to_come
     c.close.result (given_in c.close.new.out c.close.result.count) (length c.args.out.now)
 gives-last g c cell more to_come none s feeds =
     let of = g.U.Unit.pieces_of in
     let carried = g.U.StreamUnit.carried in
-    let table = c.args.table.now in
+    let kinds = g.K.KindSource.kinds_of c.args.table.now in
+    let pairs = g.K.KindSource.pairs_of c.args.table.now in
     let profile = c.in-Some.profile in
     let live = c.in-Some.ensures in
     let old = c.args.stream.now in
@@ -144,7 +145,7 @@ gives-last g c cell more to_come none s feeds =
     λ free. ap (λ n. drop n piece ++ more) (take.ensures.settled (omega arith)).0 ∙ ap (λ l. l ++ more) (drop-length piece) ∙ none in
     let ends = drain.ensures.feeds cell piece more s.flat (λ _. nothing) (base carried old) (ahead old.profile to_come) feeds in
     let taken : close.result.taken ≡ done.taken = close.ensures.within.1 in
-    let closed = Feeds-closed of carried profile cell table (base g.U.StreamUnit.carried c.args.stream.now) old new piece to_come given after done close.result.count room g.met.U.Unit.ends live.1 live.0 s.flat
+    let closed = Feeds-closed of carried profile cell kinds pairs (base g.U.StreamUnit.carried c.args.stream.now) old new piece to_come given after done close.result.count room g.met.U.Unit.ends live.1 live.0 s.flat
     (record {
       within = omega (arith, drain.ensures.takes.room);
       many = given-many drain.new.out done.count (omega (arith, drain.ensures.takes.room));
@@ -165,8 +166,8 @@ gives-last g c cell more to_come none s feeds =
     record {
       front = closed.front;
       rest =
-          subst (λ m. StreamsIn of carried cell table new (drop close.result.taken piece ++ m) (drop close.result.count to_come)) (sym none)
-          (subst (λ n. StreamsIn of carried cell table new (drop n piece ++ []) (drop close.result.count to_come)) (sym taken) closed.rest);
+          subst (λ m. StreamsIn of carried cell kinds pairs new (drop close.result.taken piece ++ m) (drop close.result.count to_come)) (sym none)
+          (subst (λ n. StreamsIn of carried cell kinds pairs new (drop n piece ++ []) (drop close.result.count to_come)) (sym taken) closed.rest);
       settled = λ unfinished. absurd (false≢true (sym unfinished ∙ c.if-last.true));
       seen = (let seen = ends.seen in let put = close.ensures.seen in omega (arith, put.0, put.1));
       end = λ _ free. closed.end (omega arith);
@@ -180,7 +181,7 @@ returns-in_default-clause-start g c = from-start g (goal.at.returns-in_default-c
 
 pub returns-in_default-clause-settled : goal.returns-in_default-clause-settled
 returns-in_default-clause-settled g c = λ cell more to_come s unfinished unended free.
-    absurd (let ended = (ended-none g.U.Unit.pieces_of g.U.StreamUnit.carried cell c.args.table.now c.args.stream.now (c.args.piece.now ++ more) to_come c.in_default.ensures s).1 in omega arith)
+    absurd (let ended = (ended-none g.U.Unit.pieces_of g.U.StreamUnit.carried cell (g.K.KindSource.kinds_of c.args.table.now) (g.K.KindSource.pairs_of c.args.table.now) c.args.stream.now (c.args.piece.now ++ more) to_come c.in_default.ensures s).1 in omega arith)
 
 pub returns-clause-start : goal.returns-clause-start
 returns-clause-start g c = from-start g (goal.at.returns-clause-start g c).Start
@@ -230,7 +231,7 @@ returns-clause-end g c = λ cell to_come s is_last. absurd (false≢true (sym c.
 
 pub returns-then-last-clause-end : goal.returns-then-last-clause-end
 returns-then-last-clause-end g c = λ cell to_come s is_last free.
-    let whole = subst (λ units. StreamsIn g.U.Unit.pieces_of g.U.StreamUnit.carried cell c.args.table.now c.args.stream.now units to_come) (sym (append-nil c.args.piece.now)) s in
+    let whole = subst (λ units. StreamsIn g.U.Unit.pieces_of g.U.StreamUnit.carried cell (g.K.KindSource.kinds_of c.args.table.now) (g.K.KindSource.pairs_of c.args.table.now) c.args.stream.now units to_come) (sym (append-nil c.args.piece.now)) s in
     let at = goal.at.returns-then-last-clause-end g c in
     (gives-last g at.After-close cell [] to_come refl whole (fed g at.After-take_piece-here cell [] to_come whole)).end is_last free
 

@@ -7,10 +7,10 @@ use Rattle.lbk_streams.proofs.utf16_cuts.cut_before_utf16.Given as goal
 
 -- at none of the places behind this one a part may begin
 abbrev pub invariant-loop-place : goal.invariant-loop-place
-invariant-loop-place l = record {
+invariant-loop-place g l = record {
   before : l.place ≤ l.fn.at;
-  none : (cell : ℕ → Cell) (place : ℕ) → AreFlatKinds l.table.kinds cell → l.place < place → place ≤ l.fn.at → ¬ (IsSafeIn pieces_of_utf16 cell l.text place);
+  none : (cell : ℕ → Cell) (place : ℕ) → AreFlatKinds (g.K.KindSource.kinds_of l.table) cell → l.place < place → place ≤ l.fn.at → ¬ (IsSafeIn pieces_of_utf16 cell l.text place);
 }
 
 abbrev pub decreases-loop-place : goal.decreases-loop-place
-decreases-loop-place l = l.place
+decreases-loop-place g l = l.place

@@ -7,12 +7,12 @@ use Rattle.lbk_streams.proofs.utf16_cuts.cut_utf16.Given as goal
 
 -- at none of the places before this one a part may begin
 abbrev pub invariant-loop-place : goal.invariant-loop-place
-invariant-loop-place l = record {
+invariant-loop-place g l = record {
   within : l.place ≤ length l.text;
   behind : l.fn.at ≤ l.place;
   start : l.fn.at ≡ 0 → l.place ≡ 0;
-  none : (cell : ℕ → Cell) (place : ℕ) → AreFlatKinds l.table.kinds cell → l.fn.at ≤ place → place < l.place → ¬ (IsSafeIn pieces_of_utf16 cell l.text place);
+  none : (cell : ℕ → Cell) (place : ℕ) → AreFlatKinds (g.K.KindSource.kinds_of l.table) cell → l.fn.at ≤ place → place < l.place → ¬ (IsSafeIn pieces_of_utf16 cell l.text place);
 }
 
 abbrev pub decreases-loop-place : goal.decreases-loop-place
-decreases-loop-place l = length l.text - l.place
+decreases-loop-place g l = length l.text - l.place

@@ -4,7 +4,7 @@ use Rattle.lbk_units.proofs.alone.run_mixed.Given as goal
 
 abbrev pub invariant-loop-out : goal.invariant-loop-out
 invariant-loop-out g l = record {
-  runs : RunsOn g.T.Target.entry g.T.Target.onward g.U.Unit.pieces_of l.kinds l.steps l.text l.fn.out l.fn.start l.out l.here;
+  runs : RunsOn g.T.Target.entry g.T.Target.onward g.U.Unit.pieces_of (g.K.KindSource.kinds_of l.kinds) l.steps l.text l.fn.out l.fn.start l.out l.here;
   some : 0 < l.some;
   few : l.some ≤ 2048;
 }

@@ -24,11 +24,11 @@ loop-here-preserved g c =
 pub returns-else-here-text : goal.returns-else-here-text
 returns-else-here-text g c =
     let so_far = c.loop-here.invariant in
-    filled g.T.Target.entry g.T.Target.onward g.U.Unit.pieces_of c.args.table.now c.args.profile c.args.text.now c.args.out.now c.args.start c.loop-here.out c.loop-here.here
+    filled g.T.Target.entry g.T.Target.onward g.U.Unit.pieces_of (g.K.KindSource.kinds_of c.args.table.now) (g.K.KindSource.pairs_of c.args.table.now) c.args.profile c.args.text.now c.args.out.now c.args.start c.loop-here.out c.loop-here.here
     so_far.goes_on (λ none. so_far.no_room (omega arith)) (λ free. omega (arith, so_far.goes_on.within.2)) so_far.gives
 
 pub returns-after-loop-here : goal.returns-after-loop-here
 returns-after-loop-here g c =
     let so_far = c.loop-here.invariant in
-    filled g.T.Target.entry g.T.Target.onward g.U.Unit.pieces_of c.args.table.now c.args.profile c.args.text.now c.args.out.now c.args.start c.loop-here.out c.loop-here.here
+    filled g.T.Target.entry g.T.Target.onward g.U.Unit.pieces_of (g.K.KindSource.kinds_of c.args.table.now) (g.K.KindSource.pairs_of c.args.table.now) c.args.profile c.args.text.now c.args.out.now c.args.start c.loop-here.out c.loop-here.here
     so_far.goes_on (λ none. so_far.no_room (omega arith)) (λ free. absurd (omega arith)) so_far.gives

@@ -6,7 +6,7 @@ use Rattle.lbk_streams.proofs.FrontLemmas.{high-below, no-high, utf16-follows, u
 use Rattle.lbk_streams.proofs.utf16.U16StreamUnit.fill_piece.Goals as goal
 
 pub returns-then-is_high-clause-gives : goal.returns-then-is_high-clause-gives
-returns-then-is_high-clause-gives c = λ cell more flat.
+returns-then-is_high-clause-gives g c = λ cell more flat.
     let piece = c.args.piece.now in
     let last = length piece - 1 in
     let high = high-below (get_or piece last 0) (sym c.is_high.ensures ∙ c.if-is_high.true) in
@@ -14,7 +14,7 @@ returns-then-is_high-clause-gives c = λ cell more flat.
     (utf16-follows-last piece more last (λ k. omega (arith, (c.type_inv.piece k).fits)) (omega arith) high)
 
 pub returns-clause-gives : goal.returns-clause-gives
-returns-clause-gives c = λ cell more flat.
+returns-clause-gives g c = λ cell more flat.
     let piece = c.args.piece.now in
     let last = length piece - 1 in
     c.fill_part-2.ensures.gives cell (on_from pieces_of_utf16 (piece ++ more)) flat

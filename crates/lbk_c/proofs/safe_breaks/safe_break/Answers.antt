@@ -7,10 +7,10 @@ use Rattle.lbk_streams.specs.Cuts.{CutsBefore, IsCutBefore}
 use Rattle.lbk_c.specs.SafeBreaks.{IsLastFrom, IsSafeBreak}
 use Rattle.lbk_c.specs.SafeSteps.{IsSafeFrom}
 use Rattle.lbk_c.proofs.SafeLemmas.{behind-cut, same-rules, safe-behind, safe-start}
-use Rattle.lbk_c.proofs.safe_breaks.lbk_safe_break.Goals as goal
+use Rattle.lbk_c.proofs.safe_breaks.safe_break.Goals as goal
 
 pub returns-in-Some-clause-safe : goal.returns-in-Some-clause-safe
-returns-in-Some-clause-safe c = λ cell rules flat named.
+returns-in-Some-clause-safe g c = λ cell rules flat named.
     let text = c.args.text.now in
     let cut = c.cut_before-cut in
     let same : c.in-Some.rules ≡ rules = same-rules c.in-Some.rules rules c.args.profile (sym c.in-Some.ensures) named in
@@ -25,7 +25,7 @@ returns-in-Some-clause-safe c = λ cell rules flat named.
     (order 0 (length text))
 
 pub returns-in-Some-clause-last : goal.returns-in-Some-clause-last
-returns-in-Some-clause-last c = λ cell rules flat named some.
+returns-in-Some-clause-last g c = λ cell rules flat named some.
     let text = c.args.text.now in
     let cut = c.cut_before-cut in
     let same : c.in-Some.rules ≡ rules = same-rules c.in-Some.rules rules c.args.profile (sym c.in-Some.ensures) named in (
@@ -35,17 +35,17 @@ returns-in-Some-clause-last c = λ cell rules flat named some.
     )
 
 pub returns-in-Some-clause-behind_cuts : goal.returns-in-Some-clause-behind_cuts
-returns-in-Some-clause-behind_cuts c = λ cell place flat safe inside.
+returns-in-Some-clause-behind_cuts g c = λ cell place flat safe inside.
     let behind = behind-cut cell c.args.text.now _ c.cut_before-cut.result place (c.cut_before-cut.ensures.last cell flat) safe inside
     (omega (arith, inside, c.saturating_sub.ensures)) in
     omega (arith, behind, c.last_alike.ensures.within.0)
 
 pub returns-in-None-clause-behind_cuts : goal.returns-in-None-clause-behind_cuts
-returns-in-None-clause-behind_cuts c = λ cell place flat safe inside.
+returns-in-None-clause-behind_cuts g c = λ cell place flat safe inside.
     behind-cut cell c.args.text.now _ c.cut_before-cut.result place (c.cut_before-cut.ensures.last cell flat) safe inside
     (omega (arith, inside, c.saturating_sub.ensures))
 
 pub returns-in-None-clause-unknown : goal.returns-in-None-clause-unknown
-returns-in-None-clause-unknown c = λ other.
+returns-in-None-clause-unknown g c = λ other.
     let cut = c.cut_before-cut in
-    subst (λ n. CutsBefore pieces c.args.table.now c.args.text.now n cut.result) c.saturating_sub.ensures cut.ensures
+    subst (λ n. CutsBefore pieces (g.K.KindSource.kinds_of c.args.table.now) (g.K.KindSource.pairs_of c.args.table.now) c.args.text.now n cut.result) c.saturating_sub.ensures cut.ensures
