@@ -16,11 +16,11 @@ ghost use Rattle.lbk_cmd.specs.Writing.{WritesDue, WritesOut};
 use super::engine::{Breaking, Lines, TextLines};
 use super::faults::CmdFault;
 use super::shown::{decide, push_shown};
-use super::signed::{BLOCK, NO_BREAKS, push_signed};
+use super::signed::{NOTHING_PUT, Room, push_signed};
 use lbk_args::Part;
 use lbk_feed::{Failed, Sink, Source, write_all};
+use lbk_passage::Segmenter;
 use lbk_passage::lines::{Offsets, push_segmented};
-use lbk_passage::{Break, Segmenter};
 use lbk_rules::{CellSource, Verdict};
 use std::alloc::{AllocError, Global};
 
@@ -35,7 +35,7 @@ pub(crate) struct Gathered {
     at: u64,
     offsets: Offsets,
     verdicts: Vec<Verdict>,
-    block: [Break; BLOCK],
+    room: Room,
 }
 
 impl Gathered {
@@ -49,7 +49,7 @@ impl Gathered {
             at: 0,
             offsets: Offsets::new(),
             verdicts: Vec::new(alloc),
-            block: NO_BREAKS,
+            room: NOTHING_PUT,
         }
     }
 
@@ -185,7 +185,7 @@ impl Gathered {
                 how.cells,
                 how.profile,
                 text,
-                &mut self.block,
+                &mut self.room,
             ),
             TextLines::Shown => {
                 decide(how.cells, how.profile, text, end, &mut self.verdicts)?;
