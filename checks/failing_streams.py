@@ -25,7 +25,7 @@ NO_SPACE = f"{OUT_FAULT}: no storage space"
 NOT_READY = "operation would block"
 INTERRUPTED = b": operation interrupted\n"
 TESTS = "× 0061 × 0062 ÷\n× 0061 ÷ 0062 ÷\n".encode()
-SAMPLES = "lbk: built-in sample data, for a first look only; for real text: lbk mark --ucd FOLDER FILE\n"
+SAMPLES = "lbk: built-in sample data, for a first look only; for your own text: lbk mark FILE\n"
 TOO_LONG = (
     "lbk: standard input: byte 0: the paragraph that starts here has more than 65536 bytes; --limit allows up to 16777216"
 )

@@ -18,7 +18,7 @@ from checks.unicode_files import MISSING, NAMES, options, published
 STORED = Path(__file__).with_name("instructions.txt")
 ROOM = 1.03
 SHORT, LONG = 1 << 18, 1 << 30
-READING = ("lbk_read", "lbk_read_published")
+READING = ("lbk_unicode", "lbk_read", "lbk_read_published")
 CUTS = ("lbk_cut", "lbk_cut_before")
 MADE_UP, GROWTH = (2048, 8192), 4.1
 SIZE = 60_000
@@ -100,6 +100,7 @@ def measured(room, words, files):
     """What is stored, by the names of the rows."""
     program = c_programs.build("c/instructions.c", room / "instructions", *words)
     found = {call: counted([program, call, "0", *files], call) for call in READING}
+    found["lbk mark over nothing"] = counted([built_program(), "mark"])
     found["lbk mark --ucd"] = counted([built_program(), "mark", "--ucd", files[0].parent], given=b"ab cd\n")
     found["lbk mark, four files"] = counted([built_program(), "mark", *options(files)], given=b"ab cd\n")
     found |= of_calls(room, words, {**texts(), **filled({c_speed.HELD: c_speed.HELD_TEXT})}, "all", files)

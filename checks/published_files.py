@@ -1,4 +1,5 @@
-"""The program over the published files of Unicode 15.0, their break test, and faulty copies of them."""
+"""The program over the built-in property values, over the published files of Unicode 15.0 and their break test, and over
+faulty copies of them: the built-in values are those of the files."""
 
 import os
 import re
@@ -6,11 +7,13 @@ import shutil
 import tempfile
 from pathlib import Path
 
-from checks.harness import built_program
+from checks.harness import built_crate, built_program
 from checks.program import run as run_program
-from checks.unicode_files import MISSING, NAMES, options, published
+from checks.unicode_files import MISSING, NAMES, lacking, layers_input, options, published
 
 ALL_OF_THE_TEST = b"T 7654 7620 34 0"
+# The digest of the cells that the library read of the published files.
+DIGEST = b"fdee8027853ab7a0"
 
 
 class Runs:
@@ -46,9 +49,37 @@ def without_files(runs):
     runs.ends("--help", runs.run(b"ab cd", "--help"), 0)
     runs.ends("--version", runs.run(b"ab cd", "--version"), 0)
     runs.ends("a wrong subcommand", runs.run(b"ab cd", "bogus"), 2, "unrecognized subcommand 'bogus'")
-    runs.ends("no files", runs.run(b"ab cd", "show"), 2, "property files are required")
-    usage = runs.run(b"ab cd", "show").err
-    runs.tally.equal("no files: the folder of Debian's package is named", b"--ucd /usr/share/unicode\n" in usage, True)
+    for name in ("show", "segment", "replay"):
+        runs.ends(f"{name} without values", runs.run(b"ab cd", name), 2, "property values are required: pass --unicode 15.0")
+        runs.ends(f"{name} of another version", runs.run(b"ab cd", name, "--unicode", "15.1"), 2, "must be 15.0")
+    runs.ends("two ways at once", runs.run(b"ab cd", "mark", "--unicode", "15.0", "--ucd", "."), 2, "exclude each other")
+    runs.ends("one file alone", runs.run(b"ab cd", "mark", "--emoji", "emoji-data.txt"), 2, "property values are required")
+    for words in (["mark"], ["mark", "--unicode", "15.0"], ["mark", "--unicode", "15.0.0"]):
+        runs.same(" ".join(words), runs.run(b"ab cd", *words), "ab ÷cd")
+
+
+def same_cells(runs, folder):
+    """The built-in cell of each scalar value is that of the published files. Without these, the digest of all cells is
+    that of those that the library read of them once."""
+    given = layers_input([folder / it for it in NAMES], b"") if folder else b""
+    ended = run_program([built_crate("trials_bench", True), "cells"], given)
+    found = dict(line.split() for line in ended.out.splitlines())
+    runs.tally.equal("the digest of the built-in cells is that of the published files' cells", found.get(b"built-in"), DIGEST)
+    if folder:
+        runs.tally.equal("the digest of the published files' cells", found.get(b"files"), DIGEST)
+        runs.tally.equal("the cells that differ from the published files'", found.get(b"differing"), b"0")
+
+
+def same_lines(runs, folder, words):
+    """Each subcommand writes the same by the built-in values as by the files."""
+    text = b"".join((folder / it).read_bytes() for it in ("NamesList.txt", "LineBreak.txt", "emoji/emoji-test.txt"))
+    tests = (folder / "auxiliary/LineBreakTest.txt").read_bytes()
+    built_in = ["--unicode", "15.0"]
+    for profile in ("1", "2"):
+        for name, given, more in [("mark", text, []), ("show", text, []), ("segment", text, []),
+                ("chunk", text, ["--most", "300"]), ("replay", tests, [])]:
+            ended = [runs.run(given, name, *way, *more, "--profile", profile) for way in (built_in, words)]
+            runs.tally.equal(f"{name}, profile {profile}: the same as by the files", ended[0], ended[1])
 
 
 def replay(runs, folder, words):
@@ -136,33 +167,31 @@ def folders(runs, folder):
             shutil.copy(folder / other, here / other)
         contents = (folder / name).read_bytes()
         of_another = contents.replace(b"15.0", b"15.1", 1)
-        changed = f"^lbk: {here}/{name}: the file was changed or truncated: .*; download it again, or pass your own file by --"
+        changed = f"^lbk: {here}/{name}: the file was changed or truncated: .*; download it again, or pass all four files by their own options"
         version = f"^lbk: {here}/{name}: this is (Unicode 15.1.0|Emoji 15.1), and lbk needs 15.0(.0)?; get it from .*UCD.zip$"
         for what, bytes_of, err in [
             ("lacks its last byte", contents[:-1], changed),
             ("lacks rows from the middle", without_rows(contents), changed),
             ("has one flipped bit", with_flipped_bit(contents), changed),
             ("is of 15.1", of_another, version),
-            ("is another file", (folder / "PropList.txt").read_bytes(), f"^lbk: {here}/{name}: this is not "),
+            *(("is another file", it.read_bytes(), f"^lbk: {here}/{name}: this is not ")
+                for it in [folder / "PropList.txt"] if it.is_file()),
         ]:
             (here / name).write_bytes(bytes_of)
             runs.ends(f"a folder whose {name} {what}", mark(), 1, err)
         (here / name).write_bytes(contents.replace(b"\n", b"\r\n"))
         runs.tally.equal(f"a folder whose {name} has lines that end in CR LF", mark().out, marked)
         (here / name).write_bytes(contents)
-    one_file_less(runs, folder, here, mark, marked)
+    one_file_less(runs, folder, here, mark)
 
 
-def one_file_less(runs, folder, here, mark, marked):
-    """A file that its option names is not looked for in the folder, and may be any."""
+def one_file_less(runs, folder, here, mark):
+    """A folder with three of the files, and an option that names the fourth, are two ways at once."""
     wide = here / "EastAsianWidth.txt"
     wide.unlink()
-    lacks = f"^lbk: {wide}: the file cannot be read: no such file; install Debian's package unicode-data, and pass --ucd /usr/share/unicode$"
+    lacks = f"^lbk: {wide}: the file cannot be read: no such file; --unicode 15.0 needs no files$"
     runs.ends("a folder that lacks a file", mark(), 1, lacks)
-    own = runs.room / "wide.txt"
-    own.write_bytes((folder / "EastAsianWidth.txt").read_bytes().partition(b"\n")[2])
-    ended = mark("--east-asian", own)
-    runs.tally.equal("a folder that lacks a file, which an option names", ended.out, marked)
+    runs.ends("a folder and a file", mark("--east-asian", folder / "EastAsianWidth.txt"), 2, "exclude each other")
 
 
 def cut_files(runs, words, show):
@@ -210,12 +239,17 @@ def run(tally, _arguments):
         runs = Runs(tally, room)
         without_files(runs)
         folder = published()
+        same_cells(runs, folder)
         if folder is None:
             tally.leave_out(MISSING)
             return
         files = [folder / it for it in NAMES]
         words = options(files)
-        replay(runs, folder, words)
-        large_text(runs, folder, words)
+        if lacks := lacking(folder):
+            tally.leave_out(f"{', '.join(lacks)}, which are not in {folder}: {MISSING}")
+        else:
+            same_lines(runs, folder, words)
+            replay(runs, folder, words)
+            large_text(runs, folder, words)
         folders(runs, folder)
         faults(runs, words)

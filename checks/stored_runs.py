@@ -25,13 +25,13 @@ def difference(name, wanted, got):
     return "\n".join(difflib.unified_diff(*lines, f"stored {name}", f"written {name}", lineterm=""))
 
 
-def one_run(tally, folder, place):
+def one_run(tally, program, folder, place):
     shutil.copytree(TOP / "crates/lbk/data", place)
     if (folder / "data").is_dir():
         shutil.copytree(folder / "data", place, dirs_exist_ok=True)
     words = stored(folder / "args").split(b"\n")
     words = words[:-1] if words[-1] == b"" else words
-    ended = run_program([TOP / "lbk", *words], stored(folder / "stdin"), cwd=place)
+    ended = run_program([program, *words], stored(folder / "stdin"), cwd=place)
     faults = []
     for name, got in (("stdout", ended.out), ("stderr", ended.err)):
         wanted = stored(folder / name)
@@ -44,8 +44,8 @@ def one_run(tally, folder, place):
 
 
 def run(tally, _arguments):
-    built_program()
+    program = built_program()
     with tempfile.TemporaryDirectory() as room:
         for folder in sorted((TOP / "crates/lbk/runs").iterdir()):
             if folder.is_dir():
-                one_run(tally, folder, Path(room) / folder.name)
+                one_run(tally, program, folder, Path(room) / folder.name)

@@ -27,7 +27,7 @@ TOO_LONG = (
 )
 CHANGED = (
     "lbk: U/{0}: the file was changed or truncated: it differs from Unicode 15.0.0's {0}; "
-    "download it again, or pass your own file by {1}\n"
+    "download it again, or pass all four files by their own options\n"
 )
 REMEDY = "; get it from Debian 12's unicode-data or https://www.unicode.org/Public/15.0.0/ucd/UCD.zip\n"
 TITLE = "lbk: U/LineBreak.txt: this is not LineBreak.txt of the Unicode Character Database" + REMEDY
@@ -166,7 +166,12 @@ replay --profile 3
 replay --profile first
 replay --bogus
 """.strip().splitlines()
-WRONG_ALONE = [["bogus"], ["show"], ["--limit", "4"], ["mark", "--ucd", ""], ["mark", "--ucd", "", "--line-break", "L"]]
+WRONG_ALONE = [
+    ["bogus"], ["show"], ["segment"], ["replay"], ["--limit", "4"], ["mark", "--ucd", ""], ["mark", "--emoji", "M"],
+    ["mark", "--ucd", "U", "--line-break", "L"], ["mark", "--unicode", "15.0", "--ucd", "U"],
+    ["chunk", "--most", "9", "--unicode", "15.0", "--emoji", "M"], ["mark", "--unicode", ""], ["show", "--unicode", "15"],
+    ["show", "--unicode", "15.1.0"], ["show", "--unicode", "15.0 "],
+]
 # A folder of files that name their version and are none of Unicode's, and a file that claims nothing, where a space is
 # a letter.
 FOLDER = {
@@ -177,10 +182,10 @@ FOLDER = {
 }
 NO_SPACES = b"0020;AL\n0061..007A;AL\n"
 LINE_BREAKS = [
-    ("made up", FOLDER["LineBreak.txt"], CHANGED.format("LineBreak.txt", "--line-break")),
+    ("made up", FOLDER["LineBreak.txt"], CHANGED.format("LineBreak.txt")),
     ("without a title", NO_SPACES, TITLE),
     ("another file", FOLDER["EastAsianWidth.txt"], TITLE),
-    ("cut", b"# LineBreak-15.0.0.txt\n0020;SP\n", CHANGED.format("LineBreak.txt", "--line-break")),
+    ("cut", b"# LineBreak-15.0.0.txt\n0020;SP\n", CHANGED.format("LineBreak.txt")),
     (
         "of another version",
         b"# LineBreak-14.0.0.txt\n# EOF\n",
@@ -327,13 +332,6 @@ def folders(place):
         path = place.folder / "U" / name
         path.parent.mkdir(parents=True, exist_ok=True)
         place.write(f"U/{name}", text)
-    place.write("N", NO_SPACES)
-    # A file that an option names may be any; the next of the folder has to be the published one.
-    err = CHANGED.format("EastAsianWidth.txt", "--east-asian").encode()
-    place.row("a file beside a folder", ["mark", "--line-break", "N", "--ucd", "U"], b"ab cd", 1, b"", err)
-    # All four by options: nothing of the folder is looked at.
-    names = ("N", *[f"U/{it}" for it in FOLDER][1:])
-    place.row("four files beside a folder", words_of("mark", names, ["--ucd", "U"]), b"ab cd", 0, b"ab cd\n")
     for what, text, err in LINE_BREAKS:
         place.write("U/LineBreak.txt", text)
         place.row(f"a folder with LineBreak.txt {what}", ["mark", "--ucd", "U"], b"ab cd", 1, b"", err.encode())

@@ -7,11 +7,11 @@ _lbk() {
         return
     fi
     case ${COMP_WORDS[1]} in
-    mark) options="--ucd --line-break --east-asian --category --emoji --limit --from --to --profile --names --sign --help" ;;
-    show) options="--ucd --line-break --east-asian --category --emoji --limit --from --to --profile --names --help" ;;
-    segment) options="--ucd --line-break --east-asian --category --emoji --limit --from --to --profile --names --help" ;;
-    chunk) options="--ucd --line-break --east-asian --category --emoji --most --words --least --overlap --text --limit --from --to --profile --names --help" ;;
-    replay) options="--ucd --line-break --east-asian --category --emoji --kinds --profile --names --help" ;;
+    mark) options="--unicode --ucd --line-break --east-asian --category --emoji --limit --from --to --profile --names --sign --help" ;;
+    show) options="--unicode --ucd --line-break --east-asian --category --emoji --limit --from --to --profile --names --help" ;;
+    segment) options="--unicode --ucd --line-break --east-asian --category --emoji --limit --from --to --profile --names --help" ;;
+    chunk) options="--unicode --ucd --line-break --east-asian --category --emoji --most --words --least --overlap --text --limit --from --to --profile --names --help" ;;
+    replay) options="--unicode --ucd --line-break --east-asian --category --emoji --kinds --profile --names --help" ;;
     help)
         mapfile -t COMPREPLY < <(compgen -W "mark show segment chunk replay" -- "$word")
         return
@@ -22,6 +22,10 @@ _lbk() {
     --ucd)
         compopt -o filenames
         mapfile -t COMPREPLY < <(compgen -d -- "$word")
+        return
+        ;;
+    --unicode)
+        mapfile -t COMPREPLY < <(compgen -W "15.0" -- "$word")
         return
         ;;
     --limit|--from|--to|--profile|--sign|--most|--words|--least|--overlap) return ;;

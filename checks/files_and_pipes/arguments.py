@@ -22,6 +22,8 @@ and --overlap 0 to 16777216, --from and --to 0 to 4294967295, --profile 1 or 2.
 LIMIT_OPTION, FROM_OPTION = "--limit <NUMBER>", "--from <BYTE>"
 SIGN = "--sign <TEXT> must be 1 to 8 bytes of UTF-8 without a line end"
 
+# The way that the usage shows, of the subcommands that need one.
+WAYS = dict.fromkeys(("show", "segment", "replay"), " --unicode 15.0")
 # Arguments behind those that name the files, and what is said of them, as the library clap words it for Rust; whether
 # the usage follows.
 MISTAKES = [
@@ -67,7 +69,7 @@ def mistakes(place):
     """Each kind of mistake, and operands that look like options, which are none behind `--`."""
     for task, more, told, has_usage in MISTAKES:
         most = " --most <NUMBER>" if task == "chunk" else ""
-        usage = f"\nUsage: lbk {task} --ucd <FOLDER>{most} [OPTIONS] [FILE]...\n" if has_usage else ""
+        usage = f"\nUsage: lbk {task}{WAYS.get(task, '')}{most} [OPTIONS] [FILE]...\n" if has_usage else ""
         hint = (NUMBERS_OF_CHUNKS if most else NUMBERS) if told.startswith("invalid value") or "'-1'" in told else ""
         err = f"lbk: {told}\n{usage}\nFor more information, try '--help'.\n{hint}".encode()
         place.row(f"{task} {more}", words_of(task, more=more.split()), b"ab", 2, b"", err)
@@ -98,15 +100,16 @@ def accepted(task, number):
 
 def each_number(place):
     """Each number of arguments, those that are accepted and others."""
+    missing_file = b"lbk: x: cannot be read: no such file\n"
     for task, out in (("show", AB), ("mark", b"ab\n")):
-        usage = f"""lbk: property files are required: pass --ucd <FOLDER>, or each of
+        usage = f"""lbk: property values are required: pass --unicode 15.0, the built-in ones,
+or --ucd <FOLDER>, or each of
   --line-break <FILE>
   --east-asian <FILE>
   --category <FILE>
   --emoji <FILE>
-Debian's package unicode-data installs them: --ucd /usr/share/unicode
 
-Usage: lbk {task} --ucd <FOLDER> [OPTIONS] [FILE]...
+Usage: lbk {task}{WAYS.get(task, "")} [OPTIONS] [FILE]...
 
 For more information, try '--help'.
 """.encode()
@@ -114,13 +117,13 @@ For more information, try '--help'.
             place.row(f"{task}: {number} arguments that are accepted", accepted(task, number), b"ab", 0, out)
         help_text = run_program([place.program, task, "--help"]).out
         for number in range(3, 70):
-            place.row(f"{task}: {number} arguments x", [task, *["x"] * (number - 1)], b"ab", 2, b"", usage)
+            told = (2, usage) if task in WAYS else (1, missing_file * (number - 1))
+            place.row(f"{task}: {number} arguments x", [task, *["x"] * (number - 1)], b"ab", told[0], b"", told[1])
             helped = [task, "--help", *["x"] * (number - 2)]
             place.row(f"{task}: --help and {number - 2} arguments", helped, b"ab", 0, help_text)
             if number > 13:
                 given = [*accepted(task, 13), *["x"] * (number - 13)]
-                missing = b"lbk: x: cannot be read: no such file\n" * (number - 13)
-                place.row(f"{task}: {number} arguments, missing files", given, b"ab", 1, b"", missing)
+                place.row(f"{task}: {number} arguments, missing files", given, b"ab", 1, b"", missing_file * (number - 13))
 
 
 def all_at_once(place):

@@ -88,7 +88,7 @@ def whole_names(place):
     name = "a\u202eb\u200f\u2066"
     err = MISSING.format("a\\u{202e}b\\u{200f}\\u{2066}").encode()
     place.row("texts: a name with characters that turn a line", words_of("mark", more=[name]), b"", 1, b"", err)
-    err = b"lbk: a\\u{a}b/LineBreak.txt: the file cannot be read: no such file; install Debian's package unicode-data, and pass --ucd /usr/share/unicode\n"
+    err = b"lbk: a\\u{a}b/LineBreak.txt: the file cannot be read: no such file; --unicode 15.0 needs no files\n"
     place.row("a folder with a line end in its name", ["mark", "--ucd", "a\nb"], b"", 1, b"", err)
 
 

@@ -2,7 +2,7 @@
 
 /// The hint for a run without arguments.
 pub const SAMPLES: &str =
-    "built-in sample data, for a first look only; for real text: lbk mark --ucd FOLDER FILE";
+    "built-in sample data, for a first look only; for your own text: lbk mark FILE";
 
 /// The hint for a truncated property file, after its description.
 pub const CUT: &str = "breaks at the missing characters will be wrong";

@@ -102,10 +102,10 @@ impl<'a> Texts<'a> for SystemTexts<'a> {
     ghost refused = { λ texts. None };
 
     fn begin(&mut self, order: &Order<'a>) {
-        self.named.set(named(&order.files));
+        self.named.set(named(&order.values));
         self.caller = Caller::Words {
             engine: order.engine,
-            files: order.files,
+            values: order.values,
         };
         // Without --kinds lines with ! are refused, and a hint says why.
         let is_plain = order.engine == Engine::Replay { kinds: false };

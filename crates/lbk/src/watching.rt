@@ -4,7 +4,7 @@ ghost use Rattle.std.specs.Prelude.{◌≡◌};
 ghost use Rattle.lbk_files.specs.Store.{Loads, counts_of};
 
 use super::hints;
-use lbk_args::{FileName, FileNames};
+use lbk_args::{FileName, PropertyValues};
 use lbk_files::{LoadFault, Store};
 use lbk_ucd::{cut_text, is_cut};
 use std::alloc::Global;
@@ -14,7 +14,10 @@ use std::cell::Cell;
 pub type Named = Cell<[bool; 4]>;
 
 /// Which of the four an option names.
-pub fn named(files: &FileNames<'_>) -> [bool; 4] {
+pub fn named(values: &PropertyValues<'_>) -> [bool; 4] {
+    let PropertyValues::Files(files) = values else {
+        return [false; 4];
+    };
     [
         is_named(&files.line_break),
         is_named(&files.east_asian),

@@ -25,10 +25,10 @@ use Rattle.lbk_feed.specs.Text.{greatest_limit}
 use Rattle.lbk_args.specs.Command.{chunk_app, default_limit, default_limit_text, flag_rule, lbk_app, limited_app}
 use Rattle.lbk_args.specs.Command.{mark_app, number_rule, profile_rule, replay_app, size_rule, texts_flag_rule}
 use Rattle.lbk_args.specs.Command.{value_rule}
-use Rattle.lbk_args.specs.PlainWords.{AreEngineWords, AreFlagWords, AreFolderWords, AreFourWords}
-use Rattle.lbk_args.specs.PlainWords.{AreProfileWords, IsPlainFor, IsPlainName, folder_files}
-use Rattle.lbk_args.specs.PlainWords.{given_files, name_of_engine, profile_word, sizes_of}
-use Rattle.lbk_args.specs.Task.{NamedFiles, Task, files_in, kinds_in, limit_in, number_or, names_in, part_in, profile_in, sign_in}
+use Rattle.lbk_args.specs.PlainWords.{AreEngineWords, AreFlagWords, AreNoWords, AreValueWords, AreProfileWords}
+use Rattle.lbk_args.specs.PlainWords.{IsPlainFor, IsPlainName, name_of_engine, profile_word, sizes_of}
+use Rattle.lbk_args.specs.Task.{NamedValues, Task, built_in, folder_files, given_files, in_files, kinds_in, limit_in, number_or}
+use Rattle.lbk_args.specs.Task.{names_in, part_in, profile_in, sign_in, values_in}
 use Rattle.lbk_args.specs.Task.{sizes_in, task_by, task_in, texts_in, with_texts_in}
 use Rattle.lbk_args.specs.Sign.{default_sign}
 use Rattle.lbk_args.proofs.Numerals.{limit_plain, limit_read, limit_taken}
@@ -41,6 +41,9 @@ sub s = built_leaf (inherited (with_leaf_noted (marked_built lbk_app.top)) s)
 
 abbrev built_rule : Rule → Rule
 built_rule a = with_index 1 (filled a)
+
+abbrev version_rule : Rule
+version_rule = built_rule (value_rule (codes "unicode"))
 
 abbrev folder_rule : Rule
 folder_rule = built_rule (value_rule (codes "ucd"))
@@ -57,10 +60,10 @@ category_rule = built_rule (value_rule (codes "category"))
 abbrev emoji_rule : Rule
 emoji_rule = built_rule (value_rule (codes "emoji"))
 
--- a subcommand whose first options are the folder and the four files
+-- a subcommand whose first options are the version, the folder and the four files
 abbrev with_files : Shape → List Rule → Shape
 with_files base more =
-    record base { rules = folder_rule ∷ line_break_rule ∷ east_asian_rule ∷ category_rule ∷ emoji_rule ∷ more }
+    record base { rules = version_rule ∷ folder_rule ∷ line_break_rule ∷ east_asian_rule ∷ category_rule ∷ emoji_rule ∷ more }
 
 -- what is found for an option in the words
 abbrev found : Rule → Text → Row
@@ -69,42 +72,62 @@ found a v = record { id = a.id; values = v ∷ []; count = None; source = Some C
 abbrev pending : List Row → Text → List Text → Held
 pending rows id values = record { rows = rows; pending = Some (id, values); skip = 0 }
 
--- ---- the words of the files
+-- ---- the words of the property values
 
--- a folder, or four names
+-- a version, a folder, four names, or no words
 data Files : Type 0 where
+  version : Files
   folder : Text → Files
   four : Text → Text → Text → Text → Files
+  absent : Files
 
 abbrev ArePlain : Files → Type 0
+ArePlain version = ⊤
 ArePlain (folder u) = IsPlainName u
 ArePlain (four l e c m) = IsPlainName l × IsPlainName e × IsPlainName c × IsPlainName m
+ArePlain absent = ⊤
 
 abbrev words_before : Files → List Text → List Text
+words_before version rest = codes "--unicode" ∷ codes "15.0" ∷ rest
 words_before (folder u) rest = codes "--ucd" ∷ u ∷ rest
 words_before (four l e c m) rest =
     codes "--line-break" ∷ l ∷ codes "--east-asian" ∷ e ∷ codes "--category" ∷ c ∷ codes "--emoji" ∷ m ∷ rest
+words_before absent rest = rest
 
-abbrev files_of : Files → NamedFiles
-files_of (folder u) = folder_files u
-files_of (four l e c m) = given_files l e c m
+abbrev values_of : Files → NamedValues
+values_of version = built_in
+values_of (folder u) = in_files (folder_files u)
+values_of (four l e c m) = in_files (given_files l e c m)
+values_of absent = built_in
 
--- what is found in the words of the files
+-- what is found in them
 abbrev file_rows : Files → List Row
+file_rows version = found version_rule (codes "15.0") ∷ []
 file_rows (folder u) = found folder_rule u ∷ []
 file_rows (four l e c m) = found line_break_rule l ∷ found east_asian_rule e ∷ found category_rule c
     ∷ found emoji_rule m ∷ []
+file_rows absent = []
 
 -- what is held behind them
 abbrev behind : Files → Held
+behind version = pending [] (codes "unicode") (codes "15.0" ∷ [])
 behind (folder u) = pending [] (codes "ucd") (u ∷ [])
 behind (four l e c m) =
     pending (found line_break_rule l ∷ found east_asian_rule e ∷ found category_rule c ∷ []) (codes "emoji") (m ∷ [])
+behind absent = nothing_held
+
+plain_version : IsPlainName (codes "15.0")
+plain_version = λ e. absurd (omega (arith, e))
 
 walked_files : (base : Shape) (more : List Rule) (fs : Files) (rest : List Text) (end : Walk) → ArePlain fs
     → Walks (with_files base more) (between (behind fs) idle) rest end
     → Walks (with_files base more) (between nothing_held idle) (words_before fs rest) end
 unfolding clap_on_literals
+walked_files base more version rest end plain further =
+    pair (with_files base more) nothing_held (pending [] (codes "unicode") []) (behind version)
+    (codes "unicode") (codes "--unicode") (codes "15.0") _ end
+    refl refl plain_version refl further
+walked_files base more absent rest end plain further = further
 walked_files base more (folder u) rest end plain further =
     pair (with_files base more) nothing_held (pending [] (codes "ucd") []) (pending [] (codes "ucd") (u ∷ []))
     (codes "ucd") (codes "--ucd") u _ end
@@ -149,6 +172,21 @@ data Sub : Type 0 where
   limits : Text → Sub
   chunks : Sub
   replays : Sub
+
+abbrev name_of : Sub → Text
+name_of marks = codes "mark"
+name_of (limits name) = name
+name_of chunks = codes "chunk"
+name_of replays = codes "replay"
+
+-- plain words of the property values, which `mark` and `chunk` may lack
+abbrev MayLack : Sub → Files → Type 0
+MayLack (limits name) absent = ⊥
+MayLack replays absent = ⊥
+MayLack _ _ = ⊤
+
+abbrev ArePlainFor : Sub → Files → Type 0
+ArePlainFor which fs = ArePlain fs × MayLack which fs
 
 abbrev shape_of : Sub → Shape
 shape_of marks = sub mark_app.top
@@ -311,28 +349,60 @@ own_walk : (which : Sub) (own : Own) (fs : Files) (rest : List Text) (end : Walk
     → Walks (shape_of which) (between (own_held which own fs) idle) rest end
     → Walks (shape_of which) (between (behind fs) idle) (own_words which own rest) end
 unfolding clap_on_literals
+own_walk marks (fewer d) version rest end fits further = further
+own_walk marks (fewer d) absent rest end fits further = further
 own_walk marks (fewer d) (folder u) rest end fits further = further
 own_walk marks (fewer d) (four l e c m) rest end fits further = further
+own_walk marks (fuller d) version rest end fits further =
+    pair (shape_of marks) (behind version) (pending (file_rows version) (codes "limit") []) (pending (file_rows version) (codes "limit") (d ∷ []))
+    (codes "limit") (codes "--limit") d rest end refl refl fits.0 refl further
+own_walk marks (fuller d) absent rest end fits further =
+    pair (shape_of marks) (behind absent) (pending (file_rows absent) (codes "limit") []) (pending (file_rows absent) (codes "limit") (d ∷ []))
+    (codes "limit") (codes "--limit") d rest end refl refl fits.0 refl further
 own_walk marks (fuller d) (folder u) rest end fits further =
     pair (shape_of marks) (behind (folder u)) (pending (file_rows (folder u)) (codes "limit") []) (pending (file_rows (folder u)) (codes "limit") (d ∷ []))
     (codes "limit") (codes "--limit") d rest end refl refl fits.0 refl further
 own_walk marks (fuller d) (four l e c m) rest end fits further =
     pair (shape_of marks) (behind (four l e c m)) (pending (file_rows (four l e c m)) (codes "limit") []) (pending (file_rows (four l e c m)) (codes "limit") (d ∷ []))
     (codes "limit") (codes "--limit") d rest end refl refl fits.0 refl further
+own_walk (limits name) (fewer d) version rest end fits further = further
+own_walk (limits name) (fewer d) absent rest end fits further = further
 own_walk (limits name) (fewer d) (folder u) rest end fits further = further
 own_walk (limits name) (fewer d) (four l e c m) rest end fits further = further
+own_walk (limits name) (fuller d) version rest end fits further =
+    pair (shape_of (limits name)) (behind version) (pending (file_rows version) (codes "limit") []) (pending (file_rows version) (codes "limit") (d ∷ []))
+    (codes "limit") (codes "--limit") d rest end refl refl fits.0 refl further
+own_walk (limits name) (fuller d) absent rest end fits further =
+    pair (shape_of (limits name)) (behind absent) (pending (file_rows absent) (codes "limit") []) (pending (file_rows absent) (codes "limit") (d ∷ []))
+    (codes "limit") (codes "--limit") d rest end refl refl fits.0 refl further
 own_walk (limits name) (fuller d) (folder u) rest end fits further =
     pair (shape_of (limits name)) (behind (folder u)) (pending (file_rows (folder u)) (codes "limit") []) (pending (file_rows (folder u)) (codes "limit") (d ∷ []))
     (codes "limit") (codes "--limit") d rest end refl refl fits.0 refl further
 own_walk (limits name) (fuller d) (four l e c m) rest end fits further =
     pair (shape_of (limits name)) (behind (four l e c m)) (pending (file_rows (four l e c m)) (codes "limit") []) (pending (file_rows (four l e c m)) (codes "limit") (d ∷ []))
     (codes "limit") (codes "--limit") d rest end refl refl fits.0 refl further
+own_walk chunks (fewer d) version rest end fits further =
+    pair (shape_of chunks) (behind version) (pending (file_rows version) (codes "most") []) (pending (file_rows version) (codes "most") (d ∷ []))
+    (codes "most") (codes "--most") d rest end refl refl fits.0 refl further
+own_walk chunks (fewer d) absent rest end fits further =
+    pair (shape_of chunks) (behind absent) (pending (file_rows absent) (codes "most") []) (pending (file_rows absent) (codes "most") (d ∷ []))
+    (codes "most") (codes "--most") d rest end refl refl fits.0 refl further
 own_walk chunks (fewer d) (folder u) rest end fits further =
     pair (shape_of chunks) (behind (folder u)) (pending (file_rows (folder u)) (codes "most") []) (pending (file_rows (folder u)) (codes "most") (d ∷ []))
     (codes "most") (codes "--most") d rest end refl refl fits.0 refl further
 own_walk chunks (fewer d) (four l e c m) rest end fits further =
     pair (shape_of chunks) (behind (four l e c m)) (pending (file_rows (four l e c m)) (codes "most") []) (pending (file_rows (four l e c m)) (codes "most") (d ∷ []))
     (codes "most") (codes "--most") d rest end refl refl fits.0 refl further
+own_walk chunks (fuller d) version rest end fits further =
+    pair (shape_of chunks) (behind version) (pending (file_rows version) (codes "most") []) (pending (file_rows version) (codes "most") (d ∷ []))
+    (codes "most") (codes "--most") d (codes "--text" ∷ rest) end refl refl fits.0 refl
+    (step (shape_of chunks) (between (pending (file_rows version) (codes "most") (d ∷ [])) idle) (between (settled_held (text_rows version d)) idle) end
+    (codes "--text") rest refl (ap (λ (ks : Kinds). or_else (or_else (or_else ks []) []) []) fits.1) further)
+own_walk chunks (fuller d) absent rest end fits further =
+    pair (shape_of chunks) (behind absent) (pending (file_rows absent) (codes "most") []) (pending (file_rows absent) (codes "most") (d ∷ []))
+    (codes "most") (codes "--most") d (codes "--text" ∷ rest) end refl refl fits.0 refl
+    (step (shape_of chunks) (between (pending (file_rows absent) (codes "most") (d ∷ [])) idle) (between (settled_held (text_rows absent d)) idle) end
+    (codes "--text") rest refl (ap (λ (ks : Kinds). or_else (or_else (or_else ks []) []) []) fits.1) further)
 own_walk chunks (fuller d) (folder u) rest end fits further =
     pair (shape_of chunks) (behind (folder u)) (pending (file_rows (folder u)) (codes "most") []) (pending (file_rows (folder u)) (codes "most") (d ∷ []))
     (codes "most") (codes "--most") d (codes "--text" ∷ rest) end refl refl fits.0 refl
@@ -343,8 +413,14 @@ own_walk chunks (fuller d) (four l e c m) rest end fits further =
     (codes "most") (codes "--most") d (codes "--text" ∷ rest) end refl refl fits.0 refl
     (step (shape_of chunks) (between (pending (file_rows (four l e c m)) (codes "most") (d ∷ [])) idle) (between (settled_held (text_rows (four l e c m) d)) idle) end
     (codes "--text") rest refl (ap (λ (ks : Kinds). or_else (or_else (or_else ks []) []) []) fits.1) further)
+own_walk replays (fewer d) version rest end fits further = further
+own_walk replays (fewer d) absent rest end fits further = further
 own_walk replays (fewer d) (folder u) rest end fits further = further
 own_walk replays (fewer d) (four l e c m) rest end fits further = further
+own_walk replays (fuller d) version rest end fits further =
+    step (shape_of replays) (between (behind version) idle) (between (settled_held (kinds_rows version)) idle) end (codes "--kinds") rest refl refl further
+own_walk replays (fuller d) absent rest end fits further =
+    step (shape_of replays) (between (behind absent) idle) (between (settled_held (kinds_rows absent)) idle) end (codes "--kinds") rest refl refl further
 own_walk replays (fuller d) (folder u) rest end fits further =
     step (shape_of replays) (between (behind (folder u)) idle) (between (settled_held (kinds_rows (folder u))) idle) end (codes "--kinds") rest refl refl further
 own_walk replays (fuller d) (four l e c m) rest end fits further =
@@ -352,58 +428,106 @@ own_walk replays (fuller d) (four l e c m) rest end fits further =
 
 own_opens : (which : Sub) (own : Own) (fs : Files) → IsOwn which own → Opens (shape_of which) (own_held which own fs) (own_rows which own fs)
 unfolding clap_on_literals
+own_opens marks (fewer d) version fits = record { walks = refl; clean = refl; takes = λ p. refl }
+own_opens marks (fewer d) absent fits = record { walks = refl; clean = refl; takes = λ p. refl }
 own_opens marks (fewer d) (folder u) fits = record { walks = refl; clean = refl; takes = λ p. refl }
 own_opens marks (fewer d) (four l e c m) fits = record { walks = refl; clean = refl; takes = λ p. refl }
+own_opens marks (fuller d) version fits = record { walks = refl; clean = ap (λ (ks : Kinds). or_else (or_else ks []) []) fits.1; takes = λ p. refl }
+own_opens marks (fuller d) absent fits = record { walks = refl; clean = ap (λ (ks : Kinds). or_else (or_else ks []) []) fits.1; takes = λ p. refl }
 own_opens marks (fuller d) (folder u) fits = record { walks = refl; clean = ap (λ (ks : Kinds). or_else (or_else ks []) []) fits.1; takes = λ p. refl }
 own_opens marks (fuller d) (four l e c m) fits = record { walks = refl; clean = ap (λ (ks : Kinds). or_else (or_else ks []) []) fits.1; takes = λ p. refl }
+own_opens (limits name) (fewer d) version fits = record { walks = refl; clean = refl; takes = λ p. refl }
+own_opens (limits name) (fewer d) absent fits = record { walks = refl; clean = refl; takes = λ p. refl }
 own_opens (limits name) (fewer d) (folder u) fits = record { walks = refl; clean = refl; takes = λ p. refl }
 own_opens (limits name) (fewer d) (four l e c m) fits = record { walks = refl; clean = refl; takes = λ p. refl }
+own_opens (limits name) (fuller d) version fits = record { walks = refl; clean = ap (λ (ks : Kinds). or_else (or_else ks []) []) fits.1; takes = λ p. refl }
+own_opens (limits name) (fuller d) absent fits = record { walks = refl; clean = ap (λ (ks : Kinds). or_else (or_else ks []) []) fits.1; takes = λ p. refl }
 own_opens (limits name) (fuller d) (folder u) fits = record { walks = refl; clean = ap (λ (ks : Kinds). or_else (or_else ks []) []) fits.1; takes = λ p. refl }
 own_opens (limits name) (fuller d) (four l e c m) fits = record { walks = refl; clean = ap (λ (ks : Kinds). or_else (or_else ks []) []) fits.1; takes = λ p. refl }
+own_opens chunks (fewer d) version fits = record { walks = refl; clean = ap (λ (ks : Kinds). or_else (or_else ks []) []) fits.1; takes = λ p. refl }
+own_opens chunks (fewer d) absent fits = record { walks = refl; clean = ap (λ (ks : Kinds). or_else (or_else ks []) []) fits.1; takes = λ p. refl }
 own_opens chunks (fewer d) (folder u) fits = record { walks = refl; clean = ap (λ (ks : Kinds). or_else (or_else ks []) []) fits.1; takes = λ p. refl }
 own_opens chunks (fewer d) (four l e c m) fits = record { walks = refl; clean = ap (λ (ks : Kinds). or_else (or_else ks []) []) fits.1; takes = λ p. refl }
+own_opens chunks (fuller d) version fits = record { walks = refl; clean = refl; takes = λ p. refl }
+own_opens chunks (fuller d) absent fits = record { walks = refl; clean = refl; takes = λ p. refl }
 own_opens chunks (fuller d) (folder u) fits = record { walks = refl; clean = refl; takes = λ p. refl }
 own_opens chunks (fuller d) (four l e c m) fits = record { walks = refl; clean = refl; takes = λ p. refl }
+own_opens replays (fewer d) version fits = record { walks = refl; clean = refl; takes = λ p. refl }
+own_opens replays (fewer d) absent fits = record { walks = refl; clean = refl; takes = λ p. refl }
 own_opens replays (fewer d) (folder u) fits = record { walks = refl; clean = refl; takes = λ p. refl }
 own_opens replays (fewer d) (four l e c m) fits = record { walks = refl; clean = refl; takes = λ p. refl }
+own_opens replays (fuller d) version fits = record { walks = refl; clean = refl; takes = λ p. refl }
+own_opens replays (fuller d) absent fits = record { walks = refl; clean = refl; takes = λ p. refl }
 own_opens replays (fuller d) (folder u) fits = record { walks = refl; clean = refl; takes = λ p. refl }
 own_opens replays (fuller d) (four l e c m) fits = record { walks = refl; clean = refl; takes = λ p. refl }
 
 own_ends : (which : Sub) (own : Own) (fs : Files) → IsOwn which own → Ends (shape_of which) (own_held which own fs)
 unfolding clap_on_literals
+own_ends marks (fewer d) version fits = record { settles = refl; defaults = refl; checks = refl }
+own_ends marks (fewer d) absent fits = record { settles = refl; defaults = refl; checks = refl }
 own_ends marks (fewer d) (folder u) fits = record { settles = refl; defaults = refl; checks = refl }
 own_ends marks (fewer d) (four l e c m) fits = record { settles = refl; defaults = refl; checks = refl }
+own_ends marks (fuller d) version fits = record { settles = ap (λ (ks : Kinds). or_else ks []) fits.1; defaults = refl; checks = refl }
+own_ends marks (fuller d) absent fits = record { settles = ap (λ (ks : Kinds). or_else ks []) fits.1; defaults = refl; checks = refl }
 own_ends marks (fuller d) (folder u) fits = record { settles = ap (λ (ks : Kinds). or_else ks []) fits.1; defaults = refl; checks = refl }
 own_ends marks (fuller d) (four l e c m) fits = record { settles = ap (λ (ks : Kinds). or_else ks []) fits.1; defaults = refl; checks = refl }
+own_ends (limits name) (fewer d) version fits = record { settles = refl; defaults = refl; checks = refl }
+own_ends (limits name) (fewer d) absent fits = record { settles = refl; defaults = refl; checks = refl }
 own_ends (limits name) (fewer d) (folder u) fits = record { settles = refl; defaults = refl; checks = refl }
 own_ends (limits name) (fewer d) (four l e c m) fits = record { settles = refl; defaults = refl; checks = refl }
+own_ends (limits name) (fuller d) version fits = record { settles = ap (λ (ks : Kinds). or_else ks []) fits.1; defaults = refl; checks = refl }
+own_ends (limits name) (fuller d) absent fits = record { settles = ap (λ (ks : Kinds). or_else ks []) fits.1; defaults = refl; checks = refl }
 own_ends (limits name) (fuller d) (folder u) fits = record { settles = ap (λ (ks : Kinds). or_else ks []) fits.1; defaults = refl; checks = refl }
 own_ends (limits name) (fuller d) (four l e c m) fits = record { settles = ap (λ (ks : Kinds). or_else ks []) fits.1; defaults = refl; checks = refl }
+own_ends chunks (fewer d) version fits = record { settles = ap (λ (ks : Kinds). or_else ks []) fits.1; defaults = refl; checks = refl }
+own_ends chunks (fewer d) absent fits = record { settles = ap (λ (ks : Kinds). or_else ks []) fits.1; defaults = refl; checks = refl }
 own_ends chunks (fewer d) (folder u) fits = record { settles = ap (λ (ks : Kinds). or_else ks []) fits.1; defaults = refl; checks = refl }
 own_ends chunks (fewer d) (four l e c m) fits = record { settles = ap (λ (ks : Kinds). or_else ks []) fits.1; defaults = refl; checks = refl }
+own_ends chunks (fuller d) version fits = record { settles = refl; defaults = refl; checks = refl }
+own_ends chunks (fuller d) absent fits = record { settles = refl; defaults = refl; checks = refl }
 own_ends chunks (fuller d) (folder u) fits = record { settles = refl; defaults = refl; checks = refl }
 own_ends chunks (fuller d) (four l e c m) fits = record { settles = refl; defaults = refl; checks = refl }
+own_ends replays (fewer d) version fits = record { settles = refl; defaults = refl; checks = refl }
+own_ends replays (fewer d) absent fits = record { settles = refl; defaults = refl; checks = refl }
 own_ends replays (fewer d) (folder u) fits = record { settles = refl; defaults = refl; checks = refl }
 own_ends replays (fewer d) (four l e c m) fits = record { settles = refl; defaults = refl; checks = refl }
+own_ends replays (fuller d) version fits = record { settles = refl; defaults = refl; checks = refl }
+own_ends replays (fuller d) absent fits = record { settles = refl; defaults = refl; checks = refl }
 own_ends replays (fuller d) (folder u) fits = record { settles = refl; defaults = refl; checks = refl }
 own_ends replays (fuller d) (four l e c m) fits = record { settles = refl; defaults = refl; checks = refl }
 
 profile_ends : (which : Sub) (own : Own) (fs : Files) (p : Text) → IsProfileText p → Ends (shape_of which) (behind_profile (own_rows which own fs) p)
 unfolding clap_on_literals
+profile_ends marks (fewer d) version p good = record { settles = ap (λ (ks : Kinds). or_else ks []) good; defaults = refl; checks = refl }
+profile_ends marks (fewer d) absent p good = record { settles = ap (λ (ks : Kinds). or_else ks []) good; defaults = refl; checks = refl }
 profile_ends marks (fewer d) (folder u) p good = record { settles = ap (λ (ks : Kinds). or_else ks []) good; defaults = refl; checks = refl }
 profile_ends marks (fewer d) (four l e c m) p good = record { settles = ap (λ (ks : Kinds). or_else ks []) good; defaults = refl; checks = refl }
+profile_ends marks (fuller d) version p good = record { settles = ap (λ (ks : Kinds). or_else ks []) good; defaults = refl; checks = refl }
+profile_ends marks (fuller d) absent p good = record { settles = ap (λ (ks : Kinds). or_else ks []) good; defaults = refl; checks = refl }
 profile_ends marks (fuller d) (folder u) p good = record { settles = ap (λ (ks : Kinds). or_else ks []) good; defaults = refl; checks = refl }
 profile_ends marks (fuller d) (four l e c m) p good = record { settles = ap (λ (ks : Kinds). or_else ks []) good; defaults = refl; checks = refl }
+profile_ends (limits name) (fewer d) version p good = record { settles = ap (λ (ks : Kinds). or_else ks []) good; defaults = refl; checks = refl }
+profile_ends (limits name) (fewer d) absent p good = record { settles = ap (λ (ks : Kinds). or_else ks []) good; defaults = refl; checks = refl }
 profile_ends (limits name) (fewer d) (folder u) p good = record { settles = ap (λ (ks : Kinds). or_else ks []) good; defaults = refl; checks = refl }
 profile_ends (limits name) (fewer d) (four l e c m) p good = record { settles = ap (λ (ks : Kinds). or_else ks []) good; defaults = refl; checks = refl }
+profile_ends (limits name) (fuller d) version p good = record { settles = ap (λ (ks : Kinds). or_else ks []) good; defaults = refl; checks = refl }
+profile_ends (limits name) (fuller d) absent p good = record { settles = ap (λ (ks : Kinds). or_else ks []) good; defaults = refl; checks = refl }
 profile_ends (limits name) (fuller d) (folder u) p good = record { settles = ap (λ (ks : Kinds). or_else ks []) good; defaults = refl; checks = refl }
 profile_ends (limits name) (fuller d) (four l e c m) p good = record { settles = ap (λ (ks : Kinds). or_else ks []) good; defaults = refl; checks = refl }
+profile_ends chunks (fewer d) version p good = record { settles = ap (λ (ks : Kinds). or_else ks []) good; defaults = refl; checks = refl }
+profile_ends chunks (fewer d) absent p good = record { settles = ap (λ (ks : Kinds). or_else ks []) good; defaults = refl; checks = refl }
 profile_ends chunks (fewer d) (folder u) p good = record { settles = ap (λ (ks : Kinds). or_else ks []) good; defaults = refl; checks = refl }
 profile_ends chunks (fewer d) (four l e c m) p good = record { settles = ap (λ (ks : Kinds). or_else ks []) good; defaults = refl; checks = refl }
+profile_ends chunks (fuller d) version p good = record { settles = ap (λ (ks : Kinds). or_else ks []) good; defaults = refl; checks = refl }
+profile_ends chunks (fuller d) absent p good = record { settles = ap (λ (ks : Kinds). or_else ks []) good; defaults = refl; checks = refl }
 profile_ends chunks (fuller d) (folder u) p good = record { settles = ap (λ (ks : Kinds). or_else ks []) good; defaults = refl; checks = refl }
 profile_ends chunks (fuller d) (four l e c m) p good = record { settles = ap (λ (ks : Kinds). or_else ks []) good; defaults = refl; checks = refl }
+profile_ends replays (fewer d) version p good = record { settles = ap (λ (ks : Kinds). or_else ks []) good; defaults = refl; checks = refl }
+profile_ends replays (fewer d) absent p good = record { settles = ap (λ (ks : Kinds). or_else ks []) good; defaults = refl; checks = refl }
 profile_ends replays (fewer d) (folder u) p good = record { settles = ap (λ (ks : Kinds). or_else ks []) good; defaults = refl; checks = refl }
 profile_ends replays (fewer d) (four l e c m) p good = record { settles = ap (λ (ks : Kinds). or_else ks []) good; defaults = refl; checks = refl }
+profile_ends replays (fuller d) version p good = record { settles = ap (λ (ks : Kinds). or_else ks []) good; defaults = refl; checks = refl }
+profile_ends replays (fuller d) absent p good = record { settles = ap (λ (ks : Kinds). or_else ks []) good; defaults = refl; checks = refl }
 profile_ends replays (fuller d) (folder u) p good = record { settles = ap (λ (ks : Kinds). or_else ks []) good; defaults = refl; checks = refl }
 profile_ends replays (fuller d) (four l e c m) p good = record { settles = ap (λ (ks : Kinds). or_else ks []) good; defaults = refl; checks = refl }
 
@@ -442,7 +566,7 @@ abbrev task_with : Engine → Files → Profile → Task
 task_with engine fs profile =
     record {
       engine = engine;
-      files = files_of fs;
+      values = values_of fs;
       profile = profile;
       part = None;
       sign = default_sign;
@@ -463,16 +587,16 @@ read_engine (limits name) engine rows = engine (limit_in rows)
 read_engine chunks engine rows = Chunk (limit_in rows) (sizes_in rows) (with_texts_in rows)
 read_engine replays engine rows = Replay (kinds_in rows)
 
-abbrev task_found : (List Row → Engine) → List Row → Option Task
-task_found engine rows = option_map (λ files. record {
+abbrev task_found : Text → (List Row → Engine) → List Row → Option Task
+task_found name engine rows = option_map (λ values. record {
   engine = engine rows;
-  files = files;
+  values = values;
   profile = profile_in rows;
   part = part_in rows;
   sign = sign_in rows;
   names = names_in rows;
   texts = texts_in rows;
-}) (files_in rows)
+}) (values_in name rows)
 
 -- what its own words mean
 abbrev own_engine : Sub → (ℕ → Engine) → Own → Engine
@@ -485,74 +609,107 @@ own_engine chunks engine (fuller d) = Chunk default_limit (sizes_of (number_or 1
 own_engine replays engine (fewer d) = Replay false
 own_engine replays engine (fuller d) = Replay true
 
-own_asks : (which : Sub) (own : Own) (fs : Files) → ArePlain fs → (engine : ℕ → Engine)
-    → task_found (read_engine which engine) (finished (shape_of which).rules (own_held which own fs)) ≡ Some (task_with (own_engine which engine own) fs First)
+own_asks : (which : Sub) (own : Own) (fs : Files) → ArePlainFor which fs → (engine : ℕ → Engine)
+    → task_found (name_of which) (read_engine which engine) (finished (shape_of which).rules (own_held which own fs)) ≡ Some (task_with (own_engine which engine own) fs First)
 unfolding clap_on_literals
-own_asks marks (fewer d) (folder []) plain engine = absurd plain
+own_asks marks (fewer d) version plain engine = refl
+own_asks marks (fewer d) absent plain engine = refl
+own_asks marks (fewer d) (folder []) plain engine = absurd plain.0
 own_asks marks (fewer d) (folder (u ∷ us)) plain engine = refl
 own_asks marks (fewer d) (four l e c m) plain engine = refl
-own_asks marks (fuller d) (folder []) plain engine = absurd plain
+own_asks marks (fuller d) version plain engine = refl
+own_asks marks (fuller d) absent plain engine = refl
+own_asks marks (fuller d) (folder []) plain engine = absurd plain.0
 own_asks marks (fuller d) (folder (u ∷ us)) plain engine = refl
 own_asks marks (fuller d) (four l e c m) plain engine = refl
-own_asks (limits name) (fewer d) (folder []) plain engine = absurd plain
+own_asks (limits name) (fewer d) version plain engine = refl
+own_asks (limits name) (fewer d) absent plain engine = absurd plain.1
+own_asks (limits name) (fewer d) (folder []) plain engine = absurd plain.0
 own_asks (limits name) (fewer d) (folder (u ∷ us)) plain engine = refl
 own_asks (limits name) (fewer d) (four l e c m) plain engine = refl
-own_asks (limits name) (fuller d) (folder []) plain engine = absurd plain
+own_asks (limits name) (fuller d) version plain engine = refl
+own_asks (limits name) (fuller d) absent plain engine = absurd plain.1
+own_asks (limits name) (fuller d) (folder []) plain engine = absurd plain.0
 own_asks (limits name) (fuller d) (folder (u ∷ us)) plain engine = refl
 own_asks (limits name) (fuller d) (four l e c m) plain engine = refl
-own_asks chunks (fewer d) (folder []) plain engine = absurd plain
+own_asks chunks (fewer d) version plain engine = refl
+own_asks chunks (fewer d) absent plain engine = refl
+own_asks chunks (fewer d) (folder []) plain engine = absurd plain.0
 own_asks chunks (fewer d) (folder (u ∷ us)) plain engine = refl
 own_asks chunks (fewer d) (four l e c m) plain engine = refl
-own_asks chunks (fuller d) (folder []) plain engine = absurd plain
+own_asks chunks (fuller d) version plain engine = refl
+own_asks chunks (fuller d) absent plain engine = refl
+own_asks chunks (fuller d) (folder []) plain engine = absurd plain.0
 own_asks chunks (fuller d) (folder (u ∷ us)) plain engine = refl
 own_asks chunks (fuller d) (four l e c m) plain engine = refl
-own_asks replays (fewer d) (folder []) plain engine = absurd plain
+own_asks replays (fewer d) version plain engine = refl
+own_asks replays (fewer d) absent plain engine = absurd plain.1
+own_asks replays (fewer d) (folder []) plain engine = absurd plain.0
 own_asks replays (fewer d) (folder (u ∷ us)) plain engine = refl
 own_asks replays (fewer d) (four l e c m) plain engine = refl
-own_asks replays (fuller d) (folder []) plain engine = absurd plain
+own_asks replays (fuller d) version plain engine = refl
+own_asks replays (fuller d) absent plain engine = absurd plain.1
+own_asks replays (fuller d) (folder []) plain engine = absurd plain.0
 own_asks replays (fuller d) (folder (u ∷ us)) plain engine = refl
 own_asks replays (fuller d) (four l e c m) plain engine = refl
 
-profile_asks : (which : Sub) (own : Own) (fs : Files) (p : Text) → ArePlain fs → (engine : ℕ → Engine)
-    → task_found (read_engine which engine) (finished (shape_of which).rules (behind_profile (own_rows which own fs) p))
+profile_asks : (which : Sub) (own : Own) (fs : Files) (p : Text) → ArePlainFor which fs → (engine : ℕ → Engine)
+    → task_found (name_of which) (read_engine which engine) (finished (shape_of which).rules (behind_profile (own_rows which own fs) p))
     ≡ Some (task_with (own_engine which engine own) fs (if number_or 1 (Some p) == 2 then Second else First))
 unfolding clap_on_literals
-profile_asks marks (fewer d) (folder []) p plain engine = absurd plain
+profile_asks marks (fewer d) version p plain engine = refl
+profile_asks marks (fewer d) absent p plain engine = refl
+profile_asks marks (fewer d) (folder []) p plain engine = absurd plain.0
 profile_asks marks (fewer d) (folder (u ∷ us)) p plain engine = refl
 profile_asks marks (fewer d) (four l e c m) p plain engine = refl
-profile_asks marks (fuller d) (folder []) p plain engine = absurd plain
+profile_asks marks (fuller d) version p plain engine = refl
+profile_asks marks (fuller d) absent p plain engine = refl
+profile_asks marks (fuller d) (folder []) p plain engine = absurd plain.0
 profile_asks marks (fuller d) (folder (u ∷ us)) p plain engine = refl
 profile_asks marks (fuller d) (four l e c m) p plain engine = refl
-profile_asks (limits name) (fewer d) (folder []) p plain engine = absurd plain
+profile_asks (limits name) (fewer d) version p plain engine = refl
+profile_asks (limits name) (fewer d) absent p plain engine = absurd plain.1
+profile_asks (limits name) (fewer d) (folder []) p plain engine = absurd plain.0
 profile_asks (limits name) (fewer d) (folder (u ∷ us)) p plain engine = refl
 profile_asks (limits name) (fewer d) (four l e c m) p plain engine = refl
-profile_asks (limits name) (fuller d) (folder []) p plain engine = absurd plain
+profile_asks (limits name) (fuller d) version p plain engine = refl
+profile_asks (limits name) (fuller d) absent p plain engine = absurd plain.1
+profile_asks (limits name) (fuller d) (folder []) p plain engine = absurd plain.0
 profile_asks (limits name) (fuller d) (folder (u ∷ us)) p plain engine = refl
 profile_asks (limits name) (fuller d) (four l e c m) p plain engine = refl
-profile_asks chunks (fewer d) (folder []) p plain engine = absurd plain
+profile_asks chunks (fewer d) version p plain engine = refl
+profile_asks chunks (fewer d) absent p plain engine = refl
+profile_asks chunks (fewer d) (folder []) p plain engine = absurd plain.0
 profile_asks chunks (fewer d) (folder (u ∷ us)) p plain engine = refl
 profile_asks chunks (fewer d) (four l e c m) p plain engine = refl
-profile_asks chunks (fuller d) (folder []) p plain engine = absurd plain
+profile_asks chunks (fuller d) version p plain engine = refl
+profile_asks chunks (fuller d) absent p plain engine = refl
+profile_asks chunks (fuller d) (folder []) p plain engine = absurd plain.0
 profile_asks chunks (fuller d) (folder (u ∷ us)) p plain engine = refl
 profile_asks chunks (fuller d) (four l e c m) p plain engine = refl
-profile_asks replays (fewer d) (folder []) p plain engine = absurd plain
+profile_asks replays (fewer d) version p plain engine = refl
+profile_asks replays (fewer d) absent p plain engine = absurd plain.1
+profile_asks replays (fewer d) (folder []) p plain engine = absurd plain.0
 profile_asks replays (fewer d) (folder (u ∷ us)) p plain engine = refl
 profile_asks replays (fewer d) (four l e c m) p plain engine = refl
-profile_asks replays (fuller d) (folder []) p plain engine = absurd plain
+profile_asks replays (fuller d) version p plain engine = refl
+profile_asks replays (fuller d) absent p plain engine = absurd plain.1
+profile_asks replays (fuller d) (folder []) p plain engine = absurd plain.0
 profile_asks replays (fuller d) (folder (u ∷ us)) p plain engine = refl
 profile_asks replays (fuller d) (four l e c m) p plain engine = refl
 
-sub_plain : (which : Sub) (name : Text) (make : ℕ → Engine) (own : Own) (engine : Engine) (fs : Files) (profile : Profile) (last : List Text)
-    → Leaves name (shape_of which) → ((rows : List Row) → task_in (name, rows) ≡ task_found (read_engine which make) rows)
-    → ArePlain fs → IsOwn which own → own_engine which make own ≡ engine → are_sizes engine ≡ true → AreProfileWords profile last
-    → Performs (name ∷ words_before fs (own_words which own last)) (task_with engine fs profile)
-sub_plain which name make own engine fs profile last leaves reads plain fits means sized (inl first) =
-    rw (first.0, first.1) (sub_performs name (shape_of which) _ _ (task_with engine fs First) leaves (own_taken which own fs plain fits)
+sub_plain : (which : Sub) (make : ℕ → Engine) (own : Own) (engine : Engine) (fs : Files) (profile : Profile) (last : List Text)
+    → Leaves (name_of which) (shape_of which)
+    → ((rows : List Row) → task_in (name_of which, rows) ≡ task_found (name_of which) (read_engine which make) rows)
+    → ArePlainFor which fs → IsOwn which own → own_engine which make own ≡ engine → are_sizes engine ≡ true → AreProfileWords profile last
+    → Performs (name_of which ∷ words_before fs (own_words which own last)) (task_with engine fs profile)
+sub_plain which make own engine fs profile last leaves reads plain fits means sized (inl first) =
+    rw (first.0, first.1) (sub_performs (name_of which) (shape_of which) _ _ (task_with engine fs First) leaves (own_taken which own fs plain.0 fits)
     (reads (finished (shape_of which).rules (own_held which own fs)) ∙ own_asks which own fs plain make ∙ ap (λ (e : Engine). Some (task_with e fs First)) means)
     (nothing_wrong engine fs First sized))
-sub_plain which name make own engine fs profile last leaves reads plain fits means sized (inr given) =
-    rw given (sub_performs name (shape_of which) _ _ (task_with engine fs profile) leaves
-    (profile_given which own fs (profile_word profile) plain fits (profile_plain profile) (profile_taken profile))
+sub_plain which make own engine fs profile last leaves reads plain fits means sized (inr given) =
+    rw given (sub_performs (name_of which) (shape_of which) _ _ (task_with engine fs profile) leaves
+    (profile_given which own fs (profile_word profile) plain.0 fits (profile_plain profile) (profile_taken profile))
     (reads (finished (shape_of which).rules (behind_profile (own_rows which own fs) (profile_word profile)))
     ∙ profile_asks which own fs (profile_word profile) plain make
     ∙ ap₂ (λ (e : Engine) (p : Profile). Some (task_with e fs p)) means (profile_read profile))
@@ -563,79 +720,132 @@ sizes_fit : (limit most : ℕ) (texts : Bool) → are_sizes (Chunk limit (sizes_
 sizes_fit limit most texts = rw (le-leb (most / 2) most (omega arith), le-leb 0 (most / 2) (omega arith)) refl
 
 chunk_plain : (fs : Files) (limit : ℕ) (sizes : Sizes) (texts : Bool) (profile : Profile) (most : ℕ)
-    (own text_words last : List Text) → ArePlain fs
+    (own text_words last : List Text) → ArePlainFor chunks fs
     → 1 ≤ most → most ≤ greatest_limit → own ≡ codes "--most" ∷ decimal most ∷ text_words → limit ≡ default_limit
     → sizes ≡ sizes_of most
     → AreFlagWords (codes "--text") texts text_words → AreProfileWords profile last
     → Performs (codes "chunk" ∷ words_before fs (own ++ last)) (task_with (Chunk limit sizes texts) fs profile)
 unfolding clap_on_literals
 chunk_plain fs limit sizes texts profile most own text_words last plain some few words limit_is sizes_are (inl none) more_words =
-    rw (words, none.0, limit_is, sizes_are, none.1) (sub_plain chunks (codes "chunk") Mark (fewer (decimal most))
+    rw (words, none.0, limit_is, sizes_are, none.1) (sub_plain chunks Mark (fewer (decimal most))
     (Chunk default_limit (sizes_of most) false) fs profile last leaves_chunk (λ rows. refl) plain
     (limit_plain most few, limit_taken most some few)
     (ap (λ (n : ℕ). Chunk default_limit (sizes_of n) false) (sym (limit_read 1 most few))) (sizes_fit default_limit most false) more_words)
 chunk_plain fs limit sizes texts profile most own text_words last plain some few words limit_is sizes_are (inr flag) more_words =
-    rw (words, flag.0, limit_is, sizes_are, flag.1) (sub_plain chunks (codes "chunk") Mark (fuller (decimal most))
+    rw (words, flag.0, limit_is, sizes_are, flag.1) (sub_plain chunks Mark (fuller (decimal most))
     (Chunk default_limit (sizes_of most) true) fs profile last leaves_chunk (λ rows. refl) plain
     (limit_plain most few, limit_taken most some few)
     (ap (λ (n : ℕ). Chunk default_limit (sizes_of n) true) (sym (limit_read 1 most few))) (sizes_fit default_limit most true) more_words)
 
-engine_plain : (fs : Files) (engine : Engine) (profile : Profile) (own last : List Text) → ArePlain fs
+abbrev sub_of : Engine → Sub
+sub_of (Mark limit) = marks
+sub_of (Show limit) = limits (codes "show")
+sub_of (Segment limit) = limits (codes "segment")
+sub_of (Chunk limit sizes texts) = chunks
+sub_of (Replay kinds) = replays
+
+engine_plain : (fs : Files) (engine : Engine) (profile : Profile) (own last : List Text)
+    → ArePlainFor (sub_of engine) fs
     → AreEngineWords engine own
     → AreProfileWords profile last → Performs (name_of_engine engine ∷ words_before fs (own ++ last))
     (task_with engine fs profile)
 unfolding clap_on_literals
 engine_plain fs (Mark limit) profile own last plain (inl none) more =
-    rw (none.0, none.1) (sub_plain marks (codes "mark") Mark (fewer []) (Mark default_limit) fs profile last leaves_mark (λ rows. refl) plain tt refl refl more)
+    rw (none.0, none.1) (sub_plain marks Mark (fewer []) (Mark default_limit) fs profile last leaves_mark (λ rows. refl) plain tt refl refl more)
 engine_plain fs (Mark limit) profile own last plain (inr number) more_words =
-    rw number.0 (sub_plain marks (codes "mark") Mark (fuller (decimal limit)) (Mark limit) fs profile last leaves_mark (λ rows. refl) plain
+    rw number.0 (sub_plain marks Mark (fuller (decimal limit)) (Mark limit) fs profile last leaves_mark (λ rows. refl) plain
     (limit_plain limit number.2, limit_taken limit number.1 number.2) (ap Mark (sym (limit_read default_limit limit number.2))) refl more_words)
 engine_plain fs (Show limit) profile own last plain (inl none) more =
-    rw (none.0, none.1) (sub_plain (limits (codes "show")) (codes "show") Show (fewer []) (Show default_limit) fs profile last leaves_show (λ rows. refl) plain tt refl refl more)
+    rw (none.0, none.1) (sub_plain (limits (codes "show")) Show (fewer []) (Show default_limit) fs profile last leaves_show (λ rows. refl) plain tt refl refl more)
 engine_plain fs (Show limit) profile own last plain (inr number) more_words =
-    rw number.0 (sub_plain (limits (codes "show")) (codes "show") Show (fuller (decimal limit)) (Show limit) fs profile last leaves_show (λ rows. refl) plain
+    rw number.0 (sub_plain (limits (codes "show")) Show (fuller (decimal limit)) (Show limit) fs profile last leaves_show (λ rows. refl) plain
     (limit_plain limit number.2, limit_taken limit number.1 number.2) (ap Show (sym (limit_read default_limit limit number.2))) refl more_words)
 engine_plain fs (Segment limit) profile own last plain (inl none) more =
-    rw (none.0, none.1) (sub_plain (limits (codes "segment")) (codes "segment") Segment (fewer []) (Segment default_limit) fs profile last leaves_segment (λ rows. refl) plain tt refl refl more)
+    rw (none.0, none.1) (sub_plain (limits (codes "segment")) Segment (fewer []) (Segment default_limit) fs profile last leaves_segment (λ rows. refl) plain tt refl refl more)
 engine_plain fs (Segment limit) profile own last plain (inr number) more_words =
-    rw number.0 (sub_plain (limits (codes "segment")) (codes "segment") Segment (fuller (decimal limit)) (Segment limit) fs profile last leaves_segment (λ rows. refl) plain
+    rw number.0 (sub_plain (limits (codes "segment")) Segment (fuller (decimal limit)) (Segment limit) fs profile last leaves_segment (λ rows. refl) plain
     (limit_plain limit number.2, limit_taken limit number.1 number.2) (ap Segment (sym (limit_read default_limit limit number.2))) refl more_words)
 engine_plain fs (Chunk limit sizes texts) profile own last plain given more_words =
     chunk_plain fs limit sizes texts profile given.most own given.text_words last plain given.some given.few given.are
     given.limit_is given.sizes_are given.texts_are more_words
 engine_plain fs (Replay kinds) profile own last plain (inl none) more =
-    rw (none.0, none.1) (sub_plain replays (codes "replay") Mark (fewer []) (Replay false) fs profile last leaves_replay (λ rows. refl) plain tt refl refl more)
+    rw (none.0, none.1) (sub_plain replays Mark (fewer []) (Replay false) fs profile last leaves_replay (λ rows. refl) plain tt refl refl more)
 engine_plain fs (Replay kinds) profile own last plain (inr flag) more_words =
-    rw (flag.0, flag.1) (sub_plain replays (codes "replay") Mark (fuller []) (Replay true) fs profile last leaves_replay (λ rows. refl) plain tt refl refl more_words)
+    rw (flag.0, flag.1) (sub_plain replays Mark (fuller []) (Replay true) fs profile last leaves_replay (λ rows. refl) plain tt refl refl more_words)
 
--- the words of the files are those of a folder or of four names
-record Reads (files : NamedFiles) (words : List Text) : Type 0 where
+-- words that an engine may do without
+lacking : (engine : Engine) (words : List Text) (values : NamedValues) → AreNoWords engine values words
+    → MayLack (sub_of engine) absent × (words ≡ []) × (values ≡ built_in)
+lacking (Mark limit) words values are = (tt, are.0, are.1)
+lacking (Show limit) words values are = absurd are
+lacking (Segment limit) words values are = absurd are
+lacking (Chunk limit sizes texts) words values are = (tt, are.0, are.1)
+lacking (Replay kinds) words values are = absurd are
+
+-- the other words serve each engine
+named : (which : Sub) → MayLack which version
+named marks = tt
+named (limits name) = tt
+named chunks = tt
+named replays = tt
+
+in_folder_too : (which : Sub) (u : Text) → MayLack which (folder u)
+in_folder_too marks u = tt
+in_folder_too (limits name) u = tt
+in_folder_too chunks u = tt
+in_folder_too replays u = tt
+
+four_too : (which : Sub) (l e c m : Text) → MayLack which (four l e c m)
+four_too marks l e c m = tt
+four_too (limits name) l e c m = tt
+four_too chunks l e c m = tt
+four_too replays l e c m = tt
+
+-- the words of the property values are those of one of four ways
+record Reads (engine : Engine) (values : NamedValues) (words : List Text) : Type 0 where
   fs : Files
-  plain : ArePlain fs
+  plain : ArePlainFor (sub_of engine) fs
   before : (rest : List Text) → words ++ rest ≡ words_before fs rest
-  files_are : files ≡ files_of fs
+  values_are : values ≡ values_of fs
 
-read : (files : NamedFiles) (words : List Text) → AreFolderWords files words ⊎ AreFourWords files words
-    → Reads files words
-read files words (inl are) = record {
+read : (engine : Engine) (values : NamedValues) (words : List Text) → AreValueWords engine values words
+    → Reads engine values words
+read engine values words (inl (inl are)) = record {
+  fs = version;
+  plain = (tt, named (sub_of engine));
+  before = λ rest. ap (λ (ws : List Text). ws ++ rest) are.0;
+  values_are = are.1;
+}
+read engine values words (inl (inr are)) = record {
   fs = folder are.folder;
-  plain = are.plain;
+  plain = (are.plain, in_folder_too (sub_of engine) are.folder);
   before = λ rest. ap (λ (ws : List Text). ws ++ rest) are.are;
-  files_are = are.files_are;
+  values_are = are.values_are;
 }
-read files words (inr are) = record {
+read engine values words (inr (inl are)) = record {
   fs = four are.line_break are.east_asian are.category are.emoji;
-  plain = (are.plain_line_break, are.plain_east_asian, are.plain_category, are.plain_emoji);
+  plain = (
+    (are.plain_line_break, are.plain_east_asian, are.plain_category, are.plain_emoji),
+    four_too (sub_of engine) are.line_break are.east_asian are.category are.emoji,
+  );
   before = λ rest. ap (λ (ws : List Text). ws ++ rest) are.are;
-  files_are = are.files_are;
+  values_are = are.values_are;
 }
+read engine values words (inr (inr are)) =
+    let lacks = lacking engine words values are in
+    record {
+      fs = absent;
+      plain = (tt, lacks.0);
+      before = λ rest. ap (λ (ws : List Text). ws ++ rest) lacks.1;
+      values_are = lacks.2;
+    }
 
 -- a task with the engine and the profile of another
-abbrev like : Task → NamedFiles → Option Part → Text → Bool → List Text → Task
-like task files part sign names texts =
+abbrev like : Task → NamedValues → Option Part → Text → Bool → List Text → Task
+like task values part sign names texts =
     record {
       engine = task.engine;
-      files = files;
+      values = values;
       profile = task.profile;
       part = part;
       sign = sign;
@@ -643,19 +853,19 @@ like task files part sign names texts =
       texts = texts;
     }
 
-task_is : (task : Task) (fs : Files) → task.files ≡ files_of fs → task.part ≡ None → task.sign ≡ default_sign
+task_is : (task : Task) (fs : Files) → task.values ≡ values_of fs → task.part ≡ None → task.sign ≡ default_sign
     → task.names ≡ false → task.texts ≡ [] → task ≡ task_with task.engine fs task.profile
-task_is task fs files part sign names texts =
-    ap₂ (λ f p. like task f p task.sign task.names task.texts) files part
-    ∙ ap₂ (λ s n. like task (files_of fs) None s n task.texts) sign names
-    ∙ ap (λ t. like task (files_of fs) None default_sign false t) texts
+task_is task fs values part sign names texts =
+    ap₂ (λ f p. like task f p task.sign task.names task.texts) values part
+    ∙ ap₂ (λ s n. like task (values_of fs) None s n task.texts) sign names
+    ∙ ap (λ t. like task (values_of fs) None default_sign false t) texts
 
 pub plain_performs : (task : Task) (words : List Text) → IsPlainFor task words → Performs words task
 plain_performs task words plain =
-    let r = read task.files plain.file_words plain.files in
+    let r = read task.engine task.values plain.value_words plain.values in
     let given = plain.engine_words ++ plain.profile_words in
     subst (λ (ws : List Text). Performs ws task)
     (sym (plain.are ∙ ap (λ (ws : List Text). name_of_engine task.engine ∷ ws) (r.before given)))
     (subst (λ (t : Task). Performs (name_of_engine task.engine ∷ words_before r.fs given) t)
-    (sym (task_is task r.fs r.files_are plain.part plain.sign plain.names plain.texts))
+    (sym (task_is task r.fs r.values_are plain.part plain.sign plain.names plain.texts))
     (engine_plain r.fs task.engine task.profile plain.engine_words plain.profile_words r.plain plain.engine plain.profile))

@@ -21,7 +21,7 @@ abbrev pub are_sizes : Engine → Bool
 are_sizes (Chunk limit sizes texts) = nat_le sizes.least sizes.most && nat_le sizes.overlap (sizes.most / 2)
 are_sizes _ = true
 
--- arguments that `clap` accepts ask for no task if a property file is not named; a task is refused if its range ends
+-- arguments that `clap` accepts ask for no task if they name no property values, or in two ways; a task is refused if its range ends
 -- before it begins, its sign is invalid, or its sizes of chunks contradict each other
 abbrev pub task_fault : Option Task → Kinds
 task_fault None = MissingRequiredArgument ∷ []

@@ -51,11 +51,14 @@ texts_flag_rule = record (new_rule (codes "texts")) { long = Some (codes "text")
 abbrev pub texts_rule : Rule
 texts_rule = record (new_rule (codes "text")) { action = Some Append; value_names = 1 }
 
--- a subcommand with the folder of the property files
-abbrev pub folder_app : Text → App
-folder_app name = with_rule (new_app name) (value_rule (codes "ucd"))
+-- a subcommand with the version of the built-in property values
+abbrev pub version_app : Text → App
+version_app name = with_rule (new_app name) (value_rule (codes "unicode"))
 
 -- the options of the files, which each subcommand has
+abbrev pub folder_app : Text → App
+folder_app name = with_rule (version_app name) (value_rule (codes "ucd"))
+
 abbrev pub widths_app : Text → App
 widths_app name = with_rule (with_rule (folder_app name)
     (value_rule (codes "line-break"))) (value_rule (codes "east-asian"))

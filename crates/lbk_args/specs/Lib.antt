@@ -8,3 +8,4 @@ pub mod Refusal
 pub mod OneLine
 -- What only carries proofs.
 pub mod Made
+pub mod OwnNames

@@ -7,7 +7,7 @@ use Rattle.lbk_values.specs.declared.profile.Profile.TheVariants.{First, Second}
 use Rattle.lbk_feed.specs.Text.{greatest_limit}
 use Rattle.lbk_args.specs.Command.{default_limit}
 use Rattle.lbk_args.specs.Sign.{default_sign}
-use Rattle.lbk_args.specs.Task.{NamedFiles, Task, given, in_folder}
+use Rattle.lbk_args.specs.Task.{NamedValues, Task, built_in, folder_files, given_files, in_files}
 use Rattle.lbk_args.specs.declared.order.Engine.{Engine}
 use Rattle.lbk_args.specs.declared.order.Engine.TheVariants.{Mark, Show, Segment, Chunk, Replay}
 use Rattle.lbk_args.specs.declared.order.Sizes.{Sizes}
@@ -69,37 +69,23 @@ name_of_engine (Segment limit) = codes "segment"
 name_of_engine (Chunk limit sizes texts) = codes "chunk"
 name_of_engine (Replay kinds) = codes "replay"
 
--- all four files in a folder
-abbrev pub folder_files : Text → NamedFiles
-folder_files folder = record {
-  line_break = in_folder folder;
-  east_asian = in_folder folder;
-  category = in_folder folder;
-  emoji = in_folder folder;
-}
-
--- each file by its own name
-abbrev pub given_files : Text → Text → Text → Text → NamedFiles
-given_files line_break east_asian category emoji = record {
-  line_break = given line_break;
-  east_asian = given east_asian;
-  category = given category;
-  emoji = given emoji;
-}
-
 abbrev pub four_words : Text → Text → Text → Text → List Text
 four_words line_break east_asian category emoji = codes "--line-break" ∷ line_break ∷ codes "--east-asian" ∷ east_asian
     ∷ codes "--category" ∷ category ∷ codes "--emoji" ∷ emoji ∷ []
 
+-- `--unicode` and the version
+abbrev pub AreVersionWords : NamedValues → List Text → Type 0
+AreVersionWords values words = (words ≡ codes "--unicode" ∷ codes "15.0" ∷ []) × (values ≡ built_in)
+
 -- `--ucd` and the folder of all four files
-pub record AreFolderWords (files : NamedFiles) (words : List Text) : Type 0 where
+pub record AreFolderWords (values : NamedValues) (words : List Text) : Type 0 where
   pub folder : Text
   pub plain : IsPlainName folder
   pub are : words ≡ codes "--ucd" ∷ folder ∷ []
-  pub files_are : files ≡ folder_files folder
+  pub values_are : values ≡ in_files (folder_files folder)
 
 -- the four files in order, each after its option
-pub record AreFourWords (files : NamedFiles) (words : List Text) : Type 0 where
+pub record AreFourWords (values : NamedValues) (words : List Text) : Type 0 where
   pub line_break : Text
   pub east_asian : Text
   pub category : Text
@@ -109,16 +95,28 @@ pub record AreFourWords (files : NamedFiles) (words : List Text) : Type 0 where
   pub plain_category : IsPlainName category
   pub plain_emoji : IsPlainName emoji
   pub are : words ≡ four_words line_break east_asian category emoji
-  pub files_are : files ≡ given_files line_break east_asian category emoji
+  pub values_are : values ≡ in_files (given_files line_break east_asian category emoji)
 
--- the subcommand, the files, the engine's own option and the profile, and no range, no sign, no flag of names and no
+-- no words, for an engine that takes the built-in values then
+abbrev pub AreNoWords : Engine → NamedValues → List Text → Type 0
+AreNoWords (Mark limit) values words = (words ≡ []) × (values ≡ built_in)
+AreNoWords (Chunk limit sizes texts) values words = (words ≡ []) × (values ≡ built_in)
+AreNoWords _ values words = ⊥
+
+-- the words of the property values
+abbrev pub AreValueWords : Engine → NamedValues → List Text → Type 0
+AreValueWords engine values words =
+    (AreVersionWords values words ⊎ AreFolderWords values words)
+    ⊎ (AreFourWords values words ⊎ AreNoWords engine values words)
+
+-- the subcommand, the property values, the engine's own option and the profile, and no range, no sign, no flag of names and no
 -- operand
 pub record IsPlainFor (task : Task) (words : List Text) : Type 0 where
-  pub file_words : List Text
+  pub value_words : List Text
   pub engine_words : List Text
   pub profile_words : List Text
-  pub are : words ≡ name_of_engine task.engine ∷ (file_words ++ (engine_words ++ profile_words))
-  pub files : AreFolderWords task.files file_words ⊎ AreFourWords task.files file_words
+  pub are : words ≡ name_of_engine task.engine ∷ (value_words ++ (engine_words ++ profile_words))
+  pub values : AreValueWords task.engine task.values value_words
   pub engine : AreEngineWords task.engine engine_words
   pub profile : AreProfileWords task.profile profile_words
   pub part : task.part ≡ None

@@ -1,5 +1,5 @@
 -- What accepted arguments ask for, by the values that `clap` finds in them.
-use Rattle.std.specs.Prelude.{ℕ, ◌^◌, ◌==◌, ◌&&◌, ◌/◌, Bool, false, List, [], ◌∷◌, Option, Some, None, if◌then◌else◌}
+use Rattle.std.specs.Prelude.{ℕ, ◌^◌, ◌==◌, ◌&&◌, ◌||◌, ◌/◌, Bool, false, List, [], ◌∷◌, Option, Some, None, if◌then◌else◌}
 use Rattle.std.specs.Prelude.{nat_lt, codes, map, option_and_then, option_map, unwrap_or}
 use Rattle.std.specs.Str.{bytes_eq}
 use Rattle.std.specs.Str.Parse.{digits_value, without_leading_plus}
@@ -17,6 +17,8 @@ use Rattle.lbk_args.specs.declared.order.FileNames.{FileNames}
 use Rattle.lbk_args.specs.declared.order.Order.{Order}
 use Rattle.lbk_args.specs.declared.order.Part.{Part}
 use Rattle.lbk_args.specs.declared.order.Sizes.{Sizes}
+use Rattle.lbk_args.specs.declared.order.PropertyValues.{PropertyValues}
+use Rattle.lbk_args.specs.declared.order.PropertyValues.TheVariants.{BuiltIn, Files}
 
 -- how a property file is named: by its own option, or by its folder
 pub data Named : Type 0 where
@@ -30,11 +32,16 @@ pub record NamedFiles : Type 0 where
   pub category : Named
   pub emoji : Named
 
--- an engine with its options, the names of the four files, the profile, the range of passages in each text, the sign of
+-- where the property values come from: built in, or from four files
+pub data NamedValues : Type 0 where
+  built_in : NamedValues
+  in_files : NamedFiles → NamedValues
+
+-- an engine with its options, the property values, the profile, the range of passages in each text, the sign of
 -- `mark`, whether to write names, and the names of the texts
 pub record Task : Type 0 where
   pub engine : Engine
-  pub files : NamedFiles
+  pub values : NamedValues
   pub profile : Profile
   pub part : Option Part
   pub sign : Text
@@ -53,11 +60,15 @@ files_of_names names = record {
   emoji = named_of names.emoji;
 }
 
+abbrev pub values_of : PropertyValues → NamedValues
+values_of BuiltIn = built_in
+values_of (Files names) = in_files (files_of_names names)
+
 -- the task of an order
 abbrev pub task_of : Order → Task
 task_of o = record {
   engine = o.engine;
-  files = files_of_names o.files;
+  values = values_of o.values;
   profile = o.profile;
   part = o.part;
   sign = o.sign.now;
@@ -65,33 +76,64 @@ task_of o = record {
   texts = map (λ name. name.now) o.texts.items;
 }
 
--- a folder, if its name is not empty
-abbrev pub named_folder : Option Text → Option Named
-named_folder None = None
-named_folder (Some []) = None
-named_folder (Some (first ∷ rest)) = Some (in_folder (first ∷ rest))
+-- all four files in a folder
+abbrev pub folder_files : Text → NamedFiles
+folder_files folder = record {
+  line_break = in_folder folder;
+  east_asian = in_folder folder;
+  category = in_folder folder;
+  emoji = in_folder folder;
+}
 
--- the name in a file's own option, or else the folder
-abbrev pub own_or_folder : Option Text → Option Text → Option Named
-own_or_folder (Some name) folder = Some (given name)
-own_or_folder None folder = named_folder folder
+-- each file by its own name
+abbrev pub given_files : Text → Text → Text → Text → NamedFiles
+given_files line_break east_asian category emoji = record {
+  line_break = given line_break;
+  east_asian = given east_asian;
+  category = given category;
+  emoji = given emoji;
+}
 
-abbrev pub named_in : Text → List Row → Option Named
-named_in id rows = own_or_folder (first_of id rows) (first_of (codes "ucd") rows)
+-- the files that have their own options: none, some, or all
+pub data OwnFiles : Type 0 where
+  no_file : OwnFiles
+  some_files : OwnFiles
+  all_files : NamedFiles → OwnFiles
 
--- all four, if each is named
-abbrev pub all_four : Option Named → Option Named → Option Named → Option Named → Option NamedFiles
-all_four (Some line_break) (Some east_asian) (Some category) (Some emoji) = Some (record {
-  line_break = line_break;
-  east_asian = east_asian;
-  category = category;
-  emoji = emoji;
-})
-all_four _ _ _ _ = None
+abbrev pub own_files : Option Text → Option Text → Option Text → Option Text → OwnFiles
+own_files None None None None = no_file
+own_files (Some line_break) (Some east_asian) (Some category) (Some emoji) =
+    all_files (given_files line_break east_asian category emoji)
+own_files _ _ _ _ = some_files
 
-abbrev pub files_in : List Row → Option NamedFiles
-files_in rows = all_four (named_in (codes "line-break") rows) (named_in (codes "east-asian") rows)
-    (named_in (codes "category") rows) (named_in (codes "emoji") rows)
+abbrev pub own_files_in : List Row → OwnFiles
+own_files_in rows = own_files (first_of (codes "line-break") rows) (first_of (codes "east-asian") rows)
+    (first_of (codes "category") rows) (first_of (codes "emoji") rows)
+
+-- the version of the built-in values
+abbrev pub is_built_in : Text → Bool
+is_built_in version = bytes_eq version (codes "15.0") || bytes_eq version (codes "15.0.0")
+
+-- the files of a folder, if its name is not empty
+abbrev pub values_in_folder : Text → Option NamedValues
+values_in_folder [] = None
+values_in_folder (first ∷ rest) = Some (in_files (folder_files (first ∷ rest)))
+
+-- the values by one of three ways: a version, a folder, four files; or the built-in ones where a subcommand needs none
+abbrev pub values_by : Bool → Option Text → Option Text → OwnFiles → Option NamedValues
+values_by needs_none None None no_file = if needs_none then Some built_in else None
+values_by needs_none (Some version) None no_file = if is_built_in version then Some built_in else None
+values_by needs_none None (Some folder) no_file = values_in_folder folder
+values_by needs_none None None (all_files files) = Some (in_files files)
+values_by needs_none _ _ _ = None
+
+-- `mark` and `chunk` take the built-in values where no way is given
+abbrev pub needs_no_values : Text → Bool
+needs_no_values name = bytes_eq name (codes "mark") || bytes_eq name (codes "chunk")
+
+abbrev pub values_in : Text → List Row → Option NamedValues
+values_in name rows =
+    values_by (needs_no_values name) (first_of (codes "unicode") rows) (first_of (codes "ucd") rows) (own_files_in rows)
 
 -- the text is a 32-bit number in decimal, perhaps after a plus
 abbrev pub is_number : Text → Bool
@@ -161,17 +203,17 @@ engine_in name rows =
     else if bytes_eq name (codes "chunk") then Chunk (limit_in rows) (sizes_in rows) (with_texts_in rows)
     else Replay (kinds_in rows)
 
--- the task of a subcommand, from its options, if its files are named
+-- the task of a subcommand, from its options, if its property values are named
 abbrev pub task_in : Text × List Row → Option Task
-task_in found = option_map (λ files. record {
+task_in found = option_map (λ values. record {
   engine = engine_in found.0 found.1;
-  files = files;
+  values = values;
   profile = profile_in found.1;
   part = part_in found.1;
   sign = sign_in found.1;
   names = names_in found.1;
   texts = texts_in found.1;
-}) (files_in found.1)
+}) (values_in found.0 found.1)
 
 -- the task that the arguments ask for
 abbrev pub task_by : List Text → Option Task

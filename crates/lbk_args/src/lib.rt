@@ -6,10 +6,11 @@ mod one_line;
 mod options;
 mod order;
 mod parsing;
+mod property_values;
 mod sign;
 mod usage;
 
 pub use one_line::OneLine;
-pub use order::{Engine, FileName, FileNames, Order, Part, Sizes, WordsFault};
+pub use order::{Engine, FileName, FileNames, Order, Part, PropertyValues, Sizes, WordsFault};
 pub use parsing::{DEFAULT_LIMIT, parse};
 pub use sign::DEFAULT_SIGN;

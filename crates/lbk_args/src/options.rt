@@ -15,7 +15,7 @@ use clap::{Arg, ArgAction, Command};
 use lbk_feed::LIMIT_MAX;
 use std::alloc::{AllocError, Global};
 
-const VERSION: &str = "0.1.0 (breaks by UAX #14 of Unicode 15.0, words by UAX #29 of Unicode 18.0)";
+const VERSION: &str = "0.2.0 (breaks by UAX #14 of Unicode 15.0, words by UAX #29 of Unicode 18.0)";
 
 const ABOUT: &str = "\
 Finds where a text may break and where it must, and says which rule of UAX #14
@@ -23,30 +23,30 @@ decided. A text is a file, or standard input. Without arguments it runs
 `show` on standard input, with small sample data.";
 
 const EXAMPLES: &str = "\
-FOLDER has the Unicode Character Database 15.0. Without --ucd, pass all four
-files:
-  --line-break LineBreak.txt --east-asian EastAsianWidth.txt
-  --category DerivedGeneralCategory.txt --emoji emoji-data.txt
+The property values are those of Unicode 15.0, built in: mark and chunk use them
+without an option, the other subcommands with --unicode 15.0. To read them from
+files, pass --ucd and the folder of the Unicode Character Database 15.0, or the
+options of all four files.
 
 Examples:
-  lbk mark --ucd FOLDER text.txt                     the text with its breaks
-  lbk show --ucd FOLDER < text.txt                   a line for each paragraph
-  lbk segment --ucd FOLDER --limit 1000000 text.txt  the breaks as byte offsets
-  lbk chunk --ucd FOLDER --most 500 text.txt         its chunks for search
-  lbk replay --ucd FOLDER LineBreakTest.txt          the lines that differ
+  lbk mark text.txt                               the text with its breaks
+  lbk chunk --most 500 text.txt                   its chunks for search
+  lbk show --unicode 15.0 < text.txt              a line for each paragraph
+  lbk segment --unicode 15.0 text.txt             the breaks as byte offsets
+  lbk replay --unicode 15.0 LineBreakTest.txt     the lines that differ
 
 Exit status: 0 done, 1 a file or text refused, or I/O failed, 2 invalid
 arguments, 3 replay found lines that differ or that it cannot read.";
 
-const MARK_USAGE: &str = "lbk mark --ucd <FOLDER> [OPTIONS] [FILE]...";
+const MARK_USAGE: &str = "lbk mark [OPTIONS] [FILE]...";
 
-const SHOW_USAGE: &str = "lbk show --ucd <FOLDER> [OPTIONS] [FILE]...";
+const SHOW_USAGE: &str = "lbk show --unicode 15.0 [OPTIONS] [FILE]...";
 
-const SEGMENT_USAGE: &str = "lbk segment --ucd <FOLDER> [OPTIONS] [FILE]...";
+const SEGMENT_USAGE: &str = "lbk segment --unicode 15.0 [OPTIONS] [FILE]...";
 
-const CHUNK_USAGE: &str = "lbk chunk --ucd <FOLDER> --most <NUMBER> [OPTIONS] [FILE]...";
+const CHUNK_USAGE: &str = "lbk chunk --most <NUMBER> [OPTIONS] [FILE]...";
 
-const REPLAY_USAGE: &str = "lbk replay --ucd <FOLDER> [OPTIONS] [FILE]...";
+const REPLAY_USAGE: &str = "lbk replay --unicode 15.0 [OPTIONS] [FILE]...";
 
 const MARK_ABOUT: &str = "Writes the text with ÷ at each position where a line may end";
 
@@ -61,13 +61,13 @@ const REPLAY_ABOUT: &str = "Compares break tests with the rules, and counts what
 const MARK_AFTER: &str = "\
 The text is otherwise unchanged: where a line must end, it has its own line end.
 A text that ends without a line end gets one. Example:
-  $ printf 'ab cd' | lbk mark --ucd FOLDER
+  $ printf 'ab cd' | lbk mark
   ab ÷cd";
 
 const SHOW_AFTER: &str = "\
 A mark is before and after each character: × no break, ÷ break allowed,
 ! break required. Example:
-  $ printf 'ab cd' | lbk show --ucd FOLDER
+  $ printf 'ab cd' | lbk show --unicode 15.0
   × 0061 × 0062 × 0020 ÷ 0063 × 0064 !\t# 2 28 7 18 28 3";
 
 const SEGMENT_AFTER: &str = "\
@@ -76,7 +76,7 @@ allowed break (kind May) or a required one (kind Must), and `W start end` a
 word. Offsets count bytes of the whole text. Adjacent ranges, such as
 `--to 1000` and `--from 1000`, together write what the whole text writes.
 Example:
-  $ printf 'ab cd' | lbk segment --ucd FOLDER
+  $ printf 'ab cd' | lbk segment --unicode 15.0
   P 0 5
   S 0 3 May 18
   S 3 5 Must 3
@@ -90,10 +90,10 @@ a required break, once it has --least new bytes. Text without a break within
 the limits becomes one longer chunk. Offsets count bytes of the whole text;
 --from and --to still read all of it. With --text each chunk is a JSON object on
 a line. Examples:
-  $ printf 'ab cd' | lbk chunk --ucd FOLDER --most 4
+  $ printf 'ab cd' | lbk chunk --most 4
   C 0 3 1 May 18
   C 3 5 1 Must 3
-  $ printf 'ab cd' | lbk chunk --ucd FOLDER --most 4 --text
+  $ printf 'ab cd' | lbk chunk --most 4 --text
   {\"start\":0,\"end\":3,\"words\":1,\"text\":\"ab \"}
   {\"start\":3,\"end\":5,\"words\":1,\"text\":\"cd\"}";
 
@@ -102,7 +102,7 @@ const REPLAY_AFTER: &str = "\
 with the file's mark, the rules' mark, and the rule. `R line byte` is a line
 with a syntax error at that byte, `R line long` one that is too long.
 `T lines agreed differed refused` is the last line. Example:
-  $ printf '× 0061 ÷ 0062 ÷\\n' | lbk replay --ucd FOLDER
+  $ printf '× 0061 ÷ 0062 ÷\\n' | lbk replay --unicode 15.0
   D 1 1 ÷ × 28
   T 1 0 1 0";
 
@@ -235,13 +235,15 @@ fn described<'a>(command: Made<'a>, usage: &'a str, about: &'a str, after: &'a s
     )
 }
 
-/// A subcommand with the options for the folder and the four files.
+/// A subcommand with the options for the property values.
 fn with_files<'a>(alloc: Global, name: &'a str) -> Made<'a>
     ensures { IsMade (files_app name.entry.now) result }
 {
+    let version = "15.0, the built-in property values";
+    let version = value_option(alloc, "unicode", "VERSION", version);
+    let command = with_option(Ok(Command::new(alloc, name)), version);
     let folder = "The folder with the four files below";
-    let folder = value_option(alloc, "ucd", "FOLDER", folder);
-    let command = with_option(Ok(Command::new(alloc, name)), folder);
+    let command = with_option(command, value_option(alloc, "ucd", "FOLDER", folder));
     let classes = "LineBreak.txt, the classes of characters";
     let command = with_option(command, value_option(alloc, "line-break", "FILE", classes));
     let widths = "EastAsianWidth.txt, the widths";

@@ -20,6 +20,15 @@ pub struct FileNames<'a> {
     pub emoji: FileName<'a>,
 }
 
+/// Where the property values come from.
+#[derive(Clone, Copy, Debug)]
+pub enum PropertyValues<'a> {
+    /// Those of Unicode 15.0.0 that the program has built in.
+    BuiltIn,
+    /// Four property files.
+    Files(FileNames<'a>),
+}
+
 /// The engine to run, with its own options.
 #[derive(Clone, Copy, Debug, PartialEq, Eq)]
 pub enum Engine {
@@ -74,7 +83,7 @@ pub struct Part {
 #[derive(Debug, Drop)]
 pub struct Order<'a> {
     pub engine: Engine,
-    pub files: FileNames<'a>,
+    pub values: PropertyValues<'a>,
     pub profile: Profile,
     /// The range of passages in each text; all of them without one.
     pub part: Option<Part>,

@@ -1,20 +1,19 @@
 //! Parses arguments into a task.
 
-ghost use Rattle.std.specs.Prelude.{◌≡◌, [], ◌∷◌, ◌/◌, None, Some, IfOk, IfErr, MatchOption, MatchResult, OnOk, codes};
+ghost use Rattle.std.specs.Prelude.{◌≡◌, [], ◌∷◌, ◌/◌, Some, IfOk, IfErr, MatchOption, MatchResult, OnOk, codes};
 ghost use Rattle.std.specs.Prelude.{is_some, map, not, option_map};
 ghost use Rattle.clap.specs.Words.{first_of, found_of, kind_of, one_of, rows_of};
 ghost use Rattle.clap.specs.declared.error.kind.ErrorKind.{ErrorKind};
 ghost use Rattle.lbk_args.specs.Accepted.{AreAccepted, faults_of, are_sizes, is_range, task_fault};
-ghost use Rattle.lbk_args.specs.Task.{Task, engine_in, files_in, files_of_names, flag_in, limit_in, named_folder};
-ghost use Rattle.lbk_args.specs.Task.{sizes_by, sizes_in};
-ghost use Rattle.lbk_args.specs.Task.{named_in, named_of, number_or, own_or_folder, part_in, profile_in, sign_in};
-ghost use Rattle.lbk_args.specs.Task.{task_by, task_in, task_of, texts_in};
+ghost use Rattle.lbk_args.specs.Task.{Task, engine_in, flag_in, limit_in, number_or, part_in, profile_in, sign_in};
+ghost use Rattle.lbk_args.specs.Task.{sizes_by, sizes_in, task_by, task_in, task_of, texts_in};
 ghost use Rattle.lbk_args.specs.PlainWords.{IsPlainFor};
 ghost use Rattle.lbk_args.specs.Sign.{is_sign};
 ghost use Rattle.lbk_args.specs.Refusal.{IsMistake, IsRefusalBy};
 
 use super::options::{command, usage_of};
-use super::order::{Engine, FileName, FileNames, Order, Part, Sizes, WordsFault};
+use super::order::{Engine, Order, Part, Sizes, WordsFault};
+use super::property_values::{cause, values};
 use super::sign::{DEFAULT_SIGN, is_sign};
 use super::usage::usage_text;
 use clap::error::ErrorKind;
@@ -24,15 +23,6 @@ use std::alloc::{AllocError, Global};
 
 /// The default of the most bytes of a paragraph.
 pub const DEFAULT_LIMIT: u32 = 65_536;
-
-/// The message for arguments without property files.
-const UNNAMED: &str = "\
-property files are required: pass --ucd <FOLDER>, or each of
-  --line-break <FILE>
-  --east-asian <FILE>
-  --category <FILE>
-  --emoji <FILE>
-Debian's package unicode-data installs them: --ucd /usr/share/unicode";
 
 /// The message for a range that ends before it begins.
 const TURNED_ROUND: &str = "--from <BYTE> is greater than --to <BYTE>";
@@ -65,25 +55,26 @@ pub fn parse<'a>(alloc: Global, words: &'a [&'a str]) -> Result<Order<'a>, Words
             let Ok(texts) = texts(alloc, given) else {
                 return Err(WordsFault::Memory);
             };
-            accepted(alloc, name, order(name, given, texts))
+            accepted(alloc, name, order(name, given, texts), cause(given))
         }
         Err(error) => Err(refusal(alloc, words, &error)),
     }
 }
 
-/// A task, if the property files are named, its range does not end before it begins, its sign is valid, and so are the
-/// sizes of its chunks.
+/// A task, if its property values are named, its range does not end before it begins, its sign is valid, and so are the
+/// sizes of its chunks. `cause` says what is wrong with the values.
 fn accepted<'a>(
     alloc: Global,
     name: &str,
     order: Option<Order<'a>>,
+    cause: &str,
 ) -> Result<Order<'a>, WordsFault>
     ensures order { IfOk result (λ made. order.entry ≡ Some made) }
     ensures clean { OnOk result (task_fault (option_map task_of order.entry) ≡ []) }
     ensures refused { IfErr result (IsRefusalBy (task_fault (option_map task_of order.entry))) }
 {
     let Some(order) = order else {
-        return Err(mistake(alloc, name, UNNAMED));
+        return Err(mistake(alloc, name, cause));
     };
     if !is_range(order.part) {
         return Err(mistake(alloc, name, TURNED_ROUND));
@@ -123,53 +114,21 @@ fn is_range(part: Option<Part>) -> bool
     }
 }
 
-/// The task of a subcommand for these texts, from its options; none if a property file is not named.
+/// The task of a subcommand for these texts, from its options; none if they name no property values, or in two ways.
 fn order<'a>(name: &str, given: &ArgMatches<'a>, texts: Vec<&'a str>) -> Option<Order<'a>>
     requires { map (λ name. name.now) texts.items ≡ texts_in (rows_of (found_of given.now)) }
     ensures { option_map task_of result ≡ task_in (name.now, rows_of (found_of given.now)) }
 {
-    let files = files(given)?;
+    let values = values(name, given)?;
     Some(Order {
         engine: engine(name, given),
-        files,
+        values,
         profile: profile(given),
         part: part(given),
         sign: sign(given),
         names: flag(given, "names"),
         texts,
     })
-}
-
-/// The four files, if each is named.
-fn files<'a>(given: &ArgMatches<'a>) -> Option<FileNames<'a>>
-    ensures { option_map files_of_names result ≡ files_in (rows_of (found_of given.now)) }
-{
-    Some(FileNames {
-        line_break: file(given, "line-break")?,
-        east_asian: file(given, "east-asian")?,
-        category: file(given, "category")?,
-        emoji: file(given, "emoji")?,
-    })
-}
-
-/// The file of this option, or else that of the folder, if its name is not empty.
-fn file<'a>(given: &ArgMatches<'a>, id: &str) -> Option<FileName<'a>>
-    ensures { option_map named_of result ≡ named_in id.now (rows_of (found_of given.now)) }
-{
-    match text(given, id) {
-        Some(name) => Some(FileName::Given(name)),
-        None => folder(given),
-    }
-}
-
-/// The folder of all files that no option names. An empty name would mean the root.
-fn folder<'a>(given: &ArgMatches<'a>) -> Option<FileName<'a>>
-    ensures { option_map named_of result ≡ named_folder (first_of (codes "ucd") (rows_of (found_of given.now))) }
-{
-    match text(given, "ucd") {
-        Some(name) if !name.is_empty() => Some(FileName::InFolder(name)),
-        _ => None,
-    }
 }
 
 fn engine(name: &str, given: &ArgMatches<'_>) -> Engine
@@ -209,7 +168,8 @@ fn sizes(given: &ArgMatches<'_>) -> Sizes
     }
 }
 
-fn text<'a>(given: &ArgMatches<'a>, id: &str) -> Option<&'a str>
+/// The first value of an option.
+pub(crate) fn text<'a>(given: &ArgMatches<'a>, id: &str) -> Option<&'a str>
     ensures { option_map (λ s. s.now) result ≡ first_of id.now (rows_of (found_of given.now)) }
 {
     given.get_str(id)

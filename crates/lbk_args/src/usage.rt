@@ -63,7 +63,7 @@ fn push_hint_of_file(text: &mut String, words: &[&str]) -> Result<(), AllocError
     match words.first() {
         Some(word) if word.contains(is_of_names) => {
             let name = OneLine(word);
-            write!(text, "\nTo mark a file: lbk mark --ucd FOLDER {name}\n")
+            write!(text, "\nTo mark a file: lbk mark {name}\n")
         }
         _ => Ok(()),
     }

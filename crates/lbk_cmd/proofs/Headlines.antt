@@ -7,13 +7,12 @@ use Rattle.lbk_ucd.specs.declared.tables.Files.{Files}
 use Rattle.lbk_rules.specs.declared.Cell.{Cell}
 use Rattle.lbk_values.specs.declared.profile.Profile.{Profile}
 use Rattle.lbk_rules.specs.Verdict.{verdict_between_in}
-use Rattle.lbk_passage.specs.Breaks.{breaks_from}
 use Rattle.lbk_passage.specs.Marks.{Marked, marks_behind, scalars_of}
 use Rattle.lbk_passage.specs.Passages.{cut_after, ends_passage, passages}
 use Rattle.lbk_passage.proofs.Together.{passages-breaks, passages-end, passages-marks, passages-only, passages-scalars}
 use Rattle.lbk_notation.proofs.Lengths.{says}
 use Rattle.lbk_files.specs.Cells.{AreCellsOf, cell_of_files}
-use Rattle.lbk_cmd.specs.Headline.{ArePassagesOf, IsReadBack}
+use Rattle.lbk_cmd.specs.Headline.{ArePassagesBy, ArePassagesOf, IsReadBack}
 use Rattle.lbk_cmd.specs.Show.{verdicts_of}
 
 abbrev AllScalars : List ℕ → Type 0
@@ -66,20 +65,29 @@ all_read_back (ms ∷ ps) all =
     let parts = both (λ scalar. IsScalar scalar) (scalars_of ms) (flat_map scalars_of ps) all in
     (read_back ms parts.0, all_read_back ps parts.1)
 
-pub headline : (files : Files) (profile : Profile) (cell : ℕ → Cell) (text : List ℕ) → AreCellsOf files cell
-    → AllScalars text → ArePassagesOf files profile text (passages profile cell text)
-headline files profile cell text cells all =
-    let same = marks-same profile cell (cell_of_files files) [] text cells tt all in
+pub headline_by : (cell : ℕ → Cell) (profile : Profile) (text : List ℕ) → AllScalars text
+    → ArePassagesBy cell profile text (passages profile cell text)
+headline_by cell profile text all =
     let joined = passages-scalars profile cell text in
     record {
       joined = joined;
-      marked = passages-marks profile cell text ∙ same;
+      marked = passages-marks profile cell text;
       cut = passages-end profile cell text;
-      broken = passages-breaks profile cell text ∙ ap (breaks_from 0) same;
+      broken = passages-breaks profile cell text;
       lines = all_read_back (passages profile cell text) (subst AllScalars (sym joined) all);
     }
+
+pub headline_only_by : (cell : ℕ → Cell) (profile : Profile) (text : List ℕ) (other : List (List Marked))
+    → ArePassagesBy cell profile text other → other ≡ passages profile cell text
+headline_only_by cell profile text other are = passages-only profile cell text other are.marked are.cut
+
+pub headline : (files : Files) (profile : Profile) (cell : ℕ → Cell) (text : List ℕ) → AreCellsOf files cell
+    → AllScalars text → ArePassagesOf files profile text (passages profile cell text)
+headline files profile cell text cells all =
+    subst (ArePassagesOf files profile text) (sym (passages-same files profile cell text cells all))
+    (headline_by (cell_of_files files) profile text all)
 
 pub headline_only : (files : Files) (profile : Profile) (cell : ℕ → Cell) (text : List ℕ) (other : List (List Marked))
     → AreCellsOf files cell → AllScalars text → ArePassagesOf files profile text other → other ≡ passages profile cell text
 headline_only files profile cell text other cells all are =
-    passages-only profile cell text other (are.marked ∙ sym (marks-same profile cell (cell_of_files files) [] text cells tt all)) are.cut
+    headline_only_by (cell_of_files files) profile text other are ∙ sym (passages-same files profile cell text cells all)

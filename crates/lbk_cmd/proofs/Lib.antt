@@ -4,6 +4,7 @@ pub mod Breaking
 pub mod InMemory
 pub mod ReadingBack
 pub mod Signing
+pub mod Placing
 pub mod Running
 pub mod Runs
 pub mod Stopping

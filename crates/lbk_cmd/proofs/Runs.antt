@@ -3,7 +3,7 @@ use Rattle.std.proofs.Common.{◌≡◌, ℕ, Bool, true, false, suc, List, [], 
 use Rattle.std.specs.Prelude.{◌==◌}
 use Rattle.std.specs.Borrow.{Bor}
 use Rattle.lbk_feed.specs.declared.traits.Source.{Ghosts as SourceMembers}
-use Rattle.lbk_rules.specs.CellPages.{page_cell}
+use Rattle.lbk_files.specs.TaskCells.{cell_of_task}
 use Rattle.lbk_values.specs.declared.profile.Profile.{Profile}
 use Rattle.lbk_args.specs.declared.order.Engine.{Engine}
 use Rattle.lbk_args.specs.declared.order.Part.{Part}
@@ -23,17 +23,17 @@ use Rattle.lbk_cmd.specs.Titles.{RunsNamed}
 
 -- an engine that runs on what is ready for a task performs it
 pub ready_performs : {F : Type 0} (source : SourceMembers F) (file text : List ℕ → Option (Option (List ℕ))) (task : Task) (counts counts' : LoadCounts) (ready : Ready)
-    (before after : Standing) → IsReadyFor file task ready
+    (before after : Standing) → IsReadyFor file task counts counts' ready
     → Reads source text (RunsReady ready) (map (λ name. name.now) ready.texts.items) before after
     → Performs source file text task counts counts' before after
 ready_performs source file text task counts counts' ready before after is reads = inr (
-  page_cell ready.cells,
+  cell_of_task ready.cells,
   is.cells,
-  subst (λ (part : Option Part). Reads source text (RunsNamed task.names (RunsOver part task.engine task.sign task.profile (page_cell ready.cells))) task.texts before after) is.part
-      (subst (λ (engine : Engine). Reads source text (RunsNamed task.names (RunsOver ready.part engine task.sign task.profile (page_cell ready.cells))) task.texts before after) is.engine
-      (subst (λ (mark : List ℕ). Reads source text (RunsNamed task.names (RunsOver ready.part ready.engine mark task.profile (page_cell ready.cells))) task.texts before after) is.sign
-      (subst (λ (profile : Profile). Reads source text (RunsNamed task.names (RunsOver ready.part ready.engine ready.sign.now profile (page_cell ready.cells))) task.texts before after) is.profile
-      (subst (λ (names : Bool). Reads source text (RunsNamed names (RunsOver ready.part ready.engine ready.sign.now ready.profile (page_cell ready.cells))) task.texts before after) is.names
+  subst (λ (part : Option Part). Reads source text (RunsNamed task.names (RunsOver part task.engine task.sign task.profile (cell_of_task ready.cells))) task.texts before after) is.part
+      (subst (λ (engine : Engine). Reads source text (RunsNamed task.names (RunsOver ready.part engine task.sign task.profile (cell_of_task ready.cells))) task.texts before after) is.engine
+      (subst (λ (mark : List ℕ). Reads source text (RunsNamed task.names (RunsOver ready.part ready.engine mark task.profile (cell_of_task ready.cells))) task.texts before after) is.sign
+      (subst (λ (profile : Profile). Reads source text (RunsNamed task.names (RunsOver ready.part ready.engine ready.sign.now profile (cell_of_task ready.cells))) task.texts before after) is.profile
+      (subst (λ (names : Bool). Reads source text (RunsNamed names (RunsOver ready.part ready.engine ready.sign.now ready.profile (cell_of_task ready.cells))) task.texts before after) is.names
       (subst (λ (texts : List (List ℕ)). Reads source text (RunsReady ready) texts before after) is.texts reads))))),
 )
 

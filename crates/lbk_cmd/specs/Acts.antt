@@ -19,7 +19,6 @@ use Rattle.lbk_cmd.specs.Chunk.{AreLinesOf, chunking, limits_of}
 use Rattle.lbk_chunks.specs.declared.chunk.Limits.{Limits}
 use Rattle.lbk_cmd.specs.Titles.{RunsNamed}
 use Rattle.lbk_cmd.specs.Texts.{lines_from, segment_text, show_text, signed_text}
-use Rattle.lbk_rules.specs.CellPages.{page_cell}
 use Rattle.lbk_rules.specs.declared.Cell.{Cell}
 use Rattle.lbk_values.specs.declared.profile.Profile.{Profile}
 use Rattle.lbk_values.specs.declared.profile.Profile.TheVariants.{First}
@@ -37,10 +36,10 @@ use Rattle.lbk_args.specs.Task.{Task, task_by}
 use Rattle.lbk_files.specs.declared.faults.CellsFault.{CellsFault}
 use Rattle.lbk_files.specs.declared.faults.NotReady.{NotReady}
 use Rattle.lbk_files.specs.SampleFiles.{AreSampleCells, IsSampleFault}
-use Rattle.lbk_files.specs.FileFault.{AreCellsFrom}
-use Rattle.lbk_files.specs.Named.{files_of}
+use Rattle.lbk_files.specs.PropertyValues.{AreCellsBy}
 use Rattle.lbk_files.specs.Ready.{IsStoppedAt, IsStoppedByWords}
 use Rattle.lbk_files.specs.Store.{LoadCounts}
+use Rattle.lbk_files.specs.TaskCells.{cell_of_task}
 use Rattle.lbk_files.specs.Taking.{TakesFiles}
 use Rattle.lbk_files.specs.declared.store.Store.{Ghosts as StoreMembers}
 use Rattle.lbk_files.specs.declared.readiness.Ready.{Ready}
@@ -177,17 +176,17 @@ RunsTask task cell = RunsNamed task.names (RunsOver task.part task.engine task.s
 -- the same for an engine that is ready
 abbrev pub RunsReady : Ready → List ℕ → Devices → Devices → Ending → Type 0
 RunsReady ready =
-    RunsNamed ready.names (RunsOver ready.part ready.engine ready.sign.now ready.profile (page_cell ready.cells))
+    RunsNamed ready.names (RunsOver ready.part ready.engine ready.sign.now ready.profile (cell_of_task ready.cells))
 
--- a task: its files stop the run and no text is opened, or its engine runs with its options and profile and the cells
--- of the files, over its texts, or over its range of each
+-- a task: its property values stop the run and no text is opened, or its engine runs with its options and profile and
+-- their cells, over its texts, or over its range of each
 abbrev pub Performs : {F : Type 0} → SourceMembers F → (List ℕ → Option (Option (List ℕ)))
     → (List ℕ → Option (Option (List ℕ))) → Task
     → LoadCounts → LoadCounts → Standing → Standing → Type 0
 Performs source file text task counts counts' before after =
     (StopsBefore (IsStoppedAt file task counts counts') before.devices after.devices after.ending
     × (after.refused ≡ before.refused))
-    ⊎ ((cell : ℕ → Cell) × AreCellsFrom (files_of file task.files) cell
+    ⊎ ((cell : ℕ → Cell) × AreCellsBy file task.values counts counts' cell
     × Reads source text (RunsTask task cell) task.texts before after)
 
 -- a task, if no texts can be opened
@@ -195,7 +194,7 @@ abbrev pub PerformsAlone : (List ℕ → Option (Option (List ℕ))) → Task �
     → Ending → Type 0
 PerformsAlone file task counts counts' before after ending =
     StopsBefore (IsStoppedAt file task counts counts') before after ending
-    ⊎ ((cell : ℕ → Cell) × AreCellsFrom (files_of file task.files) cell
+    ⊎ ((cell : ℕ → Cell) × AreCellsBy file task.values counts counts' cell
     × ReadsAlone (RunsTask task cell) task.texts before after ending)
 
 -- arguments that ask for no task: none, or some that are not accepted

@@ -20,6 +20,8 @@ use Rattle.lbk_args.specs.declared.order.Engine.TheVariants.{Mark, Show, Segment
 use Rattle.lbk_args.specs.declared.order.FileName.{FileName}
 use Rattle.lbk_args.specs.declared.order.FileName.TheVariants.{Given, InFolder}
 use Rattle.lbk_args.specs.declared.order.FileNames.{FileNames}
+use Rattle.lbk_args.specs.declared.order.PropertyValues.{PropertyValues}
+use Rattle.lbk_args.specs.declared.order.PropertyValues.TheVariants.{BuiltIn, Files}
 use Rattle.lbk_files.specs.declared.faults.CellsFault.TheVariants as cells
 use Rattle.lbk_ucd.specs.ClaimTexts.{remedy_text}
 use Rattle.lbk_files.specs.declared.ClaimCause.{ClaimCause}
@@ -59,21 +61,19 @@ abbrev pub word_text : FileName → Which → List ℕ
 word_text (Given name) which = one_line name.now
 word_text (InFolder folder) which = one_line folder.now ++ (47 ∷ name_in_database which)
 
+-- built-in values have no files
+abbrev pub named_text : PropertyValues → Which → List ℕ
+named_text BuiltIn which = file_name which
+named_text (Files files) which = word_text (name_in files which) which
+
 abbrev pub file_text : Caller → Which → List ℕ
 file_text Call which = file_name which
 file_text NoWords which = codes "sample " ++ file_name which
-file_text (Words engine files) which = word_text (name_in files which) which
-
--- the option that names any other file
-abbrev pub option_of : Which → List ℕ
-option_of LineBreak = codes "--line-break"
-option_of EastAsianWidth = codes "--east-asian"
-option_of Category = codes "--category"
-option_of Emoji = codes "--emoji"
+file_text (Words engine values) which = named_text values which
 
 abbrev pub advice : Caller → Which → ClaimCause → List ℕ
-advice (Words engine files) which Changed = codes "; download it again, or pass your own file by " ++ option_of which
-advice (Words engine files) which cause = codes "; " ++ remedy_text
+advice (Words engine values) which Changed = codes "; download it again, or pass all four files by their own options"
+advice (Words engine values) which cause = codes "; " ++ remedy_text
 advice _ which cause = []
 
 -- the text with a name
@@ -104,7 +104,7 @@ limit_of_engine (Replay kinds) = None
 abbrev pub limit_of : Caller → Option ℕ
 limit_of Call = None
 limit_of NoWords = Some default_limit
-limit_of (Words engine files) = limit_of_engine engine
+limit_of (Words engine values) = limit_of_engine engine
 
 -- the greatest limit cannot be raised
 abbrev pub rest_of_limit : ℕ → List ℕ
@@ -159,14 +159,18 @@ abbrev pub folder_of_name : FileName → Option (List ℕ)
 folder_of_name (Given name) = None
 folder_of_name (InFolder folder) = Some folder.now
 
+abbrev pub named_folder : PropertyValues → Which → Option (List ℕ)
+named_folder BuiltIn which = None
+named_folder (Files files) which = folder_of_name (name_in files which)
+
 abbrev pub folder_of : Caller → Which → Option (List ℕ)
-folder_of (Words engine files) which = folder_of_name (name_in files which)
+folder_of (Words engine values) which = named_folder values which
 folder_of _ which = None
 
 -- what to do if a file in a folder cannot be read; an archive is no folder
 abbrev pub advice_of_folder : List ℕ → List ℕ
 advice_of_folder folder = if ends_with nat_eq folder (codes ".zip") then codes "; unpack it, and pass the folder"
-    else codes "; install Debian's package unicode-data, and pass --ucd /usr/share/unicode"
+    else codes "; --unicode 15.0 needs no files"
 
 abbrev pub advice_of : Option (List ℕ) → List ℕ
 advice_of None = []

@@ -20,7 +20,7 @@ use lbk_files::{Store, prepare, read_order, sample_cells};
 use lbk_rules::Profile;
 use std::alloc::Global;
 
-/// Runs the engine that the arguments after the program's name ask for, with the property files that they name, over
+/// Runs the engine that the arguments after the program's name ask for, by the property values that they name, over
 /// the text of the reader, to the writer. Without arguments it runs `show` over that text with the sample files, in the
 /// first profile, with paragraphs of at most 65,536 bytes.
 ///
@@ -87,7 +87,7 @@ pub fn run_over_texts<'a, S: Store, T: Texts<'a>, R: Source, W: Sink>(
     }
 }
 
-/// Loads the files that a task names, and runs its engine over its texts.
+/// Prepares the property values of a task, and runs its engine over its texts.
 #[tactic(none)]
 fn perform_order<'a, S: Store, T: Texts<'a>, R: Source, W: Sink>(
     alloc: Global,

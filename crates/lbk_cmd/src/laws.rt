@@ -20,7 +20,8 @@ ghost use Rattle.lbk_passage.specs.State.{State};
 ghost use Rattle.lbk_passage.specs.declared.passage.Passage.{Passage};
 ghost use Rattle.lbk_passage.specs.Lines.{segmented_passage};
 ghost use Rattle.lbk_files.specs.Cells.{AreCellsOf};
-ghost use Rattle.lbk_cmd.specs.Headline.{ArePassagesOf};
+ghost use Rattle.lbk_cmd.specs.Headline.{ArePassagesBy, ArePassagesOf};
+ghost use Rattle.lbk_rules.specs.Unicode.{unicode_cell};
 ghost use Rattle.lbk_cmd.specs.Owned.{AreRead, Owned, lent_as, owned_passage};
 ghost use Rattle.lbk_cmd.specs.Engines.{lines_of};
 ghost use Rattle.lbk_cmd.specs.Parts.{DiffersInLabel, lines_in, shown_in};
@@ -54,6 +55,14 @@ pub fn headline()
         → AreCellsOf files cell → AllByRecursion (λ scalar. IsScalar scalar) text
         → ArePassagesOf files profile text other
         → other ≡ passages profile cell text }
+{}
+
+/// The same for the cells of Unicode 15.0 that are built in.
+pub fn unicode_headline()
+    ensures holds { (profile : Profile) (text : List ℕ) → AllByRecursion (λ scalar. IsScalar scalar) text
+        → ArePassagesBy unicode_cell profile text (passages profile unicode_cell text) }
+    ensures only { (profile : Profile) (text : List ℕ) (other : List (List Marked))
+        → ArePassagesBy unicode_cell profile text other → other ≡ passages profile unicode_cell text }
 {}
 
 /// The result of `read_passages` depends only on the files and the bytes of the text, not on how the reader cuts them;

@@ -3,14 +3,14 @@
 ghost use Rattle.std.specs.Prelude.{◌≡◌, Some, option_map};
 ghost use Rattle.std.specs.Fmt.{DisplaysOnOk};
 ghost use Rattle.lbk_cmd.specs.Message.{at_byte, file_text, folder_of, input_text, invalid_text, limit_of};
-ghost use Rattle.lbk_cmd.specs.Message.{message_text, name_in, not_utf8_text, of_call, option_of, output_text};
+ghost use Rattle.lbk_cmd.specs.Message.{message_text, name_in, named_folder, named_text, not_utf8_text, of_call, output_text};
 ghost use Rattle.lbk_cmd.specs.Message.{paragraph_text, passage_text, text_of_input, text_of_name, than_limit};
 ghost use Rattle.lbk_cmd.specs.Message.{too_long_text, unloaded_text, unpublished_text, unread_text, unwritten_text};
 
 use super::ending::RunFault;
 use super::faults::CmdFault;
 use super::parts_of_messages::{FolderAdvice, Input, Name, Reason, Why};
-use lbk_args::{DEFAULT_LIMIT, Engine, FileName, FileNames};
+use lbk_args::{DEFAULT_LIMIT, Engine, FileName, FileNames, PropertyValues};
 use lbk_feed::TEXT_MAX;
 use lbk_files::{CellsFault, ClaimCause, NamedFault};
 use lbk_notation::ReplayFault;
@@ -28,7 +28,7 @@ pub enum Caller<'a> {
     /// The program with arguments, which ask for this.
     Words {
         engine: Engine,
-        files: FileNames<'a>,
+        values: PropertyValues<'a>,
     },
 }
 
@@ -90,10 +90,7 @@ impl<'a> Message<'a> {
         let name = match self.caller {
             Caller::Call => Name::Plain(which),
             Caller::NoWords => Name::Sample(which),
-            Caller::Words { files, .. } => match name_in(files, which) {
-                FileName::Given(name) => Name::Given(name),
-                FileName::InFolder(folder) => Name::InFolder(folder, which),
-            },
+            Caller::Words { values, .. } => named(values, which),
         };
         NamedFault { fault, name }
     }
@@ -103,10 +100,7 @@ impl<'a> Message<'a> {
         ensures { option_map (λ folder. folder.now) result ≡ folder_of self.now.caller which }
     {
         match self.caller {
-            Caller::Words { files, .. } => match name_in(files, which) {
-                FileName::InFolder(folder) => Some(folder),
-                FileName::Given(_) => None,
-            },
+            Caller::Words { values, .. } => folder(values, which),
             Caller::Call | Caller::NoWords => None,
         }
     }
@@ -153,8 +147,7 @@ impl<'a> Message<'a> {
         };
         match cause {
             ClaimCause::Changed => {
-                let option = option_of(which);
-                write!(f, "; download it again, or pass your own file by {option}")
+                f.write_str("; download it again, or pass all four files by their own options")
             }
             ClaimCause::Title | ClaimCause::Version(_) => write!(f, "; {}", remedy_text()),
         }
@@ -268,15 +261,29 @@ fn than_limit<W: fmt::Write>(f: &mut fmt::Formatter<W>, limit: Option<u32>) -> f
     }
 }
 
-/// The option that names any other file.
-fn option_of(which: Which) -> &'static str
-    ensures { result.now ≡ option_of which }
+/// A property file, by the arguments' name for it. Built-in values have no files.
+fn named<'a>(values: PropertyValues<'a>, which: Which) -> Name<'a>
+    ensures { text_of_name result ≡ named_text values.entry which }
 {
-    match which {
-        Which::LineBreak => "--line-break",
-        Which::EastAsianWidth => "--east-asian",
-        Which::Category => "--category",
-        Which::Emoji => "--emoji",
+    match values {
+        PropertyValues::BuiltIn => Name::Plain(which),
+        PropertyValues::Files(files) => match name_in(files, which) {
+            FileName::Given(name) => Name::Given(name),
+            FileName::InFolder(folder) => Name::InFolder(folder, which),
+        },
+    }
+}
+
+/// The folder of a property file, if the arguments name one.
+fn folder<'a>(values: PropertyValues<'a>, which: Which) -> Option<&'a str>
+    ensures { option_map (λ folder. folder.now) result ≡ named_folder values.entry which }
+{
+    match values {
+        PropertyValues::BuiltIn => None,
+        PropertyValues::Files(files) => match name_in(files, which) {
+            FileName::InFolder(folder) => Some(folder),
+            FileName::Given(_) => None,
+        },
     }
 }
 

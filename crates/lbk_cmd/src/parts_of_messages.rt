@@ -59,7 +59,7 @@ fn advice_of_folder(folder: &str) -> &'static str
     if folder.as_bytes().ends_with(b".zip") {
         "; unpack it, and pass the folder"
     } else {
-        "; install Debian's package unicode-data, and pass --ucd /usr/share/unicode"
+        "; --unicode 15.0 needs no files"
     }
 }
 

@@ -1,7 +1,7 @@
 //! Runs an engine over the texts.
 
 ghost use Rattle.std.specs.Prelude.{◌≡◌, map};
-ghost use Rattle.lbk_rules.specs.CellPages.{page_cell};
+ghost use Rattle.lbk_files.specs.TaskCells.{cell_of_task};
 ghost use Rattle.lbk_cmd.specs.Acts.{ChunksEnd, LinesEnd, RunsOver, RunsReady, form_of};
 ghost use Rattle.lbk_cmd.specs.Chunk.{limits_of};
 ghost use Rattle.lbk_cmd.specs.Devices.{devices_of};
@@ -16,8 +16,9 @@ use super::titles::write_title;
 use lbk_args::{Engine, Sizes};
 use lbk_chunks::Limits;
 use lbk_feed::{Sink, Source};
-use lbk_files::{LoadFault, Opens, Ready};
+use lbk_files::{LoadFault, Opens, Ready, TaskCells};
 use lbk_notation::{Form, replay};
+use lbk_rules::CellSource;
 use std::alloc::Global;
 
 /// Runs the engine over each of its texts in turn, or over that of the reader if it names none.
@@ -111,20 +112,39 @@ fn perform_one<R: Source, W: Sink>(
     reader: &mut R,
     writer: &mut W,
 ) -> Ending
-    ensures { RunsOver ready.now.part ready.now.engine ready.now.sign.now ready.now.profile (page_cell ready.now.cells)
+    ensures { RunsOver ready.now.part ready.now.engine ready.now.sign.now ready.now.profile (cell_of_task ready.now.cells)
+        (devices_of R.Source W.Sink reader.old writer.old) (devices_of R.Source W.Sink reader.new writer.new) result }
+{
+    match &ready.cells {
+        TaskCells::BuiltIn(cells) => perform_by(alloc, ready, cells, reader, writer),
+        TaskCells::OfFiles(pages) => perform_by(alloc, ready, pages, reader, writer),
+    }
+}
+
+/// Runs the engine over one text, with these cells. It is compiled for each type of cells, so that no character asks which
+/// type they have.
+#[tactic(none)]
+fn perform_by<R: Source, W: Sink, C: CellSource>(
+    alloc: Global,
+    ready: &Ready<'_>,
+    cells: &C,
+    reader: &mut R,
+    writer: &mut W,
+) -> Ending
+    ensures { RunsOver ready.now.part ready.now.engine ready.now.sign.now ready.now.profile (C.cell_of cells.now)
         (devices_of R.Source W.Sink reader.old writer.old) (devices_of R.Source W.Sink reader.new writer.new) result }
 {
     match ready.engine {
         Engine::Mark { limit } => {
             let lines = Lines::Text(TextLines::Signed { sign: ready.sign });
-            perform_lines(alloc, lines, limit, ready, reader, writer)
+            perform_lines(alloc, lines, limit, ready, cells, reader, writer)
         }
         Engine::Show { limit } => {
             let lines = Lines::Text(TextLines::Shown);
-            perform_lines(alloc, lines, limit, ready, reader, writer)
+            perform_lines(alloc, lines, limit, ready, cells, reader, writer)
         }
         Engine::Segment { limit } => {
-            perform_lines(alloc, Lines::Segmented, limit, ready, reader, writer)
+            perform_lines(alloc, Lines::Segmented, limit, ready, cells, reader, writer)
         }
         Engine::Chunk {
             limit,
@@ -133,13 +153,13 @@ fn perform_one<R: Source, W: Sink>(
         } => {
             let range = ready.part;
             let asked = Asked { range, texts };
-            perform_chunk(alloc, asked, sizes, limit, ready, reader, writer)
+            perform_chunk(alloc, asked, sizes, limit, ready, cells, reader, writer)
         }
         Engine::Replay { kinds } => Ending::of_replay(replay(
             alloc,
             reader,
             writer,
-            &ready.cells,
+            cells,
             form(kinds),
             ready.profile,
         )),
@@ -148,16 +168,17 @@ fn perform_one<R: Source, W: Sink>(
 
 /// Writes the chunks of one text, as the task asks for them.
 #[tactic(none)]
-fn perform_chunk<R: Source, W: Sink>(
+fn perform_chunk<R: Source, W: Sink, C: CellSource>(
     alloc: Global,
     asked: Asked,
     sizes: Sizes,
     limit: u32,
     ready: &Ready<'_>,
+    cells: &C,
     reader: &mut R,
     writer: &mut W,
 ) -> Ending
-    ensures { ChunksEnd asked (limits_of sizes) (page_cell ready.now.cells) limit ready.now.profile
+    ensures { ChunksEnd asked (limits_of sizes) (C.cell_of cells.now) limit ready.now.profile
         (devices_of R.Source W.Sink reader.old writer.old) (devices_of R.Source W.Sink reader.new writer.new) result }
 {
     Ending::of_text(chunk(
@@ -166,7 +187,7 @@ fn perform_chunk<R: Source, W: Sink>(
         asked,
         reader,
         writer,
-        &ready.cells,
+        cells,
         limit,
         ready.profile,
     ))
@@ -186,19 +207,20 @@ fn limits(sizes: Sizes) -> Limits
 
 /// Writes these lines for the passages of one text, or for those that begin in its range of it.
 #[tactic(none)]
-fn perform_lines<R: Source, W: Sink>(
+fn perform_lines<R: Source, W: Sink, C: CellSource>(
     alloc: Global,
     lines: Lines<'_>,
     limit: u32,
     ready: &Ready<'_>,
+    cells: &C,
     reader: &mut R,
     writer: &mut W,
 ) -> Ending
-    ensures { LinesEnd ready.now.part lines.entry (page_cell ready.now.cells) limit ready.now.profile
+    ensures { LinesEnd ready.now.part lines.entry (C.cell_of cells.now) limit ready.now.profile
         (devices_of R.Source W.Sink reader.old writer.old) (devices_of R.Source W.Sink reader.new writer.new) result }
 {
     let how = Breaking {
-        cells: &ready.cells,
+        cells,
         limit,
         profile: ready.profile,
     };

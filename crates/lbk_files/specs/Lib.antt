@@ -8,6 +8,8 @@ pub mod FileStore
 pub mod FileFault
 pub mod Taking
 pub mod Named
+pub mod PropertyValues
+pub mod TaskCells
 pub mod SampleFiles
 pub mod Ready
 pub mod FaultText

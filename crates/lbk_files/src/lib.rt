@@ -13,6 +13,7 @@ mod named_fault;
 mod places;
 mod readiness;
 mod store;
+mod task_cells;
 
 pub use cells::{SAMPLE_FILES, read_cells, sample_cells};
 pub use database::name_in_database;
@@ -25,3 +26,4 @@ pub use memory_store::MemoryStore;
 pub use named_fault::NamedFault;
 pub use readiness::{Ready, prepare, read_order};
 pub use store::{LoadFault, Store};
+pub use task_cells::TaskCells;

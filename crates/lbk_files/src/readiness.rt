@@ -3,22 +3,23 @@
 ghost use Rattle.std.specs.Prelude.{◌≡◌, Some, Err, MatchResult, map};
 ghost use Rattle.lbk_args.specs.Accepted.{AreAccepted};
 ghost use Rattle.lbk_args.specs.PlainWords.{IsPlainFor};
-ghost use Rattle.lbk_args.specs.Task.{Task, files_of_names, task_by, task_of};
-ghost use Rattle.lbk_files.specs.FileFault.{IsFileFault};
-ghost use Rattle.lbk_files.specs.Named.{files_of};
+ghost use Rattle.lbk_args.specs.Task.{Task, task_by, task_of, values_of};
+ghost use Rattle.lbk_files.specs.PropertyValues.{AreCellsBy, IsValuesFault};
 ghost use Rattle.lbk_files.specs.Ready.{IsReadyFor, IsStoppedByWords, IsWantOfMemory};
 ghost use Rattle.lbk_files.specs.Store.{counts_of};
 ghost use Rattle.lbk_files.specs.Taking.{TakesFiles};
+ghost use Rattle.lbk_files.specs.TaskCells.{cell_of_task};
 
 use super::faults::{CellsFault, NotReady};
 use super::loading::load_cells;
 use super::store::Store;
-use lbk_args::{Engine, Order, Part, WordsFault, parse};
-use lbk_rules::{CellPages, Profile};
+use super::task_cells::TaskCells;
+use lbk_args::{Engine, Order, Part, PropertyValues, WordsFault, parse};
+use lbk_rules::{Profile, UnicodeCells};
 use std::alloc::Global;
 
 /// An engine with its options, the profile, the range of passages, the sign of `mark`, whether to write names, the
-/// cells of the files, and the names of the texts.
+/// cells, and the names of the texts.
 #[derive(Drop)]
 pub struct Ready<'a> {
     pub engine: Engine,
@@ -26,7 +27,7 @@ pub struct Ready<'a> {
     pub part: Option<Part>,
     pub sign: &'a str,
     pub names: bool,
-    pub cells: CellPages,
+    pub cells: TaskCells,
     pub texts: Vec<&'a str>,
 }
 
@@ -50,7 +51,8 @@ pub fn read_order<'a>(alloc: Global, words: &'a [&'a str]) -> Result<Order<'a>, 
     }
 }
 
-/// Loads the files that a task names, and reads them.
+/// Prepares a task: loads the files that it names, and reads them, or takes the built-in property values and loads
+/// nothing.
 ///
 /// The error is that of the first step that fails: `Memory` before any load, in a load, or for well-formed files once
 /// all four are loaded.
@@ -59,13 +61,15 @@ pub fn prepare<'a, S: Store>(
     order: Order<'a>,
     store: &mut S,
 ) -> Result<Ready<'a>, CellsFault>
-    ensures made { MatchResult result (IsReadyFor (S.file store.old) (task_of order.entry))
-        (IsFileFault (files_of (S.file store.old) (files_of_names order.entry.files))
+    ensures made { MatchResult result (IsReadyFor (S.file store.old) (task_of order.entry)
+        (counts_of (S.load_count store.old) (S.refusal_count store.old))
+        (counts_of (S.load_count store.new) (S.refusal_count store.new)))
+        (IsValuesFault (S.file store.old) (values_of order.entry.values)
         (counts_of (S.load_count store.old) (S.refusal_count store.old))
         (counts_of (S.load_count store.new) (S.refusal_count store.new))) }
     ensures takes { TakesFiles S.Store store.old store.new (result ≡ Err CellsFault.Memory) }
 {
-    let cells = load_cells(alloc, &order.files, store)?;
+    let cells = task_cells(alloc, &order.values, store)?;
     Ok(Ready {
         engine: order.engine,
         profile: order.profile,
@@ -75,4 +79,27 @@ pub fn prepare<'a, S: Store>(
         cells,
         texts: order.texts,
     })
+}
+
+/// The cells of these property values.
+fn task_cells<S: Store>(
+    alloc: Global,
+    values: &PropertyValues<'_>,
+    store: &mut S,
+) -> Result<TaskCells, CellsFault>
+    ensures made { MatchResult result (λ cells. AreCellsBy (S.file store.old) (values_of values.now)
+        (counts_of (S.load_count store.old) (S.refusal_count store.old))
+        (counts_of (S.load_count store.new) (S.refusal_count store.new)) (cell_of_task cells))
+        (IsValuesFault (S.file store.old) (values_of values.now)
+        (counts_of (S.load_count store.old) (S.refusal_count store.old))
+        (counts_of (S.load_count store.new) (S.refusal_count store.new))) }
+    ensures takes { TakesFiles S.Store store.old store.new (result ≡ Err CellsFault.Memory) }
+{
+    match values {
+        PropertyValues::BuiltIn => Ok(TaskCells::BuiltIn(UnicodeCells)),
+        PropertyValues::Files(names) => match load_cells(alloc, names, store) {
+            Ok(pages) => Ok(TaskCells::OfFiles(pages)),
+            Err(fault) => Err(fault),
+        },
+    }
 }

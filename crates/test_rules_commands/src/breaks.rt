@@ -2,9 +2,10 @@
 //! and with tables, in blocks of all sizes; and of every text of three scalars.
 
 use crate::calls::{Setting, decided, must, same};
+use lbk_bytes::RawBreak;
 use lbk_cmd::SAMPLE_FILES;
-use lbk_passage::{Break, Breaks};
-use lbk_rules::{CellPages, CellSource, Kind, Profile, Rule, Verdict};
+use lbk_passage::{Break, Breaks, RawBreaks};
+use lbk_rules::{CellPages, CellSource, Kind, Profile, Rule, Verdict, verdict_of};
 use std::alloc::{AllocError, Global};
 use std::fmt::Write;
 use std::process::Abort;
@@ -50,6 +51,12 @@ const NO_BREAK: Break = Break {
     rule: Rule::Lb31,
 };
 
+const NO_NUMBERS: RawBreak = RawBreak {
+    at: 0,
+    kind: 0,
+    rule: 0,
+};
+
 /// The sizes of blocks.
 const SIZES: [usize; 4] = [1, 2, 3, 1024];
 
@@ -73,6 +80,25 @@ fn by_blocks<C: CellSource>(
     let mut found = Vec::new(setting.alloc);
     for _ in 0..=text.len() {
         found.extend_from_slice(next_block(&mut breaks, &mut block))?;
+    }
+    Ok(found)
+}
+
+/// All breaks, by their numbers in blocks of this size.
+fn by_numbers<C: CellSource>(
+    setting: &Setting<'_, C>,
+    text: &str,
+    size: usize,
+) -> Result<Vec<Break>, AllocError> {
+    let mut breaks = RawBreaks::new(setting.source, text, setting.profile);
+    let mut block = vec![in setting.alloc; NO_NUMBERS; size]?;
+    let mut found = Vec::new(setting.alloc);
+    for _ in 0..=text.len() {
+        let count = breaks.fill(&mut block);
+        for one in block.get(..count).unwrap_or(&[]) {
+            let number = (256 * u16::from(one.rule)).saturating_add(u16::from(one.kind));
+            push_break(&mut found, one.at, verdict_of(number))?;
+        }
     }
     Ok(found)
 }
@@ -135,6 +161,8 @@ fn agreed_in_blocks<C: CellSource>(
     for size in &SIZES {
         let found = must(rt, by_blocks(setting, text, *size));
         same(rt, &found.as_slice(), &want.as_slice(), &(*size, text));
+        let numbers = must(rt, by_numbers(setting, text, *size));
+        same(rt, &numbers.as_slice(), &want.as_slice(), &(*size, text));
     }
     must(rt, shown(setting.alloc, &want))
 }

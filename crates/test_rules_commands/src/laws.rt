@@ -49,5 +49,6 @@ fn laws_of_files_and_runs() {
     lbk_args::laws::accepted_words_ask_for_a_task();
     lbk_cmd::laws::shown_lines();
     lbk_cmd::laws::headline();
+    lbk_cmd::laws::unicode_headline();
     lbk_cmd::laws::joined_ranges();
 }

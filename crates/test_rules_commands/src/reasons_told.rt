@@ -1,7 +1,7 @@
 //! Messages with the system's reason, which no contract contains: what failed, and then the reason in the words of std.
 
 use crate::calls::{must, same};
-use lbk_args::{Engine, FileName, FileNames};
+use lbk_args::{Engine, FileName, FileNames, PropertyValues};
 use lbk_cmd::{Caller, CmdFault, Message, Reason, RunFault};
 use lbk_notation::ReplayFault;
 use lbk_passage::PassageFault;
@@ -35,22 +35,22 @@ const ENGINE: Engine = Engine::Mark { limit: 9 };
 
 const GIVEN: Caller<'static> = Caller::Words {
     engine: ENGINE,
-    files: FileNames {
+    values: PropertyValues::Files(FileNames {
         line_break: FileName::Given("L"),
         east_asian: FileName::Given("E"),
         category: FileName::Given("C"),
         emoji: FileName::Given("M"),
-    },
+    }),
 };
 
 const IN_FOLDER: Caller<'static> = Caller::Words {
     engine: ENGINE,
-    files: FileNames {
+    values: PropertyValues::Files(FileNames {
         line_break: FileName::InFolder("U"),
         east_asian: FileName::InFolder("U"),
         category: FileName::InFolder("U"),
         emoji: FileName::InFolder("U"),
-    },
+    }),
 };
 
 const READ: RunFault = RunFault::Cmd(CmdFault::Passage(PassageFault::Read));
@@ -117,15 +117,9 @@ fn check(
 
 /// A folder with unreadable files, and what to do.
 static FOLDERS: [(&str, &str); 3] = [
-    (
-        "U",
-        "; install Debian's package unicode-data, and pass --ucd /usr/share/unicode",
-    ),
+    ("U", "; --unicode 15.0 needs no files"),
     ("x/UCD.zip", "; unpack it, and pass the folder"),
-    (
-        "zip",
-        "; install Debian's package unicode-data, and pass --ucd /usr/share/unicode",
-    ),
+    ("zip", "; --unicode 15.0 needs no files"),
 ];
 
 #[test]
@@ -133,12 +127,12 @@ fn folders(rt: HostRuntime) {
     for (folder, advice) in &FOLDERS {
         let caller = Caller::Words {
             engine: Engine::Replay { kinds: false },
-            files: FileNames {
+            values: PropertyValues::Files(FileNames {
                 line_break: FileName::Given("L"),
                 east_asian: FileName::InFolder(folder),
                 category: FileName::InFolder(folder),
                 emoji: FileName::InFolder(folder),
-            },
+            }),
         };
         let want = must(
             &rt,

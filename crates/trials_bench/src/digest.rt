@@ -1,6 +1,6 @@
 //! A number to compare long results by (the 64-bit FNV hash).
 
-use lbk_rules::{Kind, Rule};
+use lbk_rules::{Cell, Kind, Rule};
 use lbk_ucd::{Category, EastAsian, LineBreak};
 
 const MULTIPLIER: u64 = 0x100_0000_01b3;
@@ -44,6 +44,14 @@ impl Digest {
         self.add(east_asian as u64);
         self.add(category as u64);
         self.add(u64::from(is_pictographic));
+    }
+
+    pub fn add_cell(&mut self, cell: Cell) {
+        self.add(cell.class as u64);
+        self.add(u64::from(cell.wide));
+        self.add(u64::from(cell.pict_cn));
+        self.add(cell.quote as u64);
+        self.add(u64::from(cell.letter));
     }
 
     pub fn value(&self) -> u64 {

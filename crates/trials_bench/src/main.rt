@@ -4,10 +4,12 @@
 //! `trials_bench ROW PROFILE` runs a row of the table and writes the result of its call. Without arguments it runs all
 //! rows, each after its name. `scripts/check refused-allocations` runs it, refuses the allocations in turn, and
 //! compares. `trials_bench layers NAME` measures the layers for `scripts/bench`; standard input has four property files
-//! and a text of this name, each except the last followed by a zero byte.
+//! and a text of this name, each except the last followed by a zero byte. `trials_bench cells` compares the built-in
+//! cells with those of such files for `scripts/check published-files`.
 #![tactic(auto)]
 
 mod breaks;
+mod cells;
 mod commands;
 mod counting;
 mod devices;
@@ -49,10 +51,19 @@ fn main(rt: HostRuntime) -> Result<ExitCode> {
     let words: Vec<String> = env::args(&rt)?.skip(1).collect(rt.alloc())?;
     match words.as_slice() {
         [] => run_all(&rt),
-        [name] => run_one(&rt, name.as_str(), Profile::First),
+        [name] => run_or_compare(&rt, name.as_str()),
         [first, second] => run_two(&rt, first.as_str(), second.as_str()),
         _ => usage(&rt),
     }
+}
+
+/// By one argument.
+fn run_or_compare(rt: &HostRuntime, name: &str) -> Result<ExitCode> {
+    if name != "cells" {
+        return run_one(rt, name, Profile::First);
+    }
+    cells::print(rt)?;
+    Ok(ExitCode::SUCCESS)
 }
 
 /// By two arguments.
@@ -65,7 +76,7 @@ fn run_two(rt: &HostRuntime, first: &str, second: &str) -> Result<ExitCode> {
 }
 
 fn usage(rt: &HostRuntime) -> Result<ExitCode> {
-    eprintln!(rt; "usage: trials_bench [ROW [2] | layers NAME]")?;
+    eprintln!(rt; "usage: trials_bench [ROW [2] | layers NAME | cells]")?;
     Ok(ExitCode::from(USAGE))
 }
 

@@ -3,7 +3,7 @@
 use crate::digest::Digest;
 use crate::inputs::text_of;
 use lbk_notation::{LineFault, TestLine};
-use lbk_rules::{Cell, CellPages, Class, Quote};
+use lbk_rules::{Cell, CellSource, Class, Quote};
 use std::alloc::{AllocError, Global};
 use std::fmt::Debug;
 use test_support::calls::cell_of;
@@ -51,7 +51,7 @@ pub fn digest_told(alloc: Global, digest: Digest) -> Result<String, AllocError> 
 }
 
 /// A digest of the cells of all scalar values.
-pub fn cells_told(alloc: Global, cells: &CellPages) -> Result<String, AllocError> {
+pub fn cells_told<C: CellSource>(alloc: Global, cells: &C) -> Result<String, AllocError> {
     let mut digest = Digest::new();
     for c in '\0'..=char::MAX {
         digest.add(number_of(cell_of(cells, c)));

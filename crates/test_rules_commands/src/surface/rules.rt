@@ -2,9 +2,10 @@
 
 use crate::calls::{decided, late_step, must, same, start_late, step};
 use lbk_cmd::SAMPLE_FILES;
+use lbk_files::TaskCells;
 use lbk_rules::{
-    Cell, CellPages, Class, End, Kind, LateMachine, Machine, Out, Profile, Quote, Rule, Verdict,
-    resolve,
+    Cell, CellPages, CellSource, Class, End, Kind, LateMachine, Machine, Out, Profile, Quote, Rule,
+    UnicodeCells, Verdict, resolve,
 };
 use lbk_ucd::{Category, EastAsian, LineBreak, Tables};
 use test_support::calls::{cell_of, pages_of, tables_of};
@@ -139,6 +140,9 @@ fn cells(rt: HostRuntime) {
     let tables: Tables = must(&rt, tables_of(rt.alloc(), SAMPLE_FILES));
     let pages: CellPages = must(&rt, pages_of(rt.alloc(), &tables));
     same(&rt, &cell_of(&tables, 'a'), &cell_of(&pages, 'a'), &'a');
+    same(&rt, &UnicodeCells.cell('a'), &letter(), &"a built-in cell");
+    let of_task: Cell = TaskCells::BuiltIn(UnicodeCells).cell('a');
+    same(&rt, &of_task, &letter(), &"a cell of a task");
 }
 
 /// The verdicts of a text of one letter: before it, and at its end.
