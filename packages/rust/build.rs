@@ -1,5 +1,5 @@
-//! Finds liblbk: in the folder that LBK_LIB_DIR names, else next to this file in `lib/TARGET`, else by pkg-config.
-//! Links it statically, or as liblbk.so if LBK_SHARED is set.
+//! Does nothing, but for the feature `proved`: then it finds liblbk in the folder that LBK_LIB_DIR names, else next to
+//! this file in `lib/TARGET`, else by pkg-config, and links it statically, or as liblbk.so if LBK_SHARED is set.
 
 use std::env;
 use std::path::PathBuf;
@@ -22,7 +22,7 @@ fn pkg_config(arguments: &[&str]) -> Option<String> {
 
 fn by_pkg_config() -> Option<PathBuf> {
     variable("PKG_CONFIG_PATH");
-    pkg_config(&["--exists", "lbk >= 0.1.0", "lbk < 0.2.0"])?;
+    pkg_config(&["--exists", "lbk >= 0.2.0", "lbk < 0.3.0"])?;
     let folder = pkg_config(&["--variable=libdir", "lbk"])?;
     Some(folder.trim().into())
 }
@@ -39,16 +39,18 @@ fn bundled() -> Option<PathBuf> {
 }
 
 fn main() {
+    println!("cargo:rerun-if-changed=build.rs");
+    // (`--cfg plain` in RUSTFLAGS chooses plain arrays in the place of vectors)
+    println!("cargo:rustc-check-cfg=cfg(plain, docsrs)");
+    if env::var_os("CARGO_FEATURE_PROVED").is_none() {
+        return;
+    }
     let named = variable("LBK_LIB_DIR").map(PathBuf::from);
     let folder = named.or_else(bundled).or_else(by_pkg_config).unwrap_or_else(|| {
-        eprintln!("no liblbk of version 0.1: install it, and set LBK_LIB_DIR to its folder, or PKG_CONFIG_PATH to that of lbk.pc");
+        eprintln!("no liblbk of version 0.2: install it, and set LBK_LIB_DIR to its folder, or PKG_CONFIG_PATH to that of lbk.pc");
         exit(1)
     });
-    let kind = if variable("LBK_SHARED").is_some() {
-        "dylib"
-    } else {
-        "static"
-    };
+    let kind = if variable("LBK_SHARED").is_some() { "dylib" } else { "static" };
     println!("cargo:rustc-link-search=native={}", folder.display());
     println!("cargo:rustc-link-lib={}=lbk", kind);
 }

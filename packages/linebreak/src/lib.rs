@@ -1,13 +1,14 @@
-//! The interface of the crate unicode-linebreak, implemented by the proved library liblbk (UAX #14, Unicode 15.0). Two
-//! lines of `Cargo.toml` replace that crate in a program and in its dependencies:
+//! The interface of the crate unicode-linebreak over lbk (UAX #14, Unicode 15.0). Two lines of `Cargo.toml` replace that
+//! crate in a program and in its dependencies:
 //!
 //! ```text
 //! [patch.crates-io]
-//! unicode-linebreak = { path = "lbk-linebreak-0.1.0" }
+//! unicode-linebreak = { path = "unicode-linebreak" }
 //! ```
 //!
-//! The build includes a table made from the folder that `UNICODE_DATA` names, or else from `/usr/share/unicode`. It has
-//! no classes of code points (`break_property`, `BreakClass`).
+//! In a program that has a `Cargo.lock`, `cargo update -p unicode-linebreak` takes the crate; without it cargo says that
+//! the patch was not used, and builds the old one. `cargo tree -i unicode-linebreak` shows the folder of that which is
+//! built.
 //!
 //! ```
 //! use unicode_linebreak::{linebreaks, BreakOpportunity::{Allowed, Mandatory}};
@@ -15,17 +16,15 @@
 //! let breaks: Vec<_> = linebreaks("See p. 7\nand 8").collect();
 //! assert_eq!(breaks, [(4, Allowed), (7, Allowed), (9, Mandatory), (13, Allowed), (14, Mandatory)]);
 //! ```
-
 #![no_std]
+#![forbid(unsafe_code)]
 #![deny(missing_docs, missing_debug_implementations)]
 
-use core::ptr;
-use core::sync::atomic::{AtomicPtr, Ordering};
+mod classes;
+mod unresolved;
 
-use lbk::{Kind, Profile, Table};
-
-/// The Unicode version of the rules and properties.
-pub const UNICODE_VERSION: (u8, u8, u8) = (15, 0, 0);
+pub use classes::{break_property, BreakClass};
+pub use lbk::UNICODE_VERSION;
 
 /// Whether a line may or must end at a break.
 #[derive(Copy, Clone, PartialEq, Eq, Debug)]
@@ -38,10 +37,11 @@ pub enum BreakOpportunity {
 
 /// The breaks of a text, in order: the offset of each, and whether the line must end there. The last one is the text's
 /// length, where the line must end (rule LB3). An empty text has none.
+#[inline]
 pub fn linebreaks(s: &str) -> impl Iterator<Item = (usize, BreakOpportunity)> + Clone + '_ {
-    table().breaks(s).map(|found| match found.kind {
-        Kind::Must => (found.at, BreakOpportunity::Mandatory),
-        Kind::May => (found.at, BreakOpportunity::Allowed),
+    lbk::breaks(s).map(|found| match found.kind {
+        lbk::Kind::Must => (found.at, BreakOpportunity::Mandatory),
+        lbk::Kind::May => (found.at, BreakOpportunity::Allowed),
     })
 }
 
@@ -58,19 +58,5 @@ pub fn linebreaks(s: &str) -> impl Iterator<Item = (usize, BreakOpportunity)> + 
 /// assert_eq!(split_at_safe("See p. 7, or so"), ("See p. 7, or ", "so"));
 /// ```
 pub fn split_at_safe(s: &str) -> (&str, &str) {
-    s.split_at(table().safe_break(Profile::First, s.as_bytes()))
-}
-
-/// The table in the program; its digest is checked once.
-fn table() -> &'static Table {
-    static BYTES: &[u8] = lbk::include_bytes_aligned!(concat!(env!("OUT_DIR"), "/table"));
-    static CHECKED: AtomicPtr<Table> = AtomicPtr::new(ptr::null_mut());
-    // SAFETY: it is null, or the table stored below, which never changes.
-    if let Some(table) = unsafe { CHECKED.load(Ordering::Acquire).as_ref() } {
-        return table;
-    }
-    let table = Table::of_bytes(BYTES).expect("build.rs wrote a whole table");
-    // Threads that get here at the same time store the same address.
-    CHECKED.store(table as *const Table as *mut Table, Ordering::Release);
-    table
+    s.split_at(lbk::Breaker::new().safe_break(s))
 }

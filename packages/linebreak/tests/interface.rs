@@ -30,10 +30,7 @@ fn texts() -> impl Iterator<Item = String> {
 fn breaks_of_known_texts() {
     assert_eq!(found(""), []);
     assert_eq!(found("a"), [(1, Mandatory)]);
-    assert_eq!(
-        found("to be\r\nor"),
-        [(3, Allowed), (7, Mandatory), (9, Mandatory)]
-    );
+    assert_eq!(found("to be\r\nor"), [(3, Allowed), (7, Mandatory), (9, Mandatory)]);
     assert_eq!(found("一二。"), [(3, Allowed), (9, Mandatory)]);
     assert_eq!(UNICODE_VERSION, (15, 0, 0));
 }
@@ -49,11 +46,7 @@ fn an_iterator_can_be_copied_half_way() {
 #[test]
 fn each_text_ends_with_a_break() {
     for text in texts().filter(|text| !text.is_empty()) {
-        assert_eq!(
-            linebreaks(&text).last(),
-            Some((text.len(), Mandatory)),
-            "{text:?}"
-        );
+        assert_eq!(linebreaks(&text).last(), Some((text.len(), Mandatory)), "{text:?}");
     }
 }
 
@@ -88,9 +81,6 @@ fn a_safe_place_is_the_last_break_at_which_nothing_is_known() {
 fn threads_may_be_the_first_to_call_at_once() {
     let calls: Vec<_> = (0..8).map(|_| thread::spawn(|| found("a b"))).collect();
     for call in calls {
-        assert_eq!(
-            call.join().expect("it returns"),
-            [(2, Allowed), (3, Mandatory)]
-        );
+        assert_eq!(call.join().expect("it returns"), [(2, Allowed), (3, Mandatory)]);
     }
 }

@@ -1,15 +1,16 @@
 //! Breaks by the iterators of Rust crates: each function goes through all breaks of a text, cut into pieces of so many
-//! bytes, adds up their places and kinds, and returns how many there are.
+//! bytes, adds up their places and kinds, and returns how many there are. The crate lbk has its table itself, and leaves
+//! that of the other ways alone.
 
-use lbk::{Kind, Table};
+use lbk::{Breaker, Kind, Limits};
 use std::{slice, str};
 use unicode_linebreak::{linebreaks, BreakOpportunity};
 
 /// # Safety
-/// The table is whole, and the text as long as is said.
+/// The text is as long as is said.
 #[no_mangle]
 pub unsafe extern "C" fn rust_texts(
-    table: &Table,
+    _table: *const u8,
     text: *const u8,
     size: usize,
     piece: usize,
@@ -17,7 +18,7 @@ pub unsafe extern "C" fn rust_texts(
 ) -> usize {
     let mut count = 0;
     for piece in slice::from_raw_parts(text, size).chunks(piece) {
-        for found in table.breaks_in(lbk::Profile::First, piece) {
+        for found in Breaker::new().breaks_utf8(piece) {
             count += 1;
             *total = total.wrapping_add(found.at + 1 + (found.kind == Kind::Must) as usize);
         }
@@ -48,7 +49,7 @@ pub unsafe extern "C" fn linebreak_texts(
 /// The text is as long as is said.
 #[no_mangle]
 pub unsafe extern "C" fn rust_words(
-    _table: &Table,
+    _table: *const u8,
     text: *const u8,
     size: usize,
     _none: usize,
@@ -63,40 +64,36 @@ pub unsafe extern "C" fn rust_words(
 }
 
 /// # Safety
-/// The table is whole, and the text as long as is said, and UTF-8.
+/// The text is as long as is said, and UTF-8.
 #[no_mangle]
 pub unsafe extern "C" fn rust_passages(
-    table: &Table,
+    _table: *const u8,
     text: *const u8,
     size: usize,
     _none: usize,
     total: &mut usize,
 ) -> usize {
     let mut count = 0;
-    for found in table.passages(str::from_utf8_unchecked(slice::from_raw_parts(text, size))) {
-        count += found.segments.len();
+    for found in lbk::paragraphs(str::from_utf8_unchecked(slice::from_raw_parts(text, size))) {
+        count += lbk::segments(found.text).count();
         *total = total.wrapping_add(found.start);
     }
     count
 }
 
 /// # Safety
-/// The table is whole, and the text as long as is said.
+/// The text is as long as is said, and UTF-8.
 #[no_mangle]
 pub unsafe extern "C" fn rust_chunks(
-    table: &Table,
+    _table: *const u8,
     text: *const u8,
     size: usize,
     overlap: usize,
     total: &mut usize,
 ) -> usize {
-    let text = slice::from_raw_parts(text, size);
+    let text = str::from_utf8_unchecked(slice::from_raw_parts(text, size));
     let mut count = 0;
-    for found in table
-        .chunks(text, lbk::Limits::new(500).overlap(overlap))
-        .into_iter()
-        .flatten()
-    {
+    for found in lbk::chunks(text, Limits::new(500).overlap(overlap)) {
         count += 1;
         *total = total.wrapping_add(found.start);
     }
