@@ -1,199 +1,253 @@
-"""`./lbk` without a proved program: help, mistakes, unreadable files, and what it passes to the program it builds.
+"""`./lbk` without a proved program: it builds the program once, by cargo or else by the kit, and passes all on to it.
 
-Its messages for mistakes are compared with those of the proved program. A stand-in for `rt` shows what would be built,
-and on which input it would run; with the argument --build the real program is built and run.
+Stand-ins for cargo and `rt` show what is built, and what the program is given. With the argument --build the real
+program is built in a fresh clone, and run.
 """
+import os
+import pty
 import shutil
 import subprocess
 import sys
 import tempfile
 import time
+from concurrent.futures import ThreadPoolExecutor
 from pathlib import Path
 
-from checks.files_and_pipes.arguments import MISTAKES
-from checks.harness import TOP, built_program, shown
+from checks.harness import TOP, built_program, has, shown
 from checks.program import run as run_program
 from checks.unicode_files import MISSING, OPTIONS, published
 
-TASKS = ("mark", "show", "segment", "chunk", "replay")
-FILES = [word for pair in zip(OPTIONS, "LECM") for word in pair]
-# Arguments that no program is needed for; the program says the same of them.
-WORDS = [
-    ["--help"], ["-h"], ["help"], ["--version"], ["-V"], *(["help", it] for it in TASKS),
-    *([it, "--help"] for it in TASKS),
-    ["README.md"], ["a/b"], ["bogus"], ["a\nb"], ["\u202eb."], ["mark"], ["replay", "x", "y"], ["mark", "--ucd="],
-    ["mark", "--limit", "64K"], ["show", "--limit", "1e6"], ["show", "--limit", "-1"], ["segment", "--to", "1\n0"],
-    ["mark", "--limit=99999999999999999999"], ["mark", "--profile", "3"], ["mark", "--no\x1b[1m"],
-    ["segment", "--from", "+5", "--to", "4"],
-    ["mark", *FILES, "--from", "5", "--to", "4"], ["mark", "--ucd", "none"], ["mark", "--ucd", "U.zip"],
-    ["replay", "--ucd", "a\u2066\nb"],
-    ["mark", *FILES, "none", "fo\u200flder"], ["mark", *FILES, "--", "--limit", "-x"], ["show", *FILES[:7], "none"],
-    ["mark", *FILES, "--sign", "ninebytes"], ["mark", *FILES, "--sign="], ["mark", *FILES, "--sign", "a\u2028"],
-    ["show", *FILES, "--sign", "|"],
-    ["chunk", "--most", "64K"], ["chunk", "--most", "0"], ["chunk", "--words=0"], ["chunk", "--least", "-1"],
-    ["chunk", "--overlap", "1e6"],
-    ["chunk", *FILES, "--most", "4", "--least", "5"], ["chunk", *FILES, "--most", "5", "--overlap", "3"],
-    ["chunk", "--most", "5"], ["chunk", *FILES, "--most", "5", "--most", "6"], ["mark", *FILES, "--most", "5"],
-    ["chunk", *FILES], ["show", "--least=9"], ["show", "--to", "x", "--bogus"], ["show", "--to=x", "--bogus"],
-    ["mark", "--limit", "-h"],
-    ["segment", "--from", "--sign=|"], ["segment", "--from", "--names"], ["segment", "--from", "--help=1"],
-    ["mark", "--limit", "--", "-1"],
-    ["mark", *FILES, "--bogus", "-1"], ["mark", *FILES, "--ucd", "u", "--ucd", "v", "--bogus"], ["--bogus", "-1"],
-    ["mark", *FILES, "--sign", "|", "--sign", "+"], ["mark", *FILES, "--sign"], ["show", *FILES, "--name", "x"],
-    ["replay", "--kind"],
-]  # fmt: skip
 SAID = ("nothing of this run is proved", "./lbk --prove", "rt ci")
-# The interpreter of `rt try` has no answer for a program that reads files, and is given one step.
-INTERPRETER = ["--steps", "1"]
-STAND_IN = """#!/bin/sh
-printf '%s\\n' "$@" > "$TRIED/words"
-cat > "$TRIED/input"
-echo 'lbk: handed-over-5: byte 3: a fault' >&2
-echo 'run=ended status=1 proved=no' >&2
-printf '==> handed-over-4 <==\\n==> handed-over-4\\nwrote'
+# Words that a program could be given wrong.
+WORDS = ["mark", "--ucd=a b", "", "a\nb", "--", "-h", "é\u202e", "*"]
+PROGRAM = "#!/bin/sh\nprintf '%s\\0' \"$@\" > \"$TRIED/words\"\ncat > \"$TRIED/input\"\necho 'a fault' >&2\nprintf 'wrote'\nexit 3\n"
+CARGO = f"""#!/bin/sh
+[ "$1" != --version ] || {{ echo "cargo $CARGO_IS (a date)"; exit; }}
+printf '%s ' "$@" >> "$TRIED/cargo"
+echo 'error: a fault of cargo' >&2
+[ -z "$CARGO_FAILS" ] || exit 101
+sleep 0.2
+mkdir -p target/release
+cat > target/release/lbk << 'END'
+{PROGRAM}END
+chmod +x target/release/lbk
 """
+KIT = """#!/bin/sh
+[ "$1" != doc ] || { echo "$TRIED/kit/START-HERE.md"; exit; }
+printf '%s\\0' "$@" > "$TRIED/rt"
+cat > "$TRIED/input"
+printf 'lbk: a fault\\ninterpreter: no-answer\\nrun=ended status=1 proved=no\\n' >&2
+printf 'wrote'
+"""
+TOOLS = ("bash", "sh", "env", "dirname", "cat", "chmod", "mkdir", "mv", "sleep", "find", "readlink", "sha256sum")
 
 
 class Clone:
-    """The files of the repository that ./lbk needs, with nothing built, and a stand-in for `rt`."""
+    """What ./lbk needs of a repository, with a small program and a small kit, and stand-ins for cargo and `rt`."""
 
     def __init__(self, room):
         self.top, self.bin, self.room = room / "clone", room / "bin", room
-        shutil.copytree(TOP / "scripts", self.top / "scripts", ignore=shutil.ignore_patterns("__pycache__"))
-        shutil.copytree(TOP / "crates/lbk", self.top / "crates/lbk", ignore=shutil.ignore_patterns("out"))
-        for it in ("lbk", "crates.txt"):
-            shutil.copy2(TOP / it, self.top / it)
+        for it in ("scripts", "packages/plain"):
+            shutil.copytree(TOP / it, self.top / it, ignore=shutil.ignore_patterns("__pycache__"))
+        shutil.copy2(TOP / "lbk", self.top)
+        for it in ("CHANGELOG.md", "docs/lbk.1", "docs/lbk.bash", "crates/lbk/src/main.rt"):
+            (self.top / it).parent.mkdir(parents=True, exist_ok=True)
+            (self.top / it).touch()
+        (self.top / "crates.txt").write_text("lbk:\n")
+        self.source().write_text("fn main() { }\n")
+        for it in ("bstr", "clap", "strsim", "ucd_table"):
+            (room / "kit/rattle" / it / "src").mkdir(parents=True)
+            (room / "kit/rattle" / it / "src/lib.rt").touch()
         self.bin.mkdir()
-        for it in ("bash", "sh", "env", "dirname", "find", "awk", "cat"):
+        for it in TOOLS:
             (self.bin / it).symlink_to(shutil.which(it))
         (self.bin / "python3").symlink_to(sys.executable)
-        (self.bin / "rt").write_text(STAND_IN)
-        (self.bin / "rt").chmod(0o755)
+        for name, text in (("cargo", CARGO), ("rt", KIT)):
+            (self.bin / name).write_text(text)
+            (self.bin / name).chmod(0o755)
+        (room / "place").mkdir()
+
+    def source(self):
+        return self.top / "crates/lbk/src/main.rt"
+
+    def env(self, **more):
+        return {"PATH": str(self.bin), "TRIED": str(self.room), "LC_ALL": "C.UTF-8", "CARGO_IS": "1.99.0", **more}
 
     def run(self, words, given=b"", **more):
-        (self.room / "words").unlink(missing_ok=True)
-        env = {"PATH": str(self.bin), "TRIED": str(self.room), "LC_ALL": "C.UTF-8"}
-        return run_program([self.top / "lbk", *words], given, cwd=self.room / "place", env=env, **more)
+        for it in ("words", "rt", "cargo", "input"):
+            (self.room / it).unlink(missing_ok=True)
+        return run_program([self.top / "lbk", *words], given, cwd=self.room / "place", env=self.env(**more))
 
-    def tried(self):
-        """The words that the stand-in was given, or None."""
-        path = self.room / "words"
-        return path.read_text().split("\n")[:-1] if path.exists() else None
+    def taken(self, name):
+        """The words that a stand-in was given, or None."""
+        path = self.room / name
+        return path.read_bytes().decode().split("\0")[:-1] if path.exists() else None
 
-
-def fill(place):
-    """Unreadable files, which are reported without the program."""
-    (place / "folder").mkdir(parents=True)
-    for name in "LECM":
-        (place / name).write_bytes(b"# no row\n")
-    for name in ("text", "other", "te\u202ext"):
-        (place / name).write_bytes(b"ab\n")
-    (place / "U.zip").write_bytes(b"PK")
-    for it in ("", "extracted", "emoji"):
-        (place / "ucd" / it).mkdir(exist_ok=True)
-    for it in ("LineBreak.txt", "EastAsianWidth.txt", "extracted/DerivedGeneralCategory.txt", "emoji/emoji-data.txt"):
-        (place / "ucd" / it).write_bytes(b"#\n")
+    def builds(self):
+        """How often cargo built."""
+        path = self.room / "cargo"
+        return path.read_text().count("build ") if path.exists() else 0
 
 
-def told_at_once(tally, clone, program):
-    """What is told before anything is built is what the program tells."""
-    mistakes = [[task, *FILES, *more.split()] for task, more, _, _ in MISTAKES]
-    for words in WORDS + mistakes:
-        ended = clone.run(words)
-        wanted = run_program([program, *words], cwd=clone.room / "place")
-        fault = None
-        if clone.tried() is not None:
-            fault = "something was built"
-        elif ended != wanted:
-            fault = f"{shown(ended.err or ended.out)} with status {ended.status}, not {shown(wanted.err or wanted.out)} with {wanted.status}"
-        tally.tell(f"at once: {shown(' '.join(words))}", fault)
+def built_once(tally, clone):
+    """The first run builds, the others do not; each has the caller's words, input, output, messages and status."""
+    for what, words, builds in (("the first run", [], 1), ("the second run", [], 0), ("--unproved", ["--unproved"], 0)):
+        ended = clone.run([*words, *WORDS], b"read\xff")
+        tally.equal(f"{what}: what cargo builds", clone.builds(), builds)
+        tally.equal(f"{what}: the words", clone.taken("words"), WORDS)
+        tally.equal(f"{what}: the input", (clone.room / "input").read_bytes(), b"read\xff")
+        tally.equal(f"{what}: the output and the status", (ended.out, ended.status), (b"wrote", 3))
+        *own, last = ended.err.decode().splitlines()
+        tally.equal(f"{what}: the program's message", last, "a fault")
+        is_told = len(own) == builds and all(it in "".join(own) for it in SAID * builds)
+        tally.tell(f"{what}: what is said of it", None if is_told else shown(ended.err))
 
 
-def handed_over(tally, clone):
-    """What is built runs on the files that the words name, texts among them, and on standard input where it is
-    wanted."""
-    ended = clone.run(["mark", "--ucd", "ucd", "text", "--limit=9", "other"], b"not to be read")
-    words = clone.tried()
+def on_a_terminal(tally, clone):
+    """On a terminal each run says that nothing is proved."""
+    ours, theirs = pty.openpty()
+    with subprocess.Popen([clone.top / "lbk"], stdin=subprocess.DEVNULL, stdout=subprocess.DEVNULL, stderr=theirs,
+        cwd=clone.room / "place", env=clone.env()) as ran:
+        ran.wait()
+    said = os.read(ours, 1000).decode().splitlines()
+    os.close(ours)
+    os.close(theirs)
+    tally.equal("on a terminal", said, [f"lbk: {SAID[0]}", "a fault"])
+
+
+def built_again(tally, clone):
+    """A change of anything that the program is built of is seen, and the former program goes."""
+    for it in (clone.source(), clone.top / "scripts/erasing/rust.py", clone.top / "packages/plain/kit/bytes.rs"):
+        before = it.read_text(encoding="utf-8")
+        it.write_text(before + "\n", encoding="utf-8")
+        clone.run([])
+        tally.equal(f"after a change of {it.name}", clone.builds(), 1)
+        it.write_text(before, encoding="utf-8")
+    clone.run([])
+    tally.equal("one program is kept", len(list((clone.top / "out/unproved").glob("*-lbk"))), 1)
+
+
+def started_at_once(tally, clone):
+    """While nothing changes a run needs no Python; whatever changes is seen, also if it keeps a file's size and time."""
+    clone.run([])
+    (clone.bin / "python3").rename(clone.bin / "hidden")
+    for words in ([], ["--unproved"]):
+        ended = clone.run([*words, *WORDS], b"read")
+        got = ended.status, ended.out, clone.taken("words"), ended.err
+        tally.equal(f"without Python: {words or 'the next run'}", got, (3, b"wrote", WORDS, b"a fault\n"))
+    (clone.bin / "hidden").rename(clone.bin / "python3")
+    source = clone.source()
+    before, times = source.read_text(encoding="utf-8"), source.stat()
+    source.write_text("fn main() {;}\n", encoding="utf-8")
+    os.utime(source, ns=(times.st_atime_ns, times.st_mtime_ns))
+    clone.run([])
+    tally.equal("a source of the same size and time", clone.builds(), 1)
+    source.write_text(before, encoding="utf-8")
+    clone.run([])
+    for what in ("the next kit", "no kit's name"):
+        if what == "the next kit":
+            (clone.room / "KIT-ID").write_text("kit next\n", encoding="utf-8")
+        else:
+            (clone.room / "KIT-ID").unlink()
+        clone.run([])
+        tally.equal(what, clone.builds(), 1)
+    next((clone.top / "out/unproved").glob("*-lbk")).unlink()
+    clone.run([])
+    tally.equal("the program was removed", clone.builds(), 1)
+    source.touch()
+    clone.run([])
+    tally.equal("a source that was only touched", clone.builds(), 0)
+
+
+def at_once(tally, clone):
+    """Runs that begin at once build once."""
+    shutil.rmtree(clone.top / "out")
+    clone.run(["--help"], CARGO_FAILS="yes")
+    (clone.room / "cargo").unlink()
+    with ThreadPoolExecutor() as pool:
+        words = {"cwd": clone.room / "place", "env": clone.env()}
+        runs = [pool.submit(run_program, [clone.top / "lbk"], **words) for _ in range(3)]
+    tally.equal("three runs at once", ([it.result().status for it in runs], clone.builds()), ([3, 3, 3], 1))
+
+
+def not_built(tally, clone):
+    """Where the program cannot be built it is said why, and nothing is kept."""
+    shutil.rmtree(clone.top / "out")
+    ended = clone.run(["mark"], CARGO_FAILS="yes")
+    is_told = ended.status == 70 and b"error: a fault of cargo" in ended.err and clone.taken("words") is None
+    tally.tell("cargo fails", None if is_told else f"status {ended.status}, {shown(ended.err)}")
+    clone.source().write_text("fn main() {\n    todo!() }\n")
+    ended = clone.run(["mark"])
+    is_told = ended.status == 70 and b"lbk: lbk/src/main.rt:2: the macro todo" in ended.err
+    tally.tell("a source is refused", None if is_told else f"status {ended.status}, {shown(ended.err)}")
+    tally.equal("nothing is kept", list((clone.top / "out/unproved").glob("*-lbk")), [])
+    clone.source().write_text("fn main() { }\n")
+
+
+def by_kit(tally, clone):
+    """Without a cargo that is new enough `rt try` runs the program, on files by their whole names."""
+    (clone.room / "place/text").write_bytes(b"ab")
     place = clone.room / "place"
-    wanted = ["try", *INTERPRETER]
-    for it in ("LineBreak.txt", "EastAsianWidth.txt", "extracted/DerivedGeneralCategory.txt", "emoji/emoji-data.txt"):
-        wanted += ["--data", f"handed-over-0/{it}={place}/ucd/{it}"]
-    wanted += ["--data", f"handed-over-1={place}/text", "--data", f"handed-over-2={place}/other"]
-    wanted += ["--", "mark", "--ucd=handed-over-0", "--limit=9", "--", "handed-over-1", "handed-over-2"]
-    tally.equal("a folder and texts are handed over", words, wanted)
-    tally.equal("standard input is not read where texts are named", (clone.room / "input").read_bytes(), b"")
-    out = b"==> handed-over-4 <==\n==> handed-over-4\nwrote"
-    tally.equal("what the program wrote and its status", (ended.out, ended.status), (out, 1))
-    head = ended.err.decode().splitlines()[0]
-    tally.tell("it is said that nothing is proved, and how to go on", None if all(it in head for it in SAID) else head)
-    ended = clone.run(["--unproved", "mark", "--ucd", "ucd", "text", "--limit=9", "other"])
-    tally.equal("the same is handed over with --unproved", clone.tried(), wanted)
-    ended = clone.run(["mark", *FILES, "-", "text"], b"read")
-    tally.equal("standard input is handed over where it is named", (clone.room / "input").read_bytes(), b"read")
-    tally.equal("a name that no file was handed over by stays", ended.err.decode().splitlines()[-1],
-        "lbk: handed-over-5: byte 3: a fault")
-    ended = clone.run(["mark", *FILES, "other", "text"])
-    tally.equal("a message names the second text", ended.err.decode().splitlines()[-1], "lbk: text: byte 3: a fault")
-    tally.equal("a line of the text that looks like one of --names stays", ended.out, out)
-    ended = clone.run(["replay", "--names", *FILES, "te\u202ext"])
-    tally.equal("a line of --names has the name of the text", ended.out,
-        b"==> te\\u{202e}xt <==\n==> handed-over-4\nwrote")
-    ended = clone.run([], b"ab")
-    tally.equal("no words: standard input is handed over", (clone.tried(), (clone.room / "input").read_bytes()),
-        (["try", *INTERPRETER, "--"], b"ab"))
-
-
-def too_much(tally, clone):
-    """What a run without proof cannot carry is said before anything is built."""
-    big = clone.room / "place/big"
-    for name, words, size, given in (
-        ("a text of 1 MiB and one byte", ["mark", *FILES, "big"], (1 << 20) + 1, b""),
-        ("texts of 64 MiB and one byte", ["segment", *FILES, "big"], (64 << 20) + 1, b""),
-        ("standard input of 1 MiB and one byte", ["show", *FILES], 0, b"x" * ((1 << 20) + 1)),
-    ):
-        with open(big, "wb") as it:
-            it.truncate(size)
-        ended = clone.run(words, given)
-        is_told = ended.status == 70 and ended.err.count(b"\n") == 1 and b"./lbk --prove" in ended.err
-        tally.tell(name, None if is_told and clone.tried() is None else f"status {ended.status}, {shown(ended.err)}")
+    words = ["mark", "--ucd=text", "--line-break", "text", "text", "none", "--limit=9", "-"]
+    wanted = ["mark", f"--ucd={place}/text", "--line-break", f"{place}/text", f"{place}/text", "none", "--limit=9", "-"]
+    for what, more in (("an old cargo", {"CARGO_IS": "1.60.0"}), ("no cargo", {})):
+        if what == "no cargo":
+            (clone.bin / "cargo").rename(clone.bin / "hidden")
+        ended = clone.run(words, b"read", **more)
+        tally.equal(f"{what}: the words", clone.taken("rt"), ["try", "--steps", "1", "--", *wanted])
+        tally.equal(f"{what}: the input", (clone.room / "input").read_bytes(), b"read")
+        tally.equal(f"{what}: the output and the status", (ended.out, ended.status), (b"wrote", 1))
+        own, *rest = ended.err.decode().splitlines()
+        tally.equal(f"{what}: the messages", rest, ["lbk: a fault"])
+        tally.tell(f"{what}: what is said", None if all(it in own for it in (*SAID, "64 MiB")) else own)
+    (clone.bin / "hidden").rename(clone.bin / "cargo")
 
 
 def without_tools(tally, clone):
     """Without Python 3 or the kit there is one plain line."""
+    shutil.rmtree(clone.top / "out")
     for name, tool in (("Python 3", "python3"), ("the kit", "rt")):
         (clone.bin / tool).rename(clone.bin / "hidden")
-        ended = clone.run(["mark", *FILES])
+        ended = clone.run(["mark"])
         is_told = ended.status == 70 and ended.err.startswith(b"lbk: ") and ended.err.count(b"\n") == 1
         tally.tell(f"without {name}", None if is_told else f"status {ended.status}, {shown(ended.err)}")
         (clone.bin / "hidden").rename(clone.bin / tool)
 
 
 def built(tally):
-    """The program answers in a fresh clone, before any proof."""
-    if not published():
-        tally.leave_out(MISSING)
-        return
+    """A fresh clone answers as the proved program does, before any proof."""
+    program = built_program()
     with tempfile.TemporaryDirectory() as room:
         clone = Path(room) / "clone"
-        shutil.copytree(TOP, clone, ignore=shutil.ignore_patterns("out", ".git", "__pycache__"))
+        shutil.copytree(TOP, clone, ignore=shutil.ignore_patterns("out", ".git", "__pycache__", "dist"))
         text = Path(room) / "text"
-        text.write_bytes(b"ab cd")
-        started = time.monotonic()
-        ended = subprocess.run([clone / "lbk", "mark", "--ucd", published(), text], stdin=subprocess.DEVNULL,
-            capture_output=True, check=False)
-        print(f"a fresh clone answers after {time.monotonic() - started:.0f} s")
-        tally.equal("a fresh clone answers", (ended.stdout, ended.returncode), ("ab ÷cd\n".encode(), 0))
+        text.write_bytes(b"ab cd\n" * 1000)
+        files = [word for option, it in zip(OPTIONS, published_files()) for word in (option, it)]
+        for words in (["mark", *files, text], ["chunk", "--text", "--most", "80", *files, text], ["segment", "--bogus"]):
+            started = time.monotonic()
+            ended = run_program([clone / "lbk", *words])
+            print(f"a fresh clone answers after {time.monotonic() - started:.1f} s")
+            wanted = run_program([program, *words])
+            tally.equal(f"a fresh clone: {words[0]} {words[1]}", (ended.out, ended.status), (wanted.out, wanted.status))
+
+
+def published_files():
+    """The four files of Unicode, by their paths."""
+    folder = Path(published())
+    return [folder / it for it in ("LineBreak.txt", "EastAsianWidth.txt", "extracted/DerivedGeneralCategory.txt",
+        "emoji/emoji-data.txt")]
 
 
 def run(tally, arguments):
-    program = built_program()
     with tempfile.TemporaryDirectory() as folder:
-        room = Path(folder)
-        clone = Clone(room)
-        fill(room / "place")
-        told_at_once(tally, clone, program)
-        handed_over(tally, clone)
-        too_much(tally, clone)
-        without_tools(tally, clone)
-    if "--build" in arguments:
+        clone = Clone(Path(folder))
+        for one in (built_once, on_a_terminal, built_again, started_at_once, at_once, not_built, by_kit, without_tools):
+            one(tally, clone)
+    if "--build" not in arguments:
+        return
+    if not has("cargo", "rustc"):
+        tally.leave_out("a fresh clone, since cargo is not there (Debian's package cargo)")
+    elif not published():
+        tally.leave_out(MISSING)
+    else:
         built(tally)
