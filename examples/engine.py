@@ -1,8 +1,6 @@
 #!/usr/bin/env python3
 """How a text engine uses breaks: for lines of its own width, after an edit, and for a text that arrives in pieces.
 
-    engine.py LINE_BREAK EAST_ASIAN CATEGORY EMOJI
-
 It tries each way on random texts, and compares the breaks with those of the whole text, asked for at once.
 """
 
@@ -13,10 +11,10 @@ import lbk
 from lbk import Break, Kind, Stream
 
 
-def lines(table, text, width):
+def lines(text, width):
     """The text in lines of at most `width` code points, without spaces at the end, if the breaks allow it."""
     start = fits = 0
-    for found in table.breaks(text):
+    for found in lbk.breaks(text):
         if fits > start and len(text[start : found.at].rstrip(" \n")) > width:
             yield text[start:fits]
             start = fits
@@ -30,7 +28,7 @@ def moved(found, by):
     return Break(found.at + by, found.kind, found.rule)
 
 
-def after_edit(table, old, breaks, at, removed, inserted):
+def after_edit(old, breaks, at, removed, inserted):
     """The text `old`, of bytes, with its breaks, after `removed` bytes from `at` on were replaced: the new text, its
     breaks, and how many of them had to be found again.
 
@@ -43,7 +41,7 @@ def after_edit(table, old, breaks, at, removed, inserted):
     start = breaks[kept - 1].at if kept else 0
     musts = {found.at: k for k, found in enumerate(breaks) if found.kind is Kind.MUST}
     asked = []
-    for found in table.breaks(new[start:]):
+    for found in lbk.breaks(new[start:]):
         asked.append(moved(found, start))
         place = asked[-1].at
         if found.kind is Kind.MUST and place >= at + len(inserted) and place - by in musts and place < len(new):
@@ -53,9 +51,6 @@ def after_edit(table, old, breaks, at, removed, inserted):
 
 
 def main():
-    if len(sys.argv) != 5:
-        sys.exit("usage: engine.py LINE_BREAK EAST_ASIAN CATEGORY EMOJI")
-    table = lbk.Table.from_files(*sys.argv[1:5])
     chance = random.Random(1)
     pieces = ["ab", " ", "  ", ", ", "\n", "\r", "\r\n", "\u2028", "(", ")", "«", "»", "一", "。", "\u0301", "12", "%",
         "-", "\u200d"]
@@ -63,23 +58,23 @@ def main():
     for _ in range(2000):
         text = "".join(chance.choices(pieces, k=chance.randrange(60)))
         data = text.encode()
-        whole = list(table.breaks(data))
+        whole = list(lbk.breaks(data))
 
-        wrapped = list(lines(table, text, 10))
+        wrapped = list(lines(text, 10))
         failed += "".join(wrapped) != text
-        ends = {found.at for found in table.breaks(text)}
+        ends = {found.at for found in lbk.breaks(text)}
         failed += any(len(line.rstrip(" \n")) > 10 and has_break_inside(line, start, ends)
             for start, line in starts(wrapped))
 
         places = sorted(chance.choices(range(len(data) + 1), k=4))
         parts = [data[a:b] for a, b in zip([0, *places], [*places, len(data)])]
-        failed += list(Stream(table).breaks(parts)) != whole
+        failed += list(Stream().breaks(parts)) != whole
 
         at = chance.randrange(len(text) + 1)
         removed = text[at : at + chance.randrange(4)].encode()
         inserted = "".join(chance.choices(pieces, k=chance.randrange(3))).encode()
-        new, breaks, asked = after_edit(table, data, whole, len(text[:at].encode()), len(removed), inserted)
-        failed += breaks != list(table.breaks(new))
+        new, breaks, asked = after_edit(data, whole, len(text[:at].encode()), len(removed), inserted)
+        failed += breaks != list(lbk.breaks(new))
         asked_in_all += asked
         breaks_in_all += len(breaks)
     print(f"after the edits {asked_in_all} of {breaks_in_all} breaks were asked for")

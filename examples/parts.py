@@ -1,20 +1,20 @@
 #!/usr/bin/env python3
 """Breaks of texts in parts, for GNU parallel:
 
-    parts.py plan TABLE BYTES FILE..        writes the range of each part, as lines `START END FILE`
-    parts.py count TABLE RANGE..            writes how many breaks the ranges have; each range is a line as above
+    parts.py plan BYTES FILE..        writes the range of each part, as lines `START END FILE`
+    parts.py count RANGE..            writes how many breaks the ranges have; each range is a line as above
 
-A part has so many BYTES and what is left of the paragraph there. TABLE is a file that Table.save made.
+A part has so many BYTES and what is left of the paragraph there.
 """
 
 import mmap
 import os
 import sys
 
-import lbk
+from lbk import Table
 
 
-def plan(table, size, path):
+def plan(size, path, table=Table.unicode()):
     """The ranges of a file's parts."""
     whole = os.path.getsize(path)
     start = 0
@@ -27,7 +27,7 @@ def plan(table, size, path):
             start = end
 
 
-def columns(table, path, start, end):
+def columns(path, start, end, table=Table.unicode()):
     """The breaks of a part, in columns."""
     with open(path, "rb") as file:
         file.seek(start)
@@ -35,18 +35,17 @@ def columns(table, path, start, end):
 
 
 def main():
-    if len(sys.argv) < 4 or sys.argv[1] not in ("plan", "count"):
+    if len(sys.argv) < 3 or sys.argv[1] not in ("plan", "count"):
         sys.exit(__doc__)
-    table = lbk.Table.open(sys.argv[2])
     if sys.argv[1] == "plan":
-        for path in sys.argv[4:]:
-            for start, end in plan(table, int(sys.argv[3]), path):
+        for path in sys.argv[3:]:
+            for start, end in plan(int(sys.argv[2]), path):
                 print(start, end, path)
         return
     found = 0
-    for line in sys.argv[3:]:
+    for line in sys.argv[2:]:
         start, end, path = line.split(" ", 2)
-        found += len(columns(table, path, int(start), int(end))[0])
+        found += len(columns(path, int(start), int(end))[0])
     print(found)
 
 

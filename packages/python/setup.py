@@ -2,14 +2,16 @@
 
     LBK_PREFIX=PREFIX python3 -m pip wheel --no-build-isolation --no-deps .
 
-PREFIX is where scripts/install-library put include/lbk.h and lib/liblbk.a. The wheel fits CPython
-from 3.11 on.
+PREFIX is where scripts/install-library put include/lbk.h and lib/liblbk.a. Without it cargo builds
+the library from the folder lbk-c, which a source distribution has. The wheel fits CPython from 3.11
+on.
 """
 
 import os
 import re
 import shutil
 import subprocess
+import sys
 from pathlib import Path
 
 from setuptools import Extension, setup
@@ -21,10 +23,13 @@ try:
 except ImportError:  # (a build that makes no wheel)
     from setuptools import Command as bdist_wheel
 
-if "LBK_PREFIX" not in os.environ:
+CRATE = Path(__file__).resolve().parent / "lbk-c"
+PREFIX = Path(os.environ["LBK_PREFIX"]).resolve() if "LBK_PREFIX" in os.environ else None
+INCLUDE = (PREFIX or CRATE) / "include"
+LIBRARY = PREFIX / "lib/liblbk.a" if PREFIX else CRATE / "target/release/liblbk.a"
+if not (INCLUDE / "lbk.h").exists():
     raise SystemExit("set LBK_PREFIX to the folder that has include/lbk.h and lib/liblbk.a")
-PREFIX = Path(os.environ["LBK_PREFIX"]).resolve()
-HEADER = (PREFIX / "include" / "lbk.h").read_text(encoding="utf-8")
+HEADER = (INCLUDE / "lbk.h").read_text(encoding="utf-8")
 VERSION = re.search(r'^#define LBK_VERSION "([^"]+)"', HEADER, re.M)[1]
 CALLS = Path("src", "calls")
 
@@ -80,7 +85,9 @@ class BuildExt(build_ext):
         folder = Path(self.build_temp)
         folder.mkdir(parents=True, exist_ok=True)
         (folder / "constants.inc").write_text("".join(f'{{"{name}", {name}}},\n' for name in constants(HEADER)))
-        self.include_dirs += [str(folder), str(PREFIX / "include")]
+        self.include_dirs += [str(folder), str(INCLUDE)]
+        if not PREFIX:
+            subprocess.run(["cargo", "build", "--release", "--offline"], cwd=CRATE, check=True)
         super().run()
 
 
@@ -117,13 +124,13 @@ setup(
         Extension(
             "lbk._calls",
             sources=[str(file) for file in sorted(CALLS.glob("*.c"))],
-            depends=[str(file) for file in sorted(CALLS.glob("*.h"))] + [str(PREFIX / "lib" / "liblbk.a")],
+            depends=[str(file) for file in sorted(CALLS.glob("*.h"))] + ([str(LIBRARY)] if PREFIX else []),
             define_macros=[("Py_LIMITED_API", "0x030b0000")],
             py_limited_api=True,
             extra_compile_args=["-std=c11", "-O3", "-Wall", "-Wextra", "-Werror=implicit-function-declaration",
                 "-fvisibility=hidden"],
-            extra_objects=[str(PREFIX / "lib" / "liblbk.a")],
-            extra_link_args=["-Wl,--exclude-libs,ALL"],
+            extra_objects=[str(LIBRARY)],
+            extra_link_args=["-Wl,--exclude-libs,ALL"] if sys.platform == "linux" else [],
         )
     ],
 )

@@ -32,7 +32,7 @@ def in_code_points(data, breaks):
 class AgainstC(unittest.TestCase):
     @classmethod
     def setUpClass(cls):
-        cls.table = Table.load(samples.PUBLISHED) if samples.HAS_PUBLISHED else samples.table()
+        cls.table = Table.unicode()
         cls.memory = ctypes.create_string_buffer(cls.table.to_bytes(), len(cls.table.to_bytes()))
         cls.call = ctypes.CDLL(os.environ["LBK_LIBRARY"]).lbk_breaks
         cls.call.restype = ctypes.c_size_t

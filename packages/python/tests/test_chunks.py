@@ -67,11 +67,10 @@ def listed(columns):
     return list(zip(*columns))
 
 
-@unittest.skipUnless(samples.HAS_PUBLISHED, "the published files are not there")
 class Chunks(unittest.TestCase):
     @classmethod
     def setUpClass(cls):
-        cls.table = Table.load(samples.PUBLISHED)
+        cls.table = Table.unicode()
 
     def random_text(self, chance):
         """A str, or bytes, some of them ill-formed."""

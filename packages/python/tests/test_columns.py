@@ -63,6 +63,30 @@ class Columns(unittest.TestCase):
         for text in ("ab", b"ab", bytearray(b"ab"), memoryview(b"ab"), 3, None):
             self.assertRaises(TypeError, self.table.break_list_columns, text)
 
+    def test_a_value_that_is_no_text_is_named_by_its_row(self):
+        said = "a str or a bytes-like object is required, not"
+        for row, wrong, message in (
+            (0, 3, f"row 0: {said} 'int'"), (2, None, f"row 2: {said} 'NoneType'"),
+            (1500, float("nan"), f"row 1500: {said} 'float'"),
+            (1, array.array("q", [1]), "row 1: a contiguous object of single bytes is required"),
+        ):
+            texts = ["a b"] * 2000
+            texts[row] = wrong
+            with self.assertRaises(TypeError) as raised:
+                self.table.break_list_columns(texts)
+            self.assertEqual(str(raised.exception), message)
+
+    def test_columns_show_how_many_they_are(self):
+        many = self.table.break_list_columns(["a b"] * 100_000)
+        self.assertEqual(repr(many), "<lbk.ListColumns of 100,000 texts, 200,000 breaks>")
+        self.assertEqual(repr(self.table.break_list_columns([])), "<lbk.ListColumns of 0 texts, 0 breaks>")
+        self.assertEqual(repr(self.table.break_columns("a")), "<lbk.Columns of 1 break>")
+        self.assertEqual(str(self.table.break_columns("a b\n" * 1000)), "<lbk.Columns of 2,000 breaks>")
+        self.assertEqual(repr(self.table.word_columns("a b")), "<lbk.WordColumns of 2 words>")
+        self.assertEqual(repr(self.table.passage_columns("a b\nc")),
+            "<lbk.PassageColumns of 2 passages, 3 segments, 3 words>")
+        self.assertEqual(repr(self.table.chunk_columns("a b", most=2)), "<lbk.ChunkColumns of 2 chunks>")
+
     def test_numpy_takes_columns_as_they_are(self):
         try:
             import numpy

@@ -55,10 +55,10 @@ class WithFiles(unittest.TestCase):
         return str(path)
 
     def columns(self, paths, blocksize, **options):
-        return lbk.dask.read_columns(paths, options.pop("table", self.name), blocksize, **options).compute()
+        return lbk.dask.read_columns(paths, blocksize, **{"table": self.name, **options}).compute()
 
     def paragraphs(self, paths, blocksize, **options):
-        return lbk.dask.read_text(paths, options.pop("table", self.name), blocksize, **options).compute()
+        return lbk.dask.read_text(paths, blocksize, **{"table": self.name, **options}).compute()
 
     def is_whole(self, parts, path, size):
         """The parts of a file lie side by side."""
@@ -93,11 +93,11 @@ class Files(WithFiles):
         for _ in range(50):
             text = samples.random_bytes(chance, 80)
             path = self.write("text", text)
-            found = lbk.dask.read_text(path, self.name, chance.randrange(1, 30))
+            found = lbk.dask.read_text(path, chance.randrange(1, 30), table=self.name)
             passages = list(self.table.passages(text.decode("utf-8", "replace")))
             self.assertEqual(found.compute(), [one.text for one in passages])
             self.assertEqual(lbk.dask.words(found).compute(), [one.words for one in passages])
-            self.assertEqual(lbk.dask.segments(found, self.name).compute(), [one.segments for one in passages])
+            self.assertEqual(lbk.dask.segments(found, table=self.name).compute(), [one.segments for one in passages])
 
     def test_a_file_that_is_far_away_is_cut_alike(self):
         chance = samples.chance(23)
@@ -191,7 +191,7 @@ class Files(WithFiles):
     def test_a_file_that_changed_is_a_fault(self):
         for now, at in ((b"ab\nc", 4), (b"ab\ncd\nef", 6), (b"", 0)):
             path = self.write("text", b"ab\ncd\n")
-            bag = lbk.dask.read_columns(path, self.name, 1, on_fault="keep")
+            bag = lbk.dask.read_columns(path, 1, on_fault="keep")
             self.write("text", now)
             faults = lbk.dask.faults(bag).compute()
             self.assertEqual(faults[-1].path, path)
@@ -199,21 +199,39 @@ class Files(WithFiles):
 
     def test_tables_go_by_name(self):
         path = self.write("text", b"ab\ncd" * 50)
-        self.assertRaises(TypeError, lbk.dask.read_text, path, self.table)
-        for bag in (lbk.dask.read_text(path, self.name, 8), lbk.dask.read_columns(path, self.name, 8)):
+        self.assertRaises(TypeError, lbk.dask.read_text, path, table=self.table)
+        for bag in (lbk.dask.read_text(path, 8, table=self.name), lbk.dask.read_columns(path, 8, table=self.name)):
             self.assertEqual(len(dict(bag.dask)), bag.npartitions)
             self.assertLess(len(pickle.dumps(dict(bag.dask))), 2000 * bag.npartitions)
-        self.assertRaises(ValueError, lbk.dask.read_columns, path, self.name, profile=3)
-        self.assertRaises(ValueError, lbk.dask.read_columns, path, self.name, 0)
+        self.assertRaises(ValueError, lbk.dask.read_columns, path, profile=3)
+        self.assertRaises(ValueError, lbk.dask.read_columns, path, 0)
+
+    def test_without_a_table_it_is_the_built_in_one(self):
+        text = "ab «é» cd\nef 一\n" * 9
+        path, chance = self.write("text", text.encode()), samples.chance(24)
+        for profile in (1, 2):
+            bag = lbk.dask.read_columns(path, chance.randrange(1, 60), profile=profile)
+            self.assertEqual(joined(bag.compute()), samples.found(Table.unicode(), text.encode(), profile))
+            self.assertIn(f"unicode:{lbk.UNICODE_VERSION}", str(dict(bag.dask)))
+        bag = lbk.dask.read_text(path, 30)
+        self.assertEqual(bag.compute(), text.splitlines(True))
+        self.assertEqual(lbk.dask.segments(bag).compute(), [list(lbk.segments(one)) for one in text.splitlines(True)])
+        texts = dask.bag.from_sequence([text])
+        (found,) = lbk.dask.breaks(texts, 2).compute()
+        self.assertEqual(list(zip(*found)), samples.found(Table.unicode(), text, 2))
+        wanted = [(one.start, one.text) for one in lbk.chunks(text, 20)]
+        self.assertEqual([(one["start"], one["text"]) for one in lbk.dask.chunks(texts, 20).compute()], wanted)
+        with mock.patch.object(lbk._calls, "UNICODE_VERSION", "16.0"):
+            self.assertRaisesRegex(ValueError, "of Unicode 15.0, and this lbk has 16.0", bag.compute)
 
     def test_bags_and_columns_of_texts(self):
         texts = ["naïve text", None, "", "a\nb"]
         bag = dask.bag.from_sequence(texts, npartitions=2)
-        found = lbk.dask.breaks(bag, self.name, 2).compute()
+        found = lbk.dask.breaks(bag, 2, table=self.name).compute()
         frame = dask.dataframe.from_pandas(pandas.DataFrame({"t": texts}, index=[3, 1, 4, 2]), npartitions=2,
             sort=False)
-        broken = lbk.dask.breaks(frame.t, self.name, 2).compute()
-        cut = lbk.dask.segments(frame["t"], self.name).compute()
+        broken = lbk.dask.breaks(frame.t, 2, table=self.name).compute()
+        cut = lbk.dask.segments(frame["t"], table=self.name).compute()
         word = lbk.dask.words(frame["t"]).compute()
         self.assertEqual(list(broken.index), [3, 1, 4, 2])
         self.assertEqual(list(cut.index), [3, 1, 4, 2])
@@ -226,9 +244,9 @@ class Files(WithFiles):
             self.assertEqual(list(zip(*broken.iloc[k])), wanted)
             self.assertEqual(cut.iloc[k], list(self.table.segments(text)))
             self.assertEqual(word.iloc[k], list(Table.words(text)))
-        self.assertEqual(lbk.dask.segments(bag, self.name).compute()[3], ["a\n", "b"])
+        self.assertEqual(lbk.dask.segments(bag, table=self.name).compute()[3], ["a\n", "b"])
         self.assertRaises(TypeError, lbk.dask.words, texts)
-        self.assertRaises(TypeError, lbk.dask.breaks, frame, self.name)
+        self.assertRaises(TypeError, lbk.dask.breaks, frame)
 
 
     def test_chunks_of_bags_and_columns(self):
@@ -239,22 +257,22 @@ class Files(WithFiles):
             for found in wanted]
         self.assertGreater(len(wanted[0]), 2)
         bag = dask.bag.from_sequence(texts, npartitions=2)
-        self.assertEqual(lbk.dask.chunks(bag, self.name, **limits).compute(),
+        self.assertEqual(lbk.dask.chunks(bag, table=self.name, **limits).compute(),
             [one for found in wanted for one in found])
         named = dask.bag.from_sequence([{"id": k, "text": text} for k, text in enumerate(texts)], npartitions=3)
-        rows = lbk.dask.chunks(named, self.name, **limits).compute()
+        rows = lbk.dask.chunks(named, table=self.name, **limits).compute()
         self.assertEqual(rows, [{"id": k, **one} for k, found in enumerate(wanted) for one in found])
         frame = dask.dataframe.from_pandas(pandas.DataFrame({"t": texts}, index=[3, 1, 4, 2]), npartitions=2,
             sort=False)
-        cut = lbk.dask.chunks(frame.t, self.name, **limits).compute()
+        cut = lbk.dask.chunks(frame.t, table=self.name, **limits).compute()
         self.assertEqual(list(cut.index), [index for index, found in zip([3, 1, 4, 2], wanted) for _ in found])
         self.assertEqual(cut.to_dict("records"), [one for found in wanted for one in found])
-        in_bytes = lbk.dask.chunks(bag, self.name, 7, unit="bytes").compute()
+        in_bytes = lbk.dask.chunks(bag, 7, table=self.name, unit="bytes").compute()
         self.assertEqual(in_bytes[0]["text"], "naïve ")
-        self.assertRaisesRegex(ValueError, "overlap", lbk.dask.chunks, bag, self.name, 4, overlap=3)
-        self.assertRaises(ValueError, lbk.dask.chunks, bag, self.name, unit="words")
-        self.assertRaises(ValueError, lbk.dask.chunks, bag, self.name, profile=3)
-        self.assertRaises(TypeError, lbk.dask.chunks, texts, self.name)
+        self.assertRaisesRegex(ValueError, "overlap", lbk.dask.chunks, bag, 4, overlap=3)
+        self.assertRaises(ValueError, lbk.dask.chunks, bag, unit="words")
+        self.assertRaises(ValueError, lbk.dask.chunks, bag, profile=3)
+        self.assertRaises(TypeError, lbk.dask.chunks, texts)
 
 
 class Saving(WithFiles):
@@ -263,7 +281,7 @@ class Saving(WithFiles):
 
     def test_columns(self):
         text = b"ab cd\nef\n\nx" * 20
-        bag = lbk.dask.read_columns(self.write("text", text), self.name, 30)
+        bag = lbk.dask.read_columns(self.write("text", text), 30, table=self.name)
         found = []
         for one in self.saved(bag, "npz"):
             self.assertEqual((one.items, one.faults), (1, 0))
@@ -278,7 +296,7 @@ class Saving(WithFiles):
 
     def test_lists_and_faults(self):
         good, bad = self.write("good", b"ab c\nd\n"), self.write("bad", b"\xff")
-        bag = lbk.dask.segments(lbk.dask.read_text([good, bad], self.name, errors="strict", on_fault="keep"), self.name)
+        bag = lbk.dask.segments(lbk.dask.read_text([good, bad], errors="strict", on_fault="keep"))
         first, second = self.saved(bag, "jsonl")
         self.assertEqual([json.loads(line) for line in Path(first.name).read_text().splitlines()],
             [["ab ", "c\n"], ["d\n"]])
@@ -286,12 +304,12 @@ class Saving(WithFiles):
         (fault,) = (json.loads(line) for line in Path(second.name.replace(".jsonl",
             ".faults.jsonl")).read_text().splitlines())
         self.assertEqual((fault["path"], fault["at"]), (bad, 0))
-        self.assertRaises(TypeError, self.saved, lbk.dask.read_text(good, self.name), "npz")
+        self.assertRaises(TypeError, self.saved, lbk.dask.read_text(good), "npz")
         self.assertRaises(ValueError, self.saved, bag, "csv")
 
     def test_chunks(self):
         texts = [self.write(f"{k}", text) for k, text in enumerate((b"ab cd\nef gh", b"\xff", b"", b"i j k"))]
-        bag = lbk.dask.chunks(lbk.dask.read_text(texts, self.name, errors="strict", on_fault="keep"), self.name, 3)
+        bag = lbk.dask.chunks(lbk.dask.read_text(texts, errors="strict", on_fault="keep"), 3)
         saved = self.saved(bag, "jsonl")
         rows = [json.loads(line) for one in saved for line in Path(one.name).read_text().splitlines()]
         self.assertEqual([row["text"] for row in rows], ["ab ", "cd\n", "ef ", "gh", "i ", "j k"])
@@ -302,7 +320,7 @@ class Saving(WithFiles):
         self.assertEqual(len(list((self.folder / "out").iterdir())), 5)
 
     def test_a_partition_is_saved_whole_or_not_at_all(self):
-        bag = lbk.dask.read_columns(self.write("text", b"ab\n" * 9), self.name, 3)
+        bag = lbk.dask.read_columns(self.write("text", b"ab\n" * 9), 3)
         names = sorted(one.name for one in self.saved(bag, "npz"))
         before = [Path(name).read_bytes() for name in names]
         self.assertEqual(sorted(one.name for one in self.saved(bag, "npz")), names)
@@ -314,17 +332,17 @@ class Saving(WithFiles):
         try:
             import pyarrow.parquet
         except ImportError:
-            bag = lbk.dask.read_columns(self.write("text", b"ab\n"), self.name)
+            bag = lbk.dask.read_columns(self.write("text", b"ab\n"))
             self.assertTrue(self.saved(bag)[0].name.endswith(".npz"))
             self.skipTest("pyarrow is not there")
         text = b"ab cd\nef\n\nx" * 20
-        bag = lbk.dask.read_columns(self.write("text", text), self.name, 30)
+        bag = lbk.dask.read_columns(self.write("text", text), 30)
         names = [one.name for one in self.saved(bag)]
         self.assertTrue(all(name.endswith(".parquet") for name in names))
         rows = [row for name in names for row in pyarrow.parquet.read_table(name).to_pylist()]
         self.assertEqual([at for row in rows for at in row["places"]], samples.places(self.table, text))
         self.assertEqual({Kind(kind) for row in rows for kind in row["kinds"]}, {Kind.MAY, Kind.MUST})
-        lists = lbk.dask.words(lbk.dask.read_text(self.write("text", text), self.name, 30))
+        lists = lbk.dask.words(lbk.dask.read_text(self.write("text", text), 30))
         rows = [row["values"] for one in self.saved(lists) for row in pyarrow.parquet.read_table(one.name).to_pylist()]
         self.assertEqual(rows, lists.compute())
 
@@ -341,7 +359,7 @@ class Broadcast(WithFiles):
             name = lbk.dask.broadcast(client, self.table)
             lbk.dask._tables.clear()
             lbk.dask._tables.update({name: self.table})
-            bag = lbk.dask.read_columns(path, name, 20)
+            bag = lbk.dask.read_columns(path, 20, table=name)
             lbk.dask._tables.clear()
             self.assertEqual(joined(client.compute(bag).result()), samples.found(self.table, b"ab cd\n" * 50))
             self.assertIn(name, lbk.dask._broadcast)

@@ -11,7 +11,6 @@ import tempfile
 import threading
 import time
 import unittest
-import zipfile
 from concurrent.futures import ProcessPoolExecutor
 
 import samples
@@ -106,18 +105,14 @@ class Folders(unittest.TestCase):
             file.write_bytes((samples.PUBLISHED / place).read_bytes())
 
     def test_a_table_of_a_folder_is_its_name_and_digest(self):
-        with zipfile.ZipFile(self.folder / "UCD.zip", "w") as made:
-            for place in samples.PLACES:
-                made.write(self.folder / place, place)
-        for name in (self.folder, self.folder / "UCD.zip"):
-            table = Table.load(name)
-            for protocol in protocols(2):
-                data = pickle.dumps(table, protocol)
-                self.assertIn(str(name).encode(), data)
-                self.assertLess(len(data), 300)
-                same = pickle.loads(data)
-                self.assertEqual(same, table)
-                self.assertEqual(pickle.dumps(same, protocol), data)
+        table = Table.load(self.folder)
+        for protocol in protocols(2):
+            data = pickle.dumps(table, protocol)
+            self.assertIn(str(self.folder).encode(), data)
+            self.assertLess(len(data), 300)
+            same = pickle.loads(data)
+            self.assertEqual(same, table)
+            self.assertEqual(pickle.dumps(same, protocol), data)
 
     def test_a_folder_that_changed_is_named(self):
         data = pickle.dumps(Table.load(self.folder))
@@ -138,7 +133,7 @@ class Folders(unittest.TestCase):
         self.assertRaisesRegex(ValueError, f"files in {self.folder} now give a different table", pickle.loads, other)
 
     def test_processes_share_the_work(self):
-        for table in (Table.load(self.folder), samples.table()):
+        for table in (Table.unicode(), Table.load(self.folder), samples.table()):
             for start in STARTS:
                 with self.subTest(start), ProcessPoolExecutor(2, multiprocessing.get_context(start)) as processes:
                     for call in (table.break_columns, table.breaks, table.segments, table.passages):

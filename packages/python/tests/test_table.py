@@ -7,7 +7,6 @@ import pickle
 import re
 import tempfile
 import unittest
-import zipfile
 
 import lbk
 import samples
@@ -36,17 +35,12 @@ class Folders(unittest.TestCase):
         layouts = {
             "as Unicode lays it out": samples.PLACES,
             "side by side": [place.rpartition("/")[2] for place in samples.PLACES],
-            "below ucd": [f"ucd/{place}" for place in samples.PLACES],
         }
         for name, places in layouts.items():
             with self.subTest(name):
                 self.put([f"{name}/{place}" for place in places], contents)
                 self.assertEqual(Table.load(self.folder / name), table)
                 self.assertEqual(Table.load(str(self.folder / name)), table)
-        with zipfile.ZipFile(self.folder / "UCD.zip", "w") as made:
-            for place, content in zip(samples.PLACES, contents):
-                made.writestr(place, content)
-        self.assertEqual(Table.load(self.folder / "UCD.zip"), table)
         self.put(samples.PLACES, [content.replace(b"\n", b"\r\n") for content in contents])
         self.assertEqual(list(Table.load(self.folder).breaks("«é» 1.5")), list(table.breaks("«é» 1.5")))
 
@@ -110,10 +104,9 @@ class Folders(unittest.TestCase):
         with self.assertRaises(FileNotFoundError) as caught:
             Table.load(self.folder)
         self.assertEqual(caught.exception.filename, str(self.folder / "emoji/emoji-data.txt"))
-        for nowhere, named in (("nowhere", "nowhere/LineBreak.txt"), ("nowhere/UCD.zip", "nowhere/UCD.zip")):
-            with self.assertRaises(FileNotFoundError) as caught:
-                Table.load(self.folder / nowhere)
-            self.assertEqual(caught.exception.filename, str(self.folder / named))
+        with self.assertRaises(FileNotFoundError) as caught:
+            Table.load(self.folder / "nowhere")
+        self.assertEqual(caught.exception.filename, str(self.folder / "nowhere/LineBreak.txt"))
 
     def test_files_by_name(self):
         names = [self.folder / str(number) for number in range(4)]
@@ -125,6 +118,7 @@ class Folders(unittest.TestCase):
 
     def test_a_table_is_made_by_its_methods(self):
         self.assertRaises(TypeError, Table)
+        self.assertRaises(TypeError, Table.load)
         self.assertRaises(TypeError, Table.read, "text", b"", b"", b"")
         self.assertRaises(TypeError, Table.read, b"", b"", b"", 3)
 

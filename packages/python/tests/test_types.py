@@ -42,7 +42,7 @@ class Types(unittest.TestCase):
             from collections.abc import Iterator
             from typing import assert_type
             import lbk
-            table = lbk.Table.load()
+            table = lbk.Table.unicode()
             at, kind, rule = next(table.breaks("a b"))
             assert_type(at, int)
             assert_type(kind, lbk.Kind)
@@ -53,6 +53,7 @@ class Types(unittest.TestCase):
             assert_type(lbk.segments("a b"), Iterator[str])
             assert_type(lbk.segments(bytearray(b"a b")), Iterator[bytes])
             assert_type(lbk.words("a b"), Iterator[str])
+            assert_type(lbk.break_columns("a b"), lbk.Columns)
             assert_type(list(table.passages(b"a b"))[0].words, list[bytes])
             assert_type(lbk.chunks("a b", most=9, words=None, unit="bytes"), Iterator[lbk.Chunk[str]])
             for chunk in table.chunks(b"a b", 9, overlap=2):
@@ -62,8 +63,8 @@ class Types(unittest.TestCase):
         self.assertEqual(self.said_of(program), "")
 
     def test_what_is_no_text_is_refused(self):
-        calls = ("table.breaks", "lbk.segments", "lbk.chunks", "table.break_columns", "lbk.Stream(table).feed")
-        lines = ["import lbk", "table = lbk.Table.load()",
+        calls = ("table.breaks", "lbk.segments", "lbk.chunks", "table.break_columns", "lbk.Stream().feed")
+        lines = ["import lbk", "table = lbk.Table.unicode()",
             *(f"{call}({text})" for call in calls for text in ("3", "['a']", "None"))]
         said = self.said_of("\n".join(lines))
         for number in range(3, len(lines) + 1):

@@ -39,6 +39,18 @@ static PyObject *read_files(PyObject *Py_UNUSED(module), PyObject *const *given,
     return held < FILES ? NULL : Py_BuildValue("III", fault.file, fault.line, fault.cause);
 }
 
+/* unicode(table): fills a writable table with the built-in properties. */
+static PyObject *unicode(PyObject *Py_UNUSED(module), PyObject *memory)
+{
+    Py_buffer view;
+    lbk_table *table = hold_table(memory, true, &view);
+    if (table == NULL)
+        return NULL;
+    lbk_unicode(table);
+    PyBuffer_Release(&view);
+    return Py_NewRef(Py_None);
+}
+
 /* check(table): whether it is intact. */
 static PyObject *check(PyObject *Py_UNUSED(module), PyObject *memory)
 {
@@ -257,6 +269,7 @@ static PyObject *name_numbers(PyObject *module, PyObject *const *given, Py_ssize
 }
 
 static PyMethodDef methods[] = {
+    {"unicode", unicode, METH_O, NULL},
     {"read", (PyCFunction)(void (*)(void))read_files, METH_FASTCALL, NULL},
     {"check", check, METH_O, NULL},
     {"is_cut", is_cut, METH_O, NULL},

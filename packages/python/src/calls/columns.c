@@ -220,6 +220,19 @@ PyObject *text_columns(PyObject *Py_UNUSED(module), PyObject *const *given, Py_s
     return result;
 }
 
+/* Puts the number of a row in front of the message of a TypeError. */
+static void name_row(Py_ssize_t row)
+{
+    PyObject *type, *value, *trace;
+    if (!PyErr_ExceptionMatches(PyExc_TypeError))
+        return;
+    PyErr_Fetch(&type, &value, &trace);
+    PyErr_Format(PyExc_TypeError, "row %zd: %S", row, value);
+    Py_XDECREF(type);
+    Py_XDECREF(value);
+    Py_XDECREF(trace);
+}
+
 /* Replaces each object of a list by one that has its text: a str or a bytes object. Returns false,
  * with an exception set, if one is not a text. */
 static bool own_all(PyObject *list, utf8_text *texts)
@@ -227,6 +240,8 @@ static bool own_all(PyObject *list, utf8_text *texts)
     for (Py_ssize_t k = 0; k < PyList_Size(list); k++) {
         Py_buffer view;
         PyObject *owner = text_owner(PyList_GetItem(list, k), &texts[k].in_code_points);
+        if (owner == NULL)
+            name_row(k);
         if (owner != NULL && !PyUnicode_Check(owner) && !PyBytes_Check(owner)) {
             PyObject *copy = PyBytes_FromObject(owner);
             Py_DECREF(owner);

@@ -27,6 +27,12 @@ def _unpickled(kind: type[Any], *arrays: Any) -> Any:
     return kind(*(memoryview(one) if isinstance(one, array) else one for one in arrays))
 
 
+def _counted(columns: tuple[Any, ...], **counts: int) -> str:
+    """What columns show of themselves: not their numbers, which may be millions, but how many there are."""
+    told = ", ".join(f"{count:,} {name if count != 1 else name[:-1]}" for name, count in counts.items())
+    return f"<lbk.{type(columns).__name__} of {told}>"
+
+
 class Columns(NamedTuple):
     """The breaks of a text, in order: the k-th break has the k-th entry of each column."""
 
@@ -39,6 +45,9 @@ class Columns(NamedTuple):
 
     def __reduce__(self) -> tuple[Any, ...]:
         return _pickled(self)
+
+    def __repr__(self) -> str:
+        return _counted(self, breaks=len(self.places))
 
 
 class ListColumns(NamedTuple):
@@ -54,6 +63,9 @@ class ListColumns(NamedTuple):
     def __reduce__(self) -> tuple[Any, ...]:
         return _pickled(self)
 
+    def __repr__(self) -> str:
+        return _counted(self, texts=len(self.offsets) - 1, breaks=len(self.places))
+
 
 class WordColumns(NamedTuple):
     """The words of a text, in order: word k is the text from `starts[k]` up to `ends[k]`."""
@@ -64,6 +76,9 @@ class WordColumns(NamedTuple):
 
     def __reduce__(self) -> tuple[Any, ...]:
         return _pickled(self)
+
+    def __repr__(self) -> str:
+        return _counted(self, words=len(self.starts))
 
 
 class PassageColumns(NamedTuple):
@@ -82,6 +97,9 @@ class PassageColumns(NamedTuple):
     def __reduce__(self) -> tuple[Any, ...]:
         return _pickled(self)
 
+    def __repr__(self) -> str:
+        return _counted(self, passages=len(self.segment_offsets) - 1, segments=len(self.places) - 1, words=len(self.starts))
+
 
 class ChunkColumns(NamedTuple):
     """The chunks of a text, in order: the k-th chunk has the k-th entry of each column."""
@@ -99,6 +117,9 @@ class ChunkColumns(NamedTuple):
 
     def __reduce__(self) -> tuple[Any, ...]:
         return _pickled(self)
+
+    def __repr__(self) -> str:
+        return _counted(self, chunks=len(self.starts))
 
 
 class Chunk(NamedTuple, Generic[AnyStr]):

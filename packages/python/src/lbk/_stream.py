@@ -11,7 +11,7 @@ from ._table import Table, Text
 class Stream:
     """The breaks of a text that arrives in pieces of any size, for example from a socket:
 
-        stream = lbk.Stream(table)
+        stream = lbk.Stream()
         while piece := socket.recv(4096):
             for found in stream.feed(piece): ...
         for found in stream.finish(): ...
@@ -19,15 +19,15 @@ class Stream:
     However the text is cut, the breaks are those of the whole text, each once, with offsets from
     the start of the stream. The pieces are all `str`, or all bytes, and may end inside a character.
     A stream keeps no earlier piece. Copy or pickle it to come back to an offset. Only one thread
-    may feed it at a time.
+    may feed it at a time. Without a table it uses the built-in one.
     """
 
     __slots__ = ("_table", "_state", "_is_str", "_ended")
 
-    def __init__(self, table: Table, profile: int = 1) -> None:
-        if not isinstance(table, Table):
+    def __init__(self, table: "Table | None" = None, profile: int = 1) -> None:
+        if not isinstance(table, (Table, type(None))):
             raise TypeError(f"a Table is required, not {type(table).__name__!r}")
-        self._table = table
+        self._table = table or Table.unicode()
         self._state = _calls.new_stream(profile)
         self._is_str: bool | None = None
         self._ended = False

@@ -4,7 +4,6 @@ import functools
 import mmap
 import os
 import sys
-import threading
 from array import array
 from collections.abc import Iterable, Iterator
 from pathlib import Path
@@ -36,19 +35,15 @@ Name: TypeAlias = "str | bytes | os.PathLike[str] | os.PathLike[bytes]"
 
 _new = tuple.__new__
 
-# What load() without a folder found, and the lock for finding it. No process forks while another thread holds it.
-_found: "tuple[bytearray, str] | None" = None
-_finding = threading.Lock()
-os.register_at_fork(before=_finding.acquire, after_in_parent=_finding.release, after_in_child=_finding.release)
-
 
 class Table:
-    """The properties of each code point that the rules use, some 2 MB. A program needs only one.
+    """The properties of each code point that the rules use, 1.1 MB.
 
-    Make one by `load`, `from_files`, `read`, `from_bytes` or `open`. It never changes, so any
-    number of threads may use it. A table is pickled as its bytes; one that `open` mapped as the
-    name of its file; one of `load` as its folder and digest, and ValueError names the folder if it
-    has another table when it is unpickled.
+    `unicode` returns the built-in table. `load`, `from_files`, `read`, `from_bytes` and `open` make
+    tables of files of your own. A table never changes, so any number of threads may use it. It is
+    pickled as its bytes; the built-in one as its version of Unicode; one that `open` mapped as the
+    name of its file; one of `load` as its folder and digest. If this process has another version,
+    or the folder another table, unpickling raises a ValueError that names it.
 
     Texts are `str`, with offsets in code points, or bytes of UTF-8, with offsets in bytes: `bytes`,
     `bytearray`, `memoryview`, `mmap`, and other objects with the buffer protocol and one-byte
@@ -64,7 +59,7 @@ class Table:
     """A call that makes the same table, and its arguments, or nothing."""
 
     def __init__(self) -> None:
-        raise TypeError("make a Table by load, from_files, read, from_bytes or open")
+        raise TypeError("get a Table by unicode, load, from_files, read, from_bytes or open")
 
     @classmethod
     def _of(cls, memory: bytearray | mmap.mmap, call: Any = None, *arguments: str) -> Self:
@@ -72,24 +67,22 @@ class Table:
         table._memory, table._origin = memory, (call, arguments) if call else ()
         return table
 
+    @staticmethod
+    def unicode() -> "Table":
+        """The built-in table, of the version UNICODE_VERSION. A process has one."""
+        return _UNICODE
+
     @classmethod
-    def load(cls, folder: "_database.Folder | None" = None) -> Self:
+    def load(cls, folder: "_database.Folder") -> Self:
         """Loads the table of a folder of the Unicode Character Database: LineBreak.txt,
         EastAsianWidth.txt, extracted/DerivedGeneralCategory.txt and emoji/emoji-data.txt, or all
-        four side by side. They may be in the folder, in its folder `ucd`, or in its archive
-        UCD.zip; `folder` may also be such an archive.
+        four side by side.
 
-        Without a folder, uses the one that UNICODE_DATA names, or else the first of these that has
-        the files: /usr/share/unicode, its `ucd`, and `unicode` in XDG_DATA_HOME and ~/.local/share.
-        It is read once per process.
-
-        Raises OSError if a file cannot be read, FileNotFoundError with all places searched if no
-        folder has the files, and Fault if a file is not the one that Unicode published for the
-        version UNICODE_VERSION.
+        Raises OSError if a file cannot be read, and Fault if a file is not the one that Unicode
+        published for the version UNICODE_VERSION.
         """
-        memory, place = _find() if folder is None else (_read_folder(folder, f"; {_calls.remedy_text()}"),
-            os.path.abspath(folder))
-        return cls._of(memory, _load_again, place, _digest_of(memory))
+        memory = _read_folder(folder)
+        return cls._of(memory, _load_again, os.path.abspath(folder), _digest_of(memory))
 
     @classmethod
     def from_files(cls, line_break: Name, east_asian: Name, category: Name, emoji: Name, *,
@@ -338,39 +331,27 @@ def _read(files: Iterable[Bytes], are_published: bool) -> bytearray:
     return memory
 
 
-def _read_folder(folder: "_database.Folder", remedy: str = "") -> bytearray:
+def built_in(version: str) -> Table:
+    """The built-in table, for a process that was sent it by one with this version of Unicode."""
+    if version != _calls.UNICODE_VERSION:
+        raise ValueError(f"the table is of Unicode {version}, and this lbk has {_calls.UNICODE_VERSION}")
+    return _UNICODE
+
+
+def _read_folder(folder: "_database.Folder") -> bytearray:
     files = _database.contents(folder)
     try:
         return _read(files, True)
     except Fault as fault:
-        claim = _calls.claim_text(fault.file, files[fault.file
-            - 1]) + remedy if fault.cause == Cause.NOT_PUBLISHED else ""
+        claim = ""
+        if fault.cause == Cause.NOT_PUBLISHED:
+            claim = f"{_calls.claim_text(fault.file, files[fault.file - 1])}; {_calls.remedy_text()}"
         place = _database.place_of(folder, fault.file) if fault.file else os.fspath(folder)
         raise Fault(fault.file, fault.line, fault.cause, place, claim) from None
 
 
 def _digest_of(memory: bytearray | mmap.mmap) -> str:
     return memory[8:16].hex()
-
-
-def _find() -> tuple[bytearray, str]:
-    global _found
-    if _found is None:
-        with _finding:
-            _found = _found or _first_found()
-    return _found
-
-
-def _first_found() -> tuple[bytearray, str]:
-    refusals = []
-    for folder in _database.folders():
-        try:
-            return _read_folder(folder), folder
-        except OSError as error:
-            refusals.append(f"{error.filename}: {error.strerror}")
-        except Fault as fault:
-            refusals.append(str(fault))
-    raise _database.not_found(refusals)
 
 
 def _load_again(folder: str, digest: str) -> Table:
@@ -401,3 +382,8 @@ def _view(data: Any) -> memoryview:
 def _check(memory: bytearray | mmap.mmap, subject: str, advice: str = "") -> None:
     if len(memory) != _calls.TABLE_SIZE or not _calls.check(memory):
         raise ValueError(f"{subject} not an intact table of this version{advice}")
+
+
+_memory = bytearray(_calls.TABLE_SIZE)
+_calls.unicode(_memory)
+_UNICODE = Table._of(_memory, built_in, _calls.UNICODE_VERSION)

@@ -1,14 +1,16 @@
 """Texts larger than a machine, by Dask. It needs the extra `lbk[dask]`.
 
     >>> import lbk.dask
-    >>> table = lbk.dask.share(lbk.Table.load("/usr/share/unicode"), "/shared/lbk.table")
-    >>> lbk.dask.save(lbk.dask.read_columns("/shared/corpus/*.txt", table), "/shared/breaks").compute()
+    >>> lbk.dask.save(lbk.dask.read_columns("/shared/corpus/*.txt"), "/shared/breaks").compute()
 
 Each file is a text. It is cut into parts at required breaks (`Table.cut`). Each task gets the name
 and the range of a part, reads the part itself, and keeps the result where it is, because moving
-texts or breaks costs more than finding them. Tables are passed as file names, and each process maps
-them once. Tasks are pure: if one runs again because its worker died, it returns and saves the same
-result under the same name.
+texts or breaks costs more than finding them. Tasks are pure: if one runs again because its worker
+died, it returns and saves the same result under the same name.
+
+The calls use the built-in table, which is passed as its version of Unicode: a worker with another
+version raises a ValueError. For a table of your own, pass the name that `share` or `broadcast`
+returned as `table`; each process maps it once.
 
 The breaks of all parts of a file, joined, are those of the file: each task says whether the file
 goes on after its part (`goes_on` of `Table.break_columns`). That is the law of joined texts
@@ -28,11 +30,12 @@ from dask.base import tokenize
 from dask.highlevelgraph import HighLevelGraph
 from dask.utils import parse_bytes
 
+from ._calls import UNICODE_VERSION
 from ._chunks import Limits, Unit, is_in_bytes, limits_of
 from ._parts import Errors, Part, PartColumns, TextFault, part_columns, part_paragraphs, plan
 from ._results import Columns
 from ._saving import Format, Saved, save_items
-from ._table import Name, Table
+from ._table import Name, Table, built_in
 
 __all__ = [
     "PartColumns", "Saved", "TextFault", "breaks", "broadcast", "chunks", "faults", "read_columns", "read_text", "save",
@@ -40,6 +43,9 @@ __all__ = [
 ]
 
 Faults = Literal["raise", "keep"]
+
+# What a task gets in place of a file's name for the built-in table.
+_BUILT_IN = "unicode:"
 
 # The tables that this process has mapped, and the files of those that `broadcast` sent.
 _tables: dict[str, Table] = {}
@@ -85,12 +91,16 @@ def _broadcast_here(name: str, table: Table) -> None:
 
 
 def _open(name: str) -> Table:
+    if name.startswith(_BUILT_IN):
+        return built_in(name.removeprefix(_BUILT_IN))
     if name not in _tables:
         _tables[name] = Table.open(_broadcast.get(name, name))
     return _tables[name]
 
 
 def _name_of(table: Any) -> str:
+    if table is None:
+        return _BUILT_IN + UNICODE_VERSION
     if isinstance(table, Table):
         raise TypeError("pass the table by the name that share or broadcast returned; a task must not contain a table")
     return os.fsdecode(table)
@@ -98,9 +108,9 @@ def _name_of(table: Any) -> str:
 
 def read_text(
     paths: Any,
-    table: Name,
     blocksize: "int | str | None" = "32 MiB",
     *,
+    table: "Name | None" = None,
     errors: Errors = "replace",
     on_fault: Faults = "raise",
     compression: "str | None" = "infer",
@@ -122,9 +132,9 @@ def read_text(
 
 def read_columns(
     paths: Any,
-    table: Name,
     blocksize: "int | str | None" = "32 MiB",
     *,
+    table: "Name | None" = None,
     profile: int = 1,
     errors: Errors = "replace",
     on_fault: Faults = "raise",
@@ -138,7 +148,7 @@ def read_columns(
     return _bag_of(parts, _part_columns, _name_of(table), profile, errors, on_fault)
 
 
-def breaks(texts: Any, table: Name, profile: int = 1) -> Any:
+def breaks(texts: Any, profile: int = 1, *, table: "Name | None" = None) -> Any:
     """The breaks of each text: a bag of Columns for a bag, or a dataframe with `places`, `kinds` and
     `rules` for a dataframe's column. These are numpy arrays; offsets of a str count code points.
     Each item is a separate text, so its end is a break by LB3. None stays None."""
@@ -150,7 +160,7 @@ def breaks(texts: Any, table: Name, profile: int = 1) -> Any:
         meta={column: object for column in Columns._fields})
 
 
-def segments(texts: Any, table: Name, profile: int = 1) -> Any:
+def segments(texts: Any, profile: int = 1, *, table: "Name | None" = None) -> Any:
     """The segments of each text, as a list: a bag for a bag, a column for a dataframe's column."""
     _check_profile(profile)
     return _lists(texts, _all_segments, _name_of(table), profile)
@@ -163,8 +173,8 @@ def words(texts: Any) -> Any:
 
 
 def chunks(
-    texts: Any, table: Name, most: int = 500, words: "int | None" = None, least: "int | None" = None, overlap: int = 0,
-    *, unit: Unit = None, profile: int = 1,
+    texts: Any, most: int = 500, words: "int | None" = None, least: "int | None" = None, overlap: int = 0, *,
+    unit: Unit = None, profile: int = 1, table: "Name | None" = None,
 ) -> Any:
     """The chunks of each text, with the limits of `Table.chunks`.
 
@@ -209,7 +219,7 @@ def _check_profile(profile: int) -> None:
         raise ValueError(f"profile must be 1 or 2, not {profile!r}")
 
 
-def _plan(paths: Any, table: Name, blocksize: Any, compression: Any, storage_options: Any) -> list[Part]:
+def _plan(paths: Any, table: "Name | None", blocksize: Any, compression: Any, storage_options: Any) -> list[Part]:
     size = parse_bytes(blocksize) if isinstance(blocksize, str) else blocksize
     if size is not None and size < 1:
         raise ValueError("a part must have at least one byte")
