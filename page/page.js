@@ -1,5 +1,5 @@
 /** The page: its text, and what it shows of it. */
-import { Table } from "./lbk.js";
+import { load } from "./lbk.js";
 import { AnswerView } from "./answer.js";
 import { ColumnsView } from "./columns.js";
 import { DecidedText } from "./decided.js";
@@ -193,7 +193,7 @@ function start(table, chosen) {
   document.documentElement.dataset.ready = "yes";
 }
 
-const loading = Table.fromBytes("lbk.table.gz");
+const loading = load();
 fillExamples();
 setText(EXAMPLES[0][2]);
 const chosen = readFragment();

@@ -40,7 +40,7 @@ export interface Chunk<T extends string | Uint8Array = string> {
 export class Chunker {
   constructor(table: Table, words: Words);
 
-  /** In Node, with the table that `Table.find()` finds. */
+  /** With the built-in table. */
   static load(): Promise<Chunker>;
 
   /**

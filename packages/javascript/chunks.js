@@ -5,7 +5,7 @@
 //     for (const { text, start } of chunker.chunks(document, { most: 500 })) ..
 //
 // The modules find the breaks and the words. This file decides which of them end chunks, as lbk_chunks of lbk.h does.
-import { KINDS, Table, profileNumber } from "./lbk.js";
+import { KINDS, Table, load, profileNumber } from "./lbk.js";
 import { piece } from "./parts.js";
 import { Words } from "./words.js";
 
@@ -113,7 +113,7 @@ export class Chunker {
   }
 
   static async load() {
-    return new Chunker(...(await Promise.all([Table.find(), Words.load()])));
+    return new Chunker(...(await Promise.all([load(), Words.load()])));
   }
 
   // (this checks its arguments in the call, not in the first step)

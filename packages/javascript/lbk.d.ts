@@ -47,37 +47,34 @@ export type Text = string | Uint8Array;
 /** Bytes, or where to get them. A `string` is a URL; in Node one without a scheme such as `https://` is a path. */
 export type Source = ArrayBuffer | ArrayBufferView | Response | URL | string;
 
-/** A table made from the files of the Unicode Character Database, with the module that uses it. */
+/**
+ * Loads the module, with the properties of Unicode 15.0 in it. Await it once, before the first call of the functions
+ * below; later calls return the same table.
+ * @param module The module `lbk.wasm`; the default is the one next to this file.
+ */
+export function load(module?: Source): Promise<Table>;
+
+/** The calls of the table that {@link load} returns. @throws Error before it is loaded. */
+export function breaks(text: Text, options?: Options): IterableIterator<Break>;
+export function positions(text: Text, options?: Options): IterableIterator<Position>;
+export function segments(text: string, options?: Options): IterableIterator<Segment>;
+export function breakColumns(text: Text, options?: Options): Columns;
+export function positionColumns(text: Text, options?: Options): Columns;
+export function ruleLabel(rule: number): string;
+export function ruleText(rule: number | string): string;
+export function classOf(codePoint: number): string;
+
+/** The properties of all code points, with the module that uses them. */
 export class Table {
   private constructor();
 
   /**
-   * A table that the library saved or packed in any language, compressed by gzip or not. The module checks its digest.
+   * A table of your own files, which the library saved or packed in another language. The module checks its digest.
    * @param saved The bytes of the table, or where they are.
    * @param module The module `lbk.wasm`; the default is the one next to this file.
    * @throws RangeError if the bytes are not a whole table of this version.
    */
   static fromBytes(saved: Source, module?: Source): Promise<Table>;
-
-  /**
-   * In Node, the table of the property files on this machine: in the folder that UNICODE_DATA names, or else in the
-   * first of these that has them: /usr/share/unicode, its `ucd`, and `unicode` in XDG_DATA_HOME and ~/.local/share. The
-   * files are read once per process.
-   * @throws Error if no folder has them: it says what to do, and why each folder was refused.
-   */
-  static find(): Promise<Table>;
-
-  /**
-   * Makes a table of the four property files that Unicode 15.0 published: LineBreak.txt, EastAsianWidth.txt,
-   * DerivedGeneralCategory.txt and emoji-data.txt. It is, byte for byte, the one that the C library makes.
-   * @param files The URL or, in Node, the path of a folder with `LineBreak.txt`, `EastAsianWidth.txt`,
-   *   `extracted/DerivedGeneralCategory.txt` and `emoji/emoji-data.txt`; or these four files, in this order. In Node
-   *   the folder may have them side by side, or in its folder `ucd` or its archive UCD.zip, and the path may be that of
-   *   such an archive.
-   * @param module The module `lbk.wasm`; the default is the one next to this file.
-   * @throws RangeError if these files would make another table than the published ones.
-   */
-  static fromFiles(files: URL | string | readonly Source[], module?: Source): Promise<Table>;
 
   /**
    * The breaks of a text, in order. The last is the text's end; an empty text has none. The module holds 256 KB of a
@@ -99,8 +96,6 @@ export class Table {
   ruleLabel(rule: number): string;
   /** What a rule says, in one line, by its number or label; "" for an unknown rule. */
   ruleText(rule: number | string): string;
-  /** The table in a packed form of a few kilobytes, the same in each language, for {@link Table.fromBytes}. */
-  pack(): Uint8Array;
   /**
    * The line breaking class of a code point, such as "AL", as rule LB1 resolves it (UAX #14, section 5.1); "" for a
    * surrogate.

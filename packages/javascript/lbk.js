@@ -1,22 +1,16 @@
 // Finds where a line of text may break and where it must (UAX #14, Unicode 15.0), in browsers and Node.
 //
-//     import { Table } from "lbk";
-//     const table = await Table.fromBytes("lbk.table");
-//     for (const { at, kind, rule } of table.breaks("naïve text")) ..
+//     import { breaks, load } from "lbk";
+//     await load();
+//     for (const { at, kind, rule } of breaks("naïve text")) ..
 //
 // lbk.wasm does the work. It is proved, and has no imports. This file is tested, not proved: it copies text into the
 // module's memory and positions out of it, and converts the offsets of strings to UTF-16 code units.
 import { ColumnsBuilder, Machine, ROOM, goOn } from "./machine.js";
-import { UnitCounter, bytesOf, checkText, guarded, isNode, unzipped } from "./module_memory.js";
+import { UnitCounter, bytesOf, checkText, guarded } from "./module_memory.js";
 
 const RULE_NUMBERS = 256;
 export const KINDS = ["no", "may", "must"];
-
-/** A file in a folder: a URL or a string, like `Source` in lbk.d.ts. */
-function inFolder(folder, name) {
-  if (folder instanceof URL) return new URL(name, folder.href.replace(/\/?$/, "/"));
-  return `${folder.replace(/\/$/, "")}/${name}`;
-}
 
 export function profileNumber({ profile = 1 } = {}) {
   if (profile !== 1 && profile !== 2) throw new RangeError("profile must be 1 or 2");
@@ -27,67 +21,17 @@ export class Table {
   #module;
   #machine;
   #labels;
-  static #found;
 
   constructor(module, machine) {
-    if (!(machine instanceof Machine)) throw new TypeError("make a Table by Table.find, Table.fromFiles or Table.fromBytes");
+    if (!(machine instanceof Machine)) throw new TypeError("get a Table by load or Table.fromBytes");
     this.#module = module;
     this.#machine = machine;
     this.#labels = Array.from({ length: RULE_NUMBERS }, (_, number) => machine.ruleLabel(number));
   }
 
-  static async fromBytes(saved, module = new URL("lbk.wasm", import.meta.url)) {
-    const [compiled, bytes] = await Promise.all([
-      bytesOf(module).then((code) => WebAssembly.compile(code)),
-      bytesOf(saved).then(unzipped),
-    ]);
-    const machine = new Machine(await WebAssembly.instantiate(compiled, {}));
-    machine.loadTable(bytes);
-    return new Table(compiled, machine);
-  }
-
-  static find() {
-    Table.#found ??= Table.#firstFound().catch((error) => {
-      Table.#found = undefined;
-      throw error;
-    });
-    return Table.#found;
-  }
-
-  static async #firstFound() {
-    if (!isNode) throw new Error("a browser has no folder of property files: use Table.fromFiles or Table.fromBytes");
-    const { folders, notFound } = await import("./found.js");
-    const refusals = [];
-    for (const folder of folders()) {
-      try {
-        return await Table.fromFiles(folder);
-      } catch (error) {
-        refusals.push(error.message.includes(folder) ? error.message : `${folder}: ${error.message}`);
-      }
-    }
-    throw notFound(refusals);
-  }
-
-  static async #sources(files) {
-    if (Array.isArray(files)) return files;
-    if (typeof files !== "string" && !(files instanceof URL)) {
-      throw new TypeError("pass the path or URL of a folder, or an array of the four files");
-    }
-    const local = isNode && (await import("./found.js")).contents(files);
-    return local || (await import("./property_files.js")).FILES.map((name) => inFolder(files, name));
-  }
-
-  static async fromFiles(files, module) {
-    const { packedFrom, refusalOf } = await import("./property_files.js");
-    const sources = await Table.#sources(files);
-    const kinds = new URL("lbk.kinds.gz", import.meta.url);
-    const [known, ...given] = await Promise.all([kinds, ...sources].map((it) => bytesOf(it).then(unzipped)));
-    try {
-      return await Table.fromBytes(packedFrom(given, known), module);
-    } catch (error) {
-      if (!(error instanceof RangeError)) throw error;
-      throw new RangeError(refusalOf(given, Array.isArray(files) ? undefined : files), { cause: error });
-    }
+  static async fromBytes(saved, module) {
+    const bytes = await bytesOf(saved);
+    return tableOf(module, (machine) => machine.loadTable(bytes));
   }
 
   get memorySize() {
@@ -101,10 +45,6 @@ export class Table {
   ruleText(rule) {
     const number = typeof rule === "string" ? this.#labels.indexOf(rule) : rule;
     return this.ruleLabel(number) && this.#machine.ruleText(number);
-  }
-
-  pack() {
-    return this.#machine.packedTable;
   }
 
   classOf(scalar) {
@@ -188,3 +128,37 @@ export class Table {
     return columns.finish();
   }
 }
+
+/** A table of an instance of the module, which `fill` fills. */
+async function tableOf(module = new URL("lbk.wasm", import.meta.url), fill) {
+  const compiled = await WebAssembly.compile(await bytesOf(module));
+  const machine = new Machine(await WebAssembly.instantiate(compiled, {}));
+  fill(machine);
+  return new Table(compiled, machine);
+}
+
+/** The built-in table, and what makes it. */
+let [builtIn, loading] = [];
+
+export function load(module) {
+  loading ??= tableOf(module, (machine) => machine.fillTable()).then((table) => (builtIn = table), (error) => {
+    loading = undefined;
+    throw error;
+  });
+  return loading;
+}
+
+/** The built-in table, for the calls that are given no other. */
+export function loaded() {
+  if (builtIn === undefined) throw new Error("the module is not loaded: await load() first");
+  return builtIn;
+}
+
+export const breaks = (text, options) => loaded().breaks(text, options);
+export const positions = (text, options) => loaded().positions(text, options);
+export const segments = (text, options) => loaded().segments(text, options);
+export const breakColumns = (text, options) => loaded().breakColumns(text, options);
+export const positionColumns = (text, options) => loaded().positionColumns(text, options);
+export const classOf = (codePoint) => loaded().classOf(codePoint);
+export const ruleLabel = (rule) => loaded().ruleLabel(rule);
+export const ruleText = (rule) => loaded().ruleText(rule);

@@ -76,6 +76,11 @@ export class Machine {
     return this.memory.bytes(this.table, TABLE_SIZE);
   }
 
+  /** Fills the table with the built-in properties. */
+  fillTable() {
+    this.memory.exports.lbk_unicode(this.big.table);
+  }
+
   /** Writes a table, packed or not, to memory that is still zero. */
   loadTable(saved) {
     if (saved.length === TABLE_SIZE) this.tableBytes.set(saved);
@@ -83,15 +88,6 @@ export class Machine {
     if (this.memory.exports.lbk_check(this.big.table) === 0) {
       throw new RangeError("these bytes are not an intact table of this version");
     }
-  }
-
-  /** The packed form of the table. */
-  get packedTable() {
-    const { exports } = this.memory;
-    const size = exports.lbk_pack(this.big.table, this.big.text, 0n);
-    this.memory.loadAll(new Uint8Array(Number(size)), this.text);
-    exports.lbk_pack(this.big.table, this.big.text, size);
-    return this.memory.bytes(this.text, Number(size)).slice();
   }
 
   /** The text that a call of the module writes to the block, without the zeros at its end. */

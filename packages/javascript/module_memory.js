@@ -1,6 +1,6 @@
 // What the modules share: sources of bytes, their memory, and the offsets of strings.
 
-export const isNode = typeof process === "object" && process.versions?.node !== undefined;
+const isNode = typeof process === "object" && process.versions?.node !== undefined;
 
 /** The bytes of a `Source` (lbk.d.ts). */
 export async function bytesOf(source) {
@@ -11,24 +11,13 @@ export async function bytesOf(source) {
   if (!(source instanceof Response || source instanceof URL || typeof source === "string")) {
     throw new TypeError("bytes are required, or a Response, a URL or a string that names them");
   }
-  const local = isNode && (await import("./found.js")).bytesAt(source);
+  const local = isNode && (await import("./local_files.js")).bytesAt(source);
   if (local) return local;
   const response = source instanceof Response ? source : await fetch(source);
   if (!response.ok) {
     throw new Error(`${response.url}: ${response.status} ${response.statusText}`);
   }
   return new Uint8Array(await response.arrayBuffer());
-}
-
-/** The bytes, decompressed if gzip compressed them. */
-export async function unzipped(bytes) {
-  if (bytes[0] !== 0x1f || bytes[1] !== 0x8b) return bytes;
-  const stream = new Blob([bytes]).stream().pipeThrough(new DecompressionStream("gzip"));
-  try {
-    return new Uint8Array(await new Response(stream).arrayBuffer());
-  } catch (error) {
-    throw new RangeError("the compressed table is damaged", { cause: error });
-  }
 }
 
 const PAGE = 65536;

@@ -7,7 +7,8 @@ import type { Break, Options, Table, Text } from "./lbk.js";
  * over it again with each piece.
  */
 export class Stream {
-  constructor(table: Table, options?: Options);
+  /** @param options The profile; and a table of your own, if it is not to be the one of `load`. */
+  constructor(options?: Options & { readonly table?: Table });
 
   /**
    * Takes the next piece, and returns the breaks that it settles.
@@ -27,7 +28,7 @@ export class Stream {
  * breaks of the parts are those of the text, except for the rule at the end of a part.
  * @throws RangeError if `at` is not a whole number from 0 on.
  */
-export function cut(table: Table, text: Text, at: number): number;
+export function cut(text: Text, at: number, table?: Table): number;
 
 /** The last such offset at or before `at`: no break after it depends on the text before it. */
-export function cutBefore(table: Table, text: Text, at: number): number;
+export function cutBefore(text: Text, at: number, table?: Table): number;

@@ -1,12 +1,12 @@
 // Texts that arrive in pieces, or that are cut at required breaks.
 //
 //     import { Stream } from "lbk/parts";
-//     const stream = new Stream(table);
+//     const stream = new Stream();
 //     for await (const piece of pieces) for (const { at, kind, rule } of stream.feed(piece)) ..
 //     for (const { at, kind, rule } of stream.finish()) ..
 //
 // The module decides. This file holds the text that waits for more.
-import { KINDS, profileNumber } from "./lbk.js";
+import { KINDS, loaded, profileNumber } from "./lbk.js";
 import { Machine, goOn } from "./machine.js";
 import { checkText, isContinuation } from "./module_memory.js";
 
@@ -49,7 +49,7 @@ export class Stream {
   #before = 0;
   #hasEnded = false;
 
-  constructor(table, options) {
+  constructor({ table = loaded(), ...options } = {}) {
     if (typeof table?.[goOn] !== "function") throw new TypeError("a Stream needs a Table");
     this.#table = table;
     this.#state = Machine.startState(profileNumber(options));
@@ -99,7 +99,7 @@ function lineEnds(table, text, from, to) {
   return [...at].filter((place, k) => kind[k] === MUST && from + place < to).map((place) => from + place);
 }
 
-export function cut(table, text, at) {
+export function cut(text, at, table = loaded()) {
   checkText(text);
   checkPlace(at);
   if (at === 0 || at >= text.length) return Math.min(at, text.length);
@@ -111,7 +111,7 @@ export function cut(table, text, at) {
   }
 }
 
-export function cutBefore(table, text, at) {
+export function cutBefore(text, at, table = loaded()) {
   checkText(text);
   checkPlace(at);
   if (at >= text.length) return text.length;

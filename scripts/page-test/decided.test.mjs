@@ -1,17 +1,17 @@
 // The page's results for a text paragraph by paragraph, compared with those for the whole text. LBK_PAGE is a folder
-// with the page's modules, LBK_PACKAGE one with the package, LBK_TABLE a table.
+// with the page's modules, LBK_PACKAGE one with the package.
 import assert from "node:assert/strict";
 import test from "node:test";
 import { pathToFileURL } from "node:url";
 
 const load = (folder, name) => import(new URL(name, pathToFileURL(`${process.env[folder]}/`)));
-const { Table } = await load("LBK_PACKAGE", "lbk.js");
+const lbk = await load("LBK_PACKAGE", "lbk.js");
 const { DecidedText } = await load("LBK_PAGE", "decided.js");
 const { headLength, lineStarts } = await load("LBK_PAGE", "lines.js");
 const { passageAt } = await load("LBK_PAGE", "passage.js");
 const { signPlaces } = await load("LBK_PAGE", "places.js");
 
-const table = await Table.fromBytes(process.env.LBK_TABLE);
+const table = await lbk.load();
 const PIECES = [
   "a", "b ", " ", "\n", "\r", "\r\n", "\u2028", "\u0085", "\v", "«", "\u0301", "日", "1", ",", "(", "😀", "\u200d", "🇫🇷",
     "\ud800", "\udc00",

@@ -77,7 +77,7 @@ export async function tryPage(table) {
   const asked = page.window.performance.getEntriesByType("resource").map((it) => new URL(it.name));
   equal("the page asks its own server alone", asked.filter((it) => it.origin !== location.origin).map(String), []);
   const files = [...new Set(asked.map((it) => it.pathname.replace("/page/", "")))].sort();
-  equal("and asks it for four files", files, ["lbk.table.gz", "lbk.wasm", "page.css", "page.js"]);
+  equal("and asks it for three files", files, ["lbk.wasm", "page.css", "page.js"]);
   const controls = [...page.document.querySelectorAll("input, select, textarea, button")];
   const unlabelled = controls.filter((it) => !it.labels?.length && !it.textContent.trim());
   equal("each control has a label", unlabelled.map((it) => it.id), []);

@@ -1,7 +1,6 @@
 /** Tries the package and the page in this browser, and posts what was found to the server that scripts/page runs. */
-import { Table as Packaged } from "/package/lbk.js";
 import { Words } from "/package/words.js";
-import { Table } from "/shown/lbk.js";
+import { load } from "/shown/lbk.js";
 import { tryColumns } from "./column-tests.js";
 import { equal, openPage, results, say, untilTrue } from "./harness.js";
 import { tryLetters } from "./letter-tests.js";
@@ -55,12 +54,6 @@ async function tryPieces(table) {
   const isWrong = (place, k) => place !== Math.floor(k / count) * text.length + once.at[k % count]
     || kind[k] !== once.kind[k % count];
   equal("50 MB in pieces have the breaks that their parts have", [at.length, at.findIndex(isWrong)], [50 * count, -1]);
-}
-
-async function tryFiles(table) {
-  const read = await Packaged.fromFiles("/unicode");
-  equal("a table of four property files gives the same breaks", [...read.breaks("a « b »")],
-    [...table.breaks("a « b »")]);
 }
 
 /** The shortest time of each action. They take turns for three seconds, as browsers compile better what runs long. */
@@ -132,11 +125,10 @@ async function tryShown() {
 
 try {
   await tryStart();
-  const table = await Table.fromBytes("/page/lbk.table.gz");
+  const table = await load();
   await tryCases(table);
   await tryStrings(table);
   await tryPieces(table);
-  await tryFiles(table);
   await trySpeed(table);
   await tryPage(table);
   await tryLinks();

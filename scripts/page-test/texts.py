@@ -35,7 +35,9 @@ class Label(ctypes.Structure):
 
 
 def test_lines(folder):
-    """The texts of the lines of the published test."""
+    """The texts of the lines of the published test, if its folder is there."""
+    if folder is None:
+        return []
     lines = (folder / "auxiliary/LineBreakTest.txt").read_text(encoding="utf-8").splitlines()
     rows = ([it for it in line.partition("#")[0].split() if it not in "×÷"] for line in lines)
     return ["".join(chr(int(it, 16)) for it in row) for row in rows if row]
@@ -65,24 +67,26 @@ def short_strings(draw, count):
 
 
 def write_texts(here, folder, given):
-    """The texts that are tried, as files: those of the database, made-up ones, and the first million bytes of those
-    given."""
+    """The texts that are tried, as files: those of the database, if its folder is there, made-up ones, and the first
+    million bytes of those given."""
     draw = random.Random(SEED)
     made = {name: made_text(draw, *how, SIZE) for name, how in SCRIPTS.items()}
-    made["published-test"] = "\n".join(test_lines(folder)).encode("utf-8", "replace")
+    if folder is not None:
+        made["published-test"] = "\n".join(test_lines(folder)).encode("utf-8", "replace")
     made |= {"ill-formed": random_bytes(draw, SIZE), "empty": b"", "one-byte": b"a"}
     made |= {f"first-of-{Path(it).name}": Path(it).read_bytes()[:SIZE] for it in given}
     for name, text in made.items():
         (here / name).write_bytes(text)
     print(f"made-up texts are of the seed {SEED}")
-    return [folder / "NamesList.txt", folder / "LineBreak.txt", *(here / it for it in made)]
+    published = [] if folder is None else [folder / "NamesList.txt", folder / "LineBreak.txt"]
+    return [*published, *(here / it for it in made)]
 
 
 def decide_texts(here, texts):
     """Has the library for C decide the texts: rows of `digest of the lines, call, profile, text`."""
     rows = []
     for text in texts:
-        calls = [("position", profile, [here / "positions", here / "table", profile]) for profile in "12"]
+        calls = [("position", profile, [here / "positions", profile]) for profile in "12"]
         calls += [("break", profile, [*command, "breaks"]) for _, profile, command in calls]
         for call, profile, command in [*calls, ("word", "", [here / "words"])]:
             with open(text, "rb") as given:
@@ -112,13 +116,31 @@ def positions_of(library, table, profile, text):
     return ", ".join(rows)
 
 
-def decide_strings(library, table, folder, to):
+def library_at(path):
+    """The library for C, with a call that fills a table, and one that packs it."""
+    called = ctypes.CDLL(str(path))
+    called.lbk_unicode.argtypes, called.lbk_unicode.restype = [ctypes.c_void_p], None
+    called.lbk_pack.argtypes = [ctypes.c_void_p, ctypes.c_void_p, ctypes.c_size_t]
+    called.lbk_pack.restype = ctypes.c_size_t
+    return called
+
+
+def write_packed(library, table, to):
+    """Writes the packed form of a saved table."""
+    called, read = library_at(library), ctypes.create_string_buffer(table.read_bytes())
+    packed = ctypes.create_string_buffer(called.lbk_pack(read, None, 0))
+    called.lbk_pack(read, packed, len(packed))
+    to.write_bytes(packed.raw)
+
+
+def decide_strings(library, table_size, folder, to):
     """Writes strings with their positions, as JSON: the lines of the published test each alone, and short strings."""
-    called = ctypes.CDLL(str(library))
+    called = library_at(library)
     called.lbk_positions.argtypes = [ctypes.c_void_p] * 2 + [ctypes.c_char_p, ctypes.c_size_t, ctypes.c_void_p,
         ctypes.c_size_t]
     called.lbk_positions.restype, called.lbk_label.restype = ctypes.c_size_t, Label
-    read = ctypes.create_string_buffer(table.read_bytes())
+    read = ctypes.create_string_buffer(table_size)
+    called.lbk_unicode(read)
     rows = []
     for text in [*test_lines(folder), *short_strings(random.Random(SEED), 5000)]:
         # Two adjacent surrogates are a pair in a string of UTF-16.

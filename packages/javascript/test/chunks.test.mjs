@@ -1,13 +1,11 @@
-// Chunks, compared with a literal form of their definition. LBK_TABLE names a table of Unicode 15.0 that save_table
-// wrote, and LBK_UNICODE the folder of its files.
+// Chunks, compared with a literal form of their definition.
 import assert from "node:assert/strict";
-import { readFileSync } from "node:fs";
 import { test } from "node:test";
 import { Chunker } from "../chunks.js";
-import { Table } from "../lbk.js";
+import { load } from "../lbk.js";
 import { Words } from "../words.js";
 
-const table = await Table.fromBytes(readFileSync(process.env.LBK_TABLE));
+const table = await load();
 const words = await Words.load();
 const chunker = new Chunker(table, words);
 const WORDS = ["a", "bc ", "word ", "カタカナ", "日本", "語。", "can't ", "x-y ", "1,234 ", "“q” ", "é", "http://a.b/c "];

@@ -1,22 +1,20 @@
-// The package in Node. LBK_TABLE names a table of Unicode 15.0 that save_table wrote, and LBK_UNICODE the folder of its
-// files. By the library for C there are LBK_CASES, JSON rows of "SHA-256 of what its example writes, call, profile,
-// file of the text", and LBK_STRINGS, JSON rows of "string, profile, positions". scripts/page makes all.
+// The package in Node. LBK_TABLE names a table in which ~ is an ideograph, and LBK_PACKED its packed form. By the library
+// for C there are LBK_CASES, JSON rows of "SHA-256 of what its example writes, call, profile, file of the text", and
+// LBK_STRINGS, JSON rows of "string, profile, positions". scripts/page makes all.
 import assert from "node:assert/strict";
-import { spawnSync } from "node:child_process";
 import { createHash } from "node:crypto";
-import { mkdtempSync, readFileSync, rmSync, writeFileSync } from "node:fs";
-import { tmpdir } from "node:os";
-import { join } from "node:path";
+import { readFileSync } from "node:fs";
 import { test } from "node:test";
 import { runInNewContext } from "node:vm";
-import { fileURLToPath } from "node:url";
-import { gunzipSync } from "node:zlib";
-import { Table } from "../lbk.js";
-import { FILES, packedFrom } from "../property_files.js";
+import * as lbk from "../lbk.js";
+import { Table, load } from "../lbk.js";
 import { Words } from "../words.js";
 
 const saved = readFileSync(process.env.LBK_TABLE);
-const table = await Table.fromBytes(saved);
+const packed = readFileSync(process.env.LBK_PACKED);
+assert.throws(() => lbk.breaks("a b"), /^Error: the module is not loaded: await load\(\) first$/);
+await assert.rejects(load("/absent"), { code: "ENOENT" });
+const table = await load();
 const words = await Words.load();
 const cases = JSON.parse(readFileSync(process.env.LBK_CASES, "utf8"));
 
@@ -44,7 +42,7 @@ for (const [digest, call, profile, file] of cases) {
 
 test("the lines of the published test, and strings with lone surrogates", () => {
   const rows = JSON.parse(readFileSync(process.env.LBK_STRINGS, "utf8"));
-  assert.ok(rows.length > 2 * 7654);
+  assert.ok(rows.length >= 10_000);
   for (const [text, profile, wanted] of rows) {
     const found = [...table.positions(text, { profile })];
     assert.equal(found.map(({ at, kind, rule }) => `${at} ${kind} ${rule}`).join(", "), wanted, JSON.stringify(text));
@@ -100,31 +98,18 @@ test("the words of a string", () => {
   assert.throws(() => words.wordColumns({}), TypeError);
 });
 
-test("the table of four property files is the one of the library, byte for byte", async () => {
-  const files = FILES.map((name) => readFileSync(join(process.env.LBK_UNICODE, name)));
-  const known = gunzipSync(readFileSync(new URL("../lbk.kinds.gz", import.meta.url)));
-  assert.equal(Buffer.compare(packedFrom(files, known), table.pack()), 0);
-  for (const given of [process.env.LBK_UNICODE, `${process.env.LBK_UNICODE}/`, files]) {
-    assert.deepEqual([...(await Table.fromFiles(given)).breaks("a « b »")], [...table.breaks("a « b »")]);
+test("the functions are the calls of the one table that is loaded", async () => {
+  assert.equal(await load(), table);
+  const text = "a « b », 日本 😀\nc";
+  for (const name of ["breaks", "positions", "segments", "breakColumns", "positionColumns"]) {
+    for (const profile of [1, 2]) {
+      const [found, wanted] = [lbk[name](text, { profile }), table[name](text, { profile })];
+      assert.deepEqual(name.endsWith("Columns") ? found : [...found], name.endsWith("Columns") ? wanted : [...wanted]);
+    }
+    assert.throws(() => lbk[name](3), TypeError);
   }
-});
-
-test("other property files are refused", async () => {
-  const files = FILES.map((name) => readFileSync(join(process.env.LBK_UNICODE, name)));
-  const edited = (k, from, to) => files.with(k, Buffer.from(files[k].toString().replace(from, to)));
-  const wrong = [files.slice(1), [...files, files[0]], files.toReversed(), files.with(2, new Uint8Array(0))];
-  wrong.push(edited(0, "0028;OP", "0028;CL"), edited(0, "0028;OP", "0028;QQ"));
-  wrong.push(edited(1, "FF08;F", "FF08;N"), edited(3, "1FC00..1FFFD", "1FC00"));
-  for (const given of wrong) await assert.rejects(Table.fromFiles(given), RangeError);
-  const refused = (given) => Table.fromFiles(given).catch((error) => error.message);
-  const of14 = edited(0, "# LineBreak-15.0.0.txt", "# LineBreak-14.0.0.txt").with(1, new Uint8Array(0));
-  assert.match(await refused(of14),
-    /^LineBreak.txt: this is Unicode 14.0.0, and lbk needs 15.0.0; get it from Debian 12's .*UCD.zip$/);
-  assert.match(await refused(files.with(3, files[3].subarray(0, 99))),
-    /^emoji\/emoji-data.txt: this is not emoji-data.txt of the Unicode Character Database/);
-  assert.match(await refused(edited(0, "0028;OP", "0028;CL")), /one was changed or truncated/);
-  assert.match(await refused(files.slice(1)), /^4 property files are required, not 3$/);
-  await assert.rejects(Table.fromFiles("/absent"), { code: "ENOENT" });
+  assert.deepEqual([lbk.classOf(0x65e5), lbk.ruleLabel(144), lbk.ruleText("18")],
+    ["ID", "18", "A break is allowed after spaces."]);
 });
 
 test("the breaks of a string, in UTF-16 code units", () => {
@@ -187,62 +172,26 @@ test("what is no text, and no profile, is refused by name", () => {
   assert.throws(() => [...table.segments(new Uint8Array(1))], TypeError);
 });
 
-test("a table that is not whole is refused", async () => {
-  await assert.rejects(Table.fromBytes(saved.subarray(1)), RangeError);
-  const damaged = new Uint8Array(saved);
-  damaged[saved.length >> 1] ^= 1;
-  await assert.rejects(Table.fromBytes(damaged), RangeError);
+test("a table of one's own, saved or packed", async () => {
+  for (const bytes of [saved, packed]) {
+    const other = await Table.fromBytes(bytes);
+    assert.deepEqual([other.classOf(0x7e), table.classOf(0x7e)], ["ID", "AL"]);
+    assert.deepEqual([...other.breaks("a~b")].map((it) => it.at), [1, 2, 3]);
+    assert.deepEqual([...lbk.breaks("a~b")].map((it) => it.at), [3]);
+  }
 });
 
-/** Runs pack.js on a table, or a folder, in a folder of its own: its status, what it said, and what it packed. */
-function pack(table) {
-  const folder = mkdtempSync(join(tmpdir(), "lbk-"));
-  try {
-    const to = join(folder, "packed");
-    const from = typeof table === "string" ? table : join(folder, "table");
-    if (from !== table) writeFileSync(from, table);
-    const { status, stderr } = spawnSync(process.execPath, [fileURLToPath(new URL("../pack.js", import.meta.url)), from,
-      to], { encoding: "utf8" });
-    return { status, stderr, packed: status === 0 ? readFileSync(to) : null };
-  } finally {
-    rmSync(folder, { recursive: true });
-  }
-}
-
-test("a packed table gives the positions that the table gives", async () => {
-  const { status, packed } = pack(saved);
-  assert.equal(status, 0);
-  assert.ok(packed.length < 2500);
-  assert.deepEqual(new Uint8Array(gunzipSync(packed)), table.pack());
-  assert.deepEqual(pack(process.env.LBK_UNICODE).packed, packed);
-  const text = "a « b », 「きょう」 1 234,50 € 👩🏽\r\n";
-  for (const source of [packed, gunzipSync(packed)]) {
-    const other = await Table.fromBytes(source);
-    for (const profile of [1, 2]) {
-      assert.deepEqual([...other.positions(text, { profile })], [...table.positions(text, { profile })]);
+test("a table that is not whole is refused", async () => {
+  for (const whole of [saved, packed]) {
+    for (const wrong of [whole.subarray(1), whole.subarray(0, -1), new Uint8Array(0), new Uint8Array(20)]) {
+      await assert.rejects(Table.fromBytes(wrong), RangeError);
     }
   }
-});
-
-test("a packed table that is damaged is refused", async () => {
-  const { packed } = pack(saved);
-  const plain = gunzipSync(packed);
-  await assert.rejects(Table.fromBytes(packed.subarray(0, -9)), RangeError);
-  for (const bytes of [plain.subarray(1), plain.subarray(0, -1), new Uint8Array(0), new Uint8Array(20)]) {
-    await assert.rejects(Table.fromBytes(bytes), RangeError);
-  }
-  for (let at = 0; at < plain.length; at += 1009) {
-    const damaged = new Uint8Array(plain);
+  const places = [saved.length >> 1, ...Array(8).keys()];
+  for (const [whole, at] of places.flatMap((place) => [[saved, place], [packed, place % packed.length]])) {
+    const damaged = new Uint8Array(whole);
     damaged[at] ^= 1;
     await assert.rejects(Table.fromBytes(damaged), RangeError, `byte ${at}`);
-  }
-});
-
-test("pack.js refuses what is no table", () => {
-  for (const bytes of [saved.subarray(1), new Uint8Array(saved.length).fill(1), tmpdir(), "absent"]) {
-    const { status, stderr } = pack(bytes);
-    assert.equal(status, 1);
-    assert.match(stderr, /^lbk-pack: /);
   }
 });
 

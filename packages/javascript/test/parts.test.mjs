@@ -1,11 +1,10 @@
-// Streams and cuts. LBK_TABLE names a table of Unicode 15.0 that save_table wrote.
+// Streams and cuts. LBK_TABLE names a table in which ~ is an ideograph.
 import assert from "node:assert/strict";
-import { readFileSync } from "node:fs";
 import { test } from "node:test";
-import { Table } from "../lbk.js";
+import { Table, load } from "../lbk.js";
 import { Stream, cut, cutBefore } from "../parts.js";
 
-const table = await Table.fromBytes(readFileSync(process.env.LBK_TABLE));
+const table = await load();
 const LINE_ENDS = ["\n", "\r", "\r\n", "\u2028", "\u0085"];
 const PIECES = [...LINE_ENDS, "a", "b ", "«", "»", "\u0301", "日", "、", "😀", "\u{1F1EB}", "\ud800", "\udc00", "1,2 ",
   " "];
@@ -34,7 +33,7 @@ function randomText(most) {
 test("however a text is cut into pieces, its breaks are those of the whole", () => {
   for (let round = 0; round < 4000; round++) {
     const [text, profile, most] = [randomText(30), 1 + below(2), 1 + below(9)];
-    const stream = new Stream(table, { profile });
+    const stream = new Stream({ profile });
     const found = [];
     for (let from = 0; from < text.length; ) {
       const to = from + below(most + 1);
@@ -49,7 +48,7 @@ test("however a text is cut into pieces, its breaks are those of the whole", () 
 });
 
 test("a break comes with the piece that settles it", () => {
-  const stream = new Stream(table);
+  const stream = new Stream();
   assert.deepEqual(stream.feed("one t").map((it) => it.at), [4]);
   assert.deepEqual(stream.feed("wo\nth").map((it) => it.at), [8]);
   assert.deepEqual(stream.feed("ree").map((it) => it.at), []);
@@ -57,7 +56,7 @@ test("a break comes with the piece that settles it", () => {
 });
 
 test("two streams of a table, and other calls, are independent", () => {
-  const [one, two] = [new Stream(table), new Stream(table, { profile: 2 })];
+  const [one, two] = [new Stream(), new Stream({ profile: 2 })];
   const found = [[], []];
   const text = "a « b » c\nd ".repeat(300);
   for (let from = 0; from < text.length; from += 7) {
@@ -71,24 +70,32 @@ test("two streams of a table, and other calls, are independent", () => {
 
 test("pieces larger than the module's window", () => {
   const text = `${"ab é ".repeat(150_000)}${"x".repeat(600_000)} y`;
-  const stream = new Stream(table);
+  const stream = new Stream();
   let found = [];
   for (let from = 0; from < text.length; from += 500_001) found =
     found.concat(stream.feed(text.slice(from, from + 500_001)));
   assert.deepEqual(found.concat(stream.finish()), [...table.breaks(text)]);
 });
 
+test("a stream and cuts by a table of one's own", async () => {
+  const other = await Table.fromBytes(process.env.LBK_TABLE);
+  const stream = new Stream({ table: other });
+  assert.deepEqual([...stream.feed("a~"), ...stream.finish("")].map((it) => it.at), [1, 2]);
+  assert.deepEqual([cut("a\rb", 1), cut("a\rb", 1, other)], [2, 2]);
+  assert.deepEqual([cut("a\vb", 1), cut("a\vb", 1, other), cutBefore("a\vb", 2, other)], [2, 3, 0]);
+});
+
 test("what is no piece is refused", () => {
-  const stream = new Stream(table);
+  const stream = new Stream();
   for (const piece of [null, undefined, 3, ["a"]]) assert.throws(() => stream.feed(piece), TypeError);
   stream.feed("a");
   assert.throws(() => stream.feed(new Uint8Array(1)), TypeError);
-  assert.throws(() => new Stream(table, { profile: 3 }), RangeError);
-  for (const wrong of [undefined, {}, "table"]) assert.throws(() => new Stream(wrong), TypeError);
+  assert.throws(() => new Stream({ profile: 3 }), RangeError);
+  for (const wrong of [null, {}, "table"]) assert.throws(() => new Stream({ table: wrong }), TypeError);
 });
 
 test("a stream without a piece has no breaks, and ends", () => {
-  const stream = new Stream(table);
+  const stream = new Stream();
   assert.deepEqual(stream.finish(), []);
   assert.throws(() => stream.feed("a"), /^Error: the stream has ended$/);
 });
@@ -99,9 +106,9 @@ test("cuts are where a line must end", () => {
     const ends = [...table.breaks(text)].filter((it) => it.kind === "must" && it.at < text.length).map((it) => it.at);
     for (let at = 0; at <= text.length + 2; at++) {
       const all = [0, ...ends, text.length];
-      assert.equal(cut(table, text, at), all.find((it) => it >= at) ?? text.length, `${JSON.stringify(text)} ${at}`);
+      assert.equal(cut(text, at), all.find((it) => it >= at) ?? text.length, `${JSON.stringify(text)} ${at}`);
       const before = at >= text.length ? text.length : all.findLast((it) => it <= at);
-      assert.equal(cutBefore(table, text, at), before, `${JSON.stringify(text)} ${at}`);
+      assert.equal(cutBefore(text, at), before, `${JSON.stringify(text)} ${at}`);
     }
   }
 });
@@ -110,12 +117,12 @@ test("cuts far away", () => {
   const text = `a\n${"é ".repeat(50_000)}\nb`;
   for (const one of [text, new TextEncoder().encode(text)]) {
     const last = one.length - 1;
-    assert.deepEqual([cut(table, one, 3), cut(table, one, last)], [last, last]);
-    assert.deepEqual([cutBefore(table, one, last - 3), cutBefore(table, one, 1)], [2, 0]);
+    assert.deepEqual([cut(one, 3), cut(one, last)], [last, last]);
+    assert.deepEqual([cutBefore(one, last - 3), cutBefore(one, 1)], [2, 0]);
   }
   for (const at of [-1, 0.5, NaN, "1", undefined]) {
-    assert.throws(() => cut(table, "a b", at), RangeError);
-    assert.throws(() => cutBefore(table, "a b", at), RangeError);
+    assert.throws(() => cut("a b", at), RangeError);
+    assert.throws(() => cutBefore("a b", at), RangeError);
   }
-  assert.throws(() => cut(table, null, 0), TypeError);
+  assert.throws(() => cut(null, 0), TypeError);
 });

@@ -1,12 +1,11 @@
-// What needs no module: where bytes come from, how lbk-pack is called, and what the types refuse.
+// What needs no module: where bytes come from, and what the types refuse.
 import assert from "node:assert/strict";
-import { spawnSync } from "node:child_process";
 import { readFileSync } from "node:fs";
 import { createServer } from "node:http";
 import { relative } from "node:path";
 import { test } from "node:test";
 import { fileURLToPath } from "node:url";
-import { contents } from "../found.js";
+import { bytesAt } from "../local_files.js";
 import { bytesOf } from "../module_memory.js";
 
 const OWN = fileURLToPath(import.meta.url);
@@ -19,7 +18,7 @@ test("a string with a scheme is a URL", async () => {
     for (const source of [address, address.replace("http", "HTTP"), new URL(address), await fetch(address)]) {
       assert.equal(new TextDecoder().decode(await bytesOf(source)), "from /a");
     }
-    assert.equal(contents(address), undefined);
+    assert.equal(bytesAt(address), undefined);
   } finally {
     server.close();
     server.closeAllConnections();
@@ -33,17 +32,6 @@ test("a URL of a file, and a string without a scheme, are paths", async () => {
   for (const absent of ["c:/absent", "ab:absent", "absent://"]) {
     await assert.rejects(bytesOf(absent), absent.endsWith("//") ? TypeError : { code: "ENOENT" });
   }
-});
-
-test("lbk-pack says how it is called", () => {
-  const usage = "usage: lbk-pack TABLE PACKED [LINE_BREAK EAST_ASIAN CATEGORY EMOJI]\n";
-  const program = fileURLToPath(new URL("../pack.js", import.meta.url));
-  const said = (words) => {
-    const { status, stdout, stderr } = spawnSync(process.execPath, [program, ...words], { encoding: "utf8" });
-    return [status, stdout, stderr];
-  };
-  for (const words of [["--help"], ["-h"], ["table", "--help"]]) assert.deepEqual(said(words), [0, usage, ""]);
-  for (const words of [[], ["table"], ["table", "packed", "file"]]) assert.deepEqual(said(words), [2, "", usage]);
 });
 
 test("the types have no constructor where there is none to call", async () => {
