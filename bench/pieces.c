@@ -1,6 +1,6 @@
 /* Times lbk_feed over pieces of a text against lbk_breaks over the whole, in one process.
  *
- *     pieces SIZE LINE_BREAK EAST_ASIAN CATEGORY EMOJI TEXT..
+ *     pieces SIZE TEXT..
  *
  * SIZE is that of a piece, in bytes. Writes for the first two million bytes of each text, in each profile, the best
  * of several runs of each in millions of bytes a second of processor time, and what the pieces reach of the whole.
@@ -65,13 +65,13 @@ static uint64_t go_over_pieces(uint8_t profile, const bytes *text, size_t most)
 
 int main(int words, char **word)
 {
-    if (words < 7) {
-        fprintf(stderr, "usage: pieces SIZE LINE_BREAK EAST_ASIAN CATEGORY EMOJI TEXT..\n");
+    if (words < 3) {
+        fprintf(stderr, "usage: pieces SIZE TEXT..\n");
         return 2;
     }
     size_t most = strtoul(word[1], NULL, 10);
-    read_table(&table, word + 2);
-    for (int k = 6; k < words; k++) {
+    lbk_unicode(&table);
+    for (int k = 2; k < words; k++) {
         bytes text = load(word[k]);
         text.size = text.size < MOST ? text.size : MOST;
         for (uint8_t profile = 0; profile < 2; profile++) {

@@ -1,10 +1,9 @@
 /* The breaks of one text in UTF-8, UTF-16 and UTF-32, compared with ICU's line iterator and libunibreak over the
  * same units of 16 bits.
  *
- *     units FILES.. TEXT..
+ *     units TEXT..
  *
- * FILES are the four property files, each TEXT is UTF-8, of which the first million bytes are taken. A line has
- * millions of scalars a second of processor time, the best of 25 runs. Each is asked for all breaks, and a sum of
+ * Each TEXT is UTF-8, of which the first million bytes are taken. A line has millions of scalars a second of processor time, the best of 25 runs. Each is asked for all breaks, and a sum of
  * their places is kept.
  */
 #define _GNU_SOURCE
@@ -118,11 +117,11 @@ static text read_text(const char *name)
 
 int main(int count, char **word)
 {
-    if (count < 6) {
-        fprintf(stderr, "usage: units LINE_BREAK EAST_ASIAN CATEGORY EMOJI TEXT..\n");
+    if (count < 2) {
+        fprintf(stderr, "usage: units TEXT..\n");
         return 2;
     }
-    read_table(&table, word + 1);
+    lbk_unicode(&table);
     UErrorCode error = U_ZERO_ERROR;
     iterator = ubrk_open(UBRK_LINE, "en", NULL, 0, &error);
     marks = malloc(MILLION + 1);
@@ -130,7 +129,7 @@ int main(int count, char **word)
         return 1;
     init_linebreak();
     printf("%-12s %8s %8s %8s %8s %s\n", "text", "UTF-8", "UTF-16", "UTF-32", "ICU", "libunibreak");
-    for (int k = 5; k < count; k++) {
+    for (int k = 1; k < count; k++) {
         text of = read_text(word[k]);
         const char *name = strrchr(word[k], '/');
         double least[CALLS];

@@ -1,6 +1,6 @@
 /* Writes the segments of a text between its breaks, as `lbk segment` does: `S start end kind rule` for each.
  *
- *     breaks LINE_BREAK EAST_ASIAN CATEGORY EMOJI [PROFILE] < TEXT
+ *     breaks [PROFILE] < TEXT
  */
 #include "example.h"
 
@@ -24,18 +24,13 @@ static void write_segments(const lbk_table *table, uint8_t profile, const char *
 int main(int words, char **word)
 {
     static lbk_table table;
-    if (words < 5) {
-        fprintf(stderr, "usage: breaks LINE_BREAK EAST_ASIAN CATEGORY EMOJI [PROFILE] < TEXT\n");
-        return 2;
-    }
-    read_table(&table, word + 1);
-
+    lbk_unicode(&table);
     bytes text = read_all(stdin);
     if (text.at == NULL) {
         fprintf(stderr, "standard input cannot be read\n");
         return 1;
     }
-    write_segments(&table, words > 5 && word[5][0] == '2' ? LBK_SECOND : LBK_FIRST, text.at, text.size);
+    write_segments(&table, words > 1 && word[1][0] == '2' ? LBK_SECOND : LBK_FIRST, text.at, text.size);
     free(text.at);
     return fflush(stdout) == 0 ? 0 : 1;
 }

@@ -2,7 +2,7 @@
  * random bytes, in both profiles, with random limits and block sizes. With tables and states of random bytes each
  * chunk must start at or before the end of the one before it, and end after that and within the text.
  *
- *     chunks ROUNDS SEED LINE_BREAK EAST_ASIAN CATEGORY EMOJI TEXT..
+ *     chunks ROUNDS SEED TEXT..
  *
  * The last line is `N passed, M failed`.
  */
@@ -146,7 +146,7 @@ static void try_bad_limits(void)
     }
 }
 
-/* The chunks that docs/c.md shows. */
+/* The chunks that docs/library.md shows. */
 static void try_shown(void)
 {
     static const char text[] = "one two. three\nfour five six";
@@ -210,19 +210,19 @@ static void try_file(const char *name)
 int main(int words, char **word)
 {
     static lbk_table any;
-    if (words < 7) {
-        fprintf(stderr, "usage: chunks ROUNDS SEED LINE_BREAK EAST_ASIAN CATEGORY EMOJI TEXT..\n");
+    if (words < 3) {
+        fprintf(stderr, "usage: chunks ROUNDS SEED TEXT..\n");
         return 2;
     }
     unsigned long rounds = strtoul(word[1], NULL, 10);
     seed = strtoul(word[2], NULL, 10) * 2 + 1;
-    read_table(&real, word + 3);
+    lbk_unicode(&real);
     texts = fence(MOST_TEXT);
     blocks = fence(MOST_CHUNKS * sizeof(lbk_chunk));
     states = fence(sizeof(lbk_chunk_state));
     try_bad_limits();
     try_shown();
-    for (int k = 7; k < words; k++)
+    for (int k = 3; k < words; k++)
         try_file(word[k]);
     for (unsigned long round = 0; round < rounds; round++) {
         if (round % ROUNDS_WITH_A_TABLE == 0) {

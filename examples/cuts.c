@@ -1,7 +1,7 @@
 /* Tests lbk_cut and lbk_cut_before at each offset of random texts with ill-formed bytes: compares them with the
  * breaks of the whole text and of its parts, also with tables that have unusual line ends.
  *
- *     cuts ROUNDS SEED LINE_BREAK EAST_ASIAN CATEGORY EMOJI
+ *     cuts ROUNDS SEED
  *
  * A text lies at a guard page. The last line is `N passed, M failed`.
  */
@@ -128,13 +128,13 @@ static void try_any_table(lbk_table *any, const char *text, size_t size)
 int main(int words, char **word)
 {
     char made[MOST_TEXT];
-    if (words != 7) {
-        fprintf(stderr, "usage: cuts ROUNDS SEED LINE_BREAK EAST_ASIAN CATEGORY EMOJI\n");
+    if (words != 3) {
+        fprintf(stderr, "usage: cuts ROUNDS SEED\n");
         return 2;
     }
     unsigned long rounds = strtoul(word[1], NULL, 10);
     seed = strtoul(word[2], NULL, 10) * 2 + 1;
-    read_table(&tables[0], word + 3);
+    lbk_unicode(&tables[0]);
     for (size_t k = 1; k < TABLES; k++) {
         const char *lines = others[k - 1];
         lbk_fault fault = lbk_read(&tables[k], lines, strlen(lines), NULL, 0, NULL, 0, NULL, 0);

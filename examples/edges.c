@@ -79,6 +79,23 @@ static void try_memory(void)
     report("no byte of a table is one that its memory held", both && memcmp(&used, &clear, sizeof used) == 0);
 }
 
+/* The built-in table, too. It goes by the properties of all characters. */
+static void try_unicode(void)
+{
+    static lbk_table used, clear;
+    memset(&used, 0xA5, sizeof used);
+    lbk_unicode(&used);
+    lbk_unicode(&clear);
+    report("no byte of the built-in table is one that its memory held", memcmp(&used, &clear, sizeof used) == 0);
+    report("the built-in table is whole", lbk_check(&used) && used.layout == LBK_LAYOUT);
+    lbk_state state = {0};
+    lbk_break block[ROOM];
+    const char text[] = "\xE0\xB8\x81\xE0\xB8\x81 \xF0\x9F\x98\x80\xF0\xA0\x80\x80";
+    size_t count = lbk_breaks(&used, &state, text, sizeof text - 1, block, ROOM);
+    report("breaks by the built-in table", count == 3 && block[0].at == 7 && block[0].rule == LBK_RULE_18
+        && block[1].at == 11 && block[1].rule == LBK_RULE_31 && block[2].at == 15);
+}
+
 static void try_rooms(void)
 {
     const char text[] = "a b (a) \xE4\xB8\x80\n\"b\" a";
@@ -576,6 +593,7 @@ int main(void)
     report("the small files are read", read_lines(&table, LINE_BREAKS, CATEGORIES).cause == LBK_CAUSE_NONE);
     try_nothing();
     try_memory();
+    try_unicode();
     try_rooms();
     try_states();
     try_profiles();

@@ -13,6 +13,7 @@
 #include <cstring>
 #include <memory>
 #include <string>
+#include <thread>
 #include <type_traits>
 #include <vector>
 
@@ -41,6 +42,10 @@ static_assert(!std::is_constructible_v<lbk::breaks_utf32, lbk_table, std::u32str
 static_assert(!std::is_constructible_v<lbk::breaks_utf16, lbk::table &, std::u16string>);
 static_assert(!std::is_constructible_v<lbk::breaks_utf32, lbk::table &, std::u32string>);
 static_assert(!std::is_convertible_v<lbk::table, const lbk_table &>);
+static_assert(std::is_constructible_v<lbk::breaks, std::string &, lbk::profile, lbk::follows>);
+static_assert(!std::is_constructible_v<lbk::breaks, std::string> && !std::is_constructible_v<lbk::chunks, std::string>);
+static_assert(!std::is_constructible_v<lbk::segments, std::string, lbk::profile>);
+static_assert(!std::is_constructible_v<lbk::breaks_utf16, std::u16string>);
 
 static_assert(!std::is_constructible_v<lbk::positions, lbk::table, std::string_view>);
 static_assert(!std::is_constructible_v<lbk::segments, lbk::table, std::string_view>);
@@ -361,41 +366,57 @@ static void try_files(const lbk::table &table, const std::string &folder)
                                     && refused(why, reason::not_a_table));
 }
 
-/// Where tables are searched, and the error if there is none.
-static void try_not_found(const std::string &folder)
+static std::vector<std::size_t> numbers(lbk_break it) { return {it.at, it.kind, it.rule}; }
+static std::vector<std::size_t> numbers(lbk::segment it) { return {it.start, it.text.size(), it.kind, it.rule}; }
+static std::vector<std::size_t> numbers(lbk::passage it) { return {it.start, it.text.size()}; }
+static std::vector<std::size_t> numbers(lbk_chunk it) { return {it.start, it.end, it.words, it.kind, it.rule}; }
+
+template <typename Range>
+static bool is_same(const Range &a, const Range &b)
 {
-    std::string why, none = folder + "/none";
-    ::setenv("UNICODE_DATA", none.c_str(), 1);
-    report("where UNICODE_DATA names no folder none is found", lbk::table::try_find(why) == nullptr);
-    report("it says what to do", why.find("found no files of Unicode 15.0.0; install the package unicode-data") == 0);
-    report("it says where it looked", why.find("Looked for:\n  " + none + "/LineBreak.txt: ") != std::string::npos);
-    ::unsetenv("UNICODE_DATA");
-    ::setenv("XDG_DATA_HOME", "/of/data", 1);
-    ::setenv("HOME", "/home", 1);
-    const std::vector<std::string> wanted = {"/usr/share/unicode", "/usr/share/unicode/ucd", "/of/data/unicode",
-                                             "/home/.local/share/unicode"};
-    report("it looks into Debian's, Fedora's and the user's folders", lbk::detail::folders() == wanted);
-    ::setenv("XDG_DATA_HOME", "data", 1);
-    ::unsetenv("HOME");
-    report("a user's folder is an absolute one", lbk::detail::folders().size() == 2);
+    return std::equal(a.begin(), a.end(), b.begin(), b.end(),
+        [](const auto &one, const auto &other) { return numbers(one) == numbers(other); });
 }
 
-/// A table is read once.
-static void try_found(const std::string &folder)
+/// The built-in table is one per process. Each range and function goes by it if it is given no table.
+static void try_unicode()
 {
-    std::string why;
-    ::setenv("UNICODE_DATA", folder.c_str(), 1);
-    const lbk::table *found = lbk::table::try_find(why);
-    report("the folder of UNICODE_DATA is found", found != nullptr && why.empty());
-    ::setenv("UNICODE_DATA", "/none", 1);
-    report("it is read once", found != nullptr && lbk::table::try_find(why) == found);
+    const lbk::table &built_in = lbk::table::unicode();
+    const lbk::table *other = nullptr;
+    std::thread([&other] { other = &lbk::table::unicode(); }).join();
+    report("one table for all threads", other == &built_in && lbk_check(&built_in.get()));
+
+    static const std::string_view text = "a \"b\" \xC2\xAB \xE4\xB8\x80\xC2\xBB\nIII 1,5";
+    static const std::u16string_view units = u"a \u4E00 b\nc";
+    const auto second = lbk::profile::second;
+    report("breaks", is_same(lbk::breaks(text), lbk::breaks(built_in, text))
+        && is_same(lbk::breaks(text, second), lbk::breaks(built_in, text, second)));
+    report("breaks of a part", is_same(lbk::breaks(text, second, lbk::follows::more),
+        lbk::breaks(built_in, text, second, lbk::follows::more)));
+    report("positions", is_same(lbk::positions(text, second), lbk::positions(built_in, text, second)));
+    report("breaks in UTF-16", is_same(lbk::breaks_utf16(units), lbk::breaks_utf16(built_in, units)));
+    report("segments", is_same(lbk::segments(text, second), lbk::segments(built_in, text, second)));
+    report("passages", is_same(lbk::passages(text), lbk::passages(built_in, text)));
+    report("chunks", is_same(lbk::chunks(text, {8}), lbk::chunks(built_in, text, {8})));
+    report("bits", lbk::marks(text, second) == lbk::marks(built_in, text, second));
+    report("cuts", lbk::cut(text, 1) == lbk::cut(built_in, text, 1) && lbk::cut(text, 1) > 1
+        && lbk::cut_before(text, text.size() - 1) == lbk::cut_before(built_in, text, text.size() - 1));
+    report("a safe break", lbk::safe_break(text, second) == lbk::safe_break(built_in, text, second));
+    report("a class", lbk::class_of(U'\u4E00') == "ID" && lbk::class_of(U'\u00E9') == "AL");
+    these streamed;
+    lbk::stream stream(second);
+    auto keep = [&streamed](lbk_break it) { streamed.push_back(it.at); };
+    stream.feed(text, keep);
+    stream.finish(keep);
+    report("a stream", streamed == places(built_in, text, second));
 }
 
 static void try_database(const std::string &folder)
 {
     lbk::error why;
     std::optional<lbk::table> made = lbk::table::try_load(folder, why);
-    report("the files that Unicode published", made && !why && places(*made, "ab cd") == these{3, 5});
+    report("the files that Unicode published have the built-in table", made && !why
+        && made->bytes() == lbk::table::unicode().bytes());
 }
 
 #if defined(__cpp_exceptions)
@@ -450,11 +471,9 @@ int main(int words, char **word)
         try_bytes(*table);
         try_files(*table, word[1]);
         try_exceptions(*table, word[1]);
-        try_not_found(word[1]);
-        if (words == 3) {
+        try_unicode();
+        if (words == 3)
             try_database(word[2]);
-            try_found(word[2]);
-        }
     }
     return report_all();
 }

@@ -1,4 +1,4 @@
-/* What the examples in C share: whole files, and a table of four of them. */
+/* What the examples in C share: whole files, and a table of four files of your own. */
 #ifndef EXAMPLE_H
 #define EXAMPLE_H
 

@@ -1,7 +1,7 @@
 /* Tests lbk_marks: over texts, parts and random bytes, in both profiles, with random numbers of words, exactly the
  * bits of lbk_breaks must be set. With tables and states of random bytes no bit after the covered ones may be set.
  *
- *     marks ROUNDS SEED LINE_BREAK EAST_ASIAN CATEGORY EMOJI TEXT..
+ *     marks ROUNDS SEED TEXT..
  *
  * Each text, state and block of words lies at a guard page. The last
  * line is `N passed, M failed`.
@@ -167,17 +167,17 @@ static void try_file(const char *name)
 int main(int words, char **word)
 {
     static lbk_table any;
-    if (words < 7) {
-        fprintf(stderr, "usage: marks ROUNDS SEED LINE_BREAK EAST_ASIAN CATEGORY EMOJI TEXT..\n");
+    if (words < 3) {
+        fprintf(stderr, "usage: marks ROUNDS SEED TEXT..\n");
         return 2;
     }
     unsigned long rounds = strtoul(word[1], NULL, 10);
     seed = strtoul(word[2], NULL, 10) * 2 + 1;
-    read_table(&real, word + 3);
+    lbk_unicode(&real);
     texts = fence(MOST_LONG);
     blocks = fence(MOST_WORDS * sizeof(uint64_t));
     states = fence(sizeof(lbk_state));
-    for (int k = 7; k < words; k++)
+    for (int k = 3; k < words; k++)
         try_file(word[k]);
     for (unsigned long round = 0; round < rounds; round++) {
         if (round % ROUNDS_WITH_A_TABLE == 0) {

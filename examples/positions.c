@@ -1,9 +1,9 @@
 /* Writes each position of a text with its kind and rule:
  *
- *     positions TABLE PROFILE [breaks] < TEXT
+ *     positions PROFILE [breaks] < TEXT
  *
- * TABLE is a file that save_table wrote, PROFILE 1 or 2. A line has the byte offset, the kind (0 no, 1 may, 2 must)
- * and the rule. With `breaks` it writes only the breaks, by lbk_breaks.
+ * PROFILE is 1 or 2. A line has the byte offset, the kind (0 no, 1 may, 2 must) and the rule. With `breaks` it writes
+ * only the breaks, by lbk_breaks.
  */
 #include "example.h"
 
@@ -27,23 +27,19 @@ static void write_all(call next, const lbk_table *table, uint8_t profile, bytes 
 
 int main(int words, char **word)
 {
-    if (words != 3 && !(words == 4 && strcmp(word[3], "breaks") == 0)) {
-        fprintf(stderr, "usage: positions TABLE PROFILE [breaks] < TEXT\n");
+    static lbk_table table;
+    if (words != 2 && !(words == 3 && strcmp(word[2], "breaks") == 0)) {
+        fprintf(stderr, "usage: positions PROFILE [breaks] < TEXT\n");
         return 2;
     }
-    bytes table = load(word[1]);
-    if (table.size != sizeof(lbk_table) || !lbk_check((const lbk_table *)table.at)) {
-        fprintf(stderr, "%s is not an intact table of version %s\n", word[1], LBK_VERSION);
-        return 1;
-    }
+    lbk_unicode(&table);
     bytes text = read_all(stdin);
     if (text.at == NULL) {
         fprintf(stderr, "standard input cannot be read\n");
         return 1;
     }
-    uint8_t profile = strcmp(word[2], "2") == 0 ? LBK_SECOND : LBK_FIRST;
-    write_all(words == 4 ? lbk_breaks : lbk_positions, (const lbk_table *)table.at, profile, text);
+    uint8_t profile = strcmp(word[1], "2") == 0 ? LBK_SECOND : LBK_FIRST;
+    write_all(words == 3 ? lbk_breaks : lbk_positions, &table, profile, text);
     free(text.at);
-    free(table.at);
     return 0;
 }

@@ -1,5 +1,5 @@
-/* Tests lbk_read_published: it accepts the files that Unicode 15.0.0 published, with LF or CR LF at line ends, and
- * fills the table as lbk_read does. It refuses each file with one bit changed, a row less, a byte more or less, or
+/* Tests lbk_unicode and lbk_read_published by the files that Unicode 15.0.0 published: lbk_unicode fills the table that
+ * lbk_read fills from them. lbk_read_published does so, too, with LF or CR LF at line ends. It refuses each file with one bit changed, a row less, a byte more or less, or
  * another file in its place, and leaves the table unchanged. The arguments name the four published files. The last
  * line is `N passed, M failed`.
  */
@@ -89,6 +89,9 @@ int main(int count, char **words)
         files[k] = load(words[k + 1]);
     lbk_read(&wanted, files[0].at, files[0].size, files[1].at, files[1].size, files[2].at, files[2].size, files[3].at,
              files[3].size);
+    memset(&table, 0xA5, sizeof table);
+    lbk_unicode(&table);
+    report("the built-in table is that of the files", 0, memcmp(&table, &wanted, sizeof table) == 0);
     taken("the published files", 0, files);
     for (int k = 0; k < 4; k++)
         try_file(k, files);

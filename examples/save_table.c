@@ -1,4 +1,4 @@
-/* Saves a table in a file, so that other processes can map it instead of reading the four files again.
+/* Saves a table of files of your own, so that other processes can map it instead of reading the four files again.
  *
  *     save_table TABLE LINE_BREAK EAST_ASIAN CATEGORY EMOJI     writes the table of the four files into the file TABLE
  *     save_table TABLE < TEXT                                   maps the file TABLE, and writes how many breaks the text has

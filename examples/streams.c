@@ -1,7 +1,7 @@
 /* Tests lbk_feed: cuts texts and parts of texts into pieces in all ways and at random, and compares the breaks with
  * those of the whole text.
  *
- *     streams ROUNDS SEED LINE_BREAK EAST_ASIAN CATEGORY EMOJI
+ *     streams ROUNDS SEED
  *
  * Each piece, block and stream lies at a guard page, so an access out of bounds ends the program by a signal. The
  * last line is `N passed, M failed`.
@@ -287,13 +287,13 @@ static void try_any_bytes(const lbk_table *any)
 int main(int words, char **word)
 {
     static lbk_table any;
-    if (words != 7) {
-        fprintf(stderr, "usage: streams ROUNDS SEED LINE_BREAK EAST_ASIAN CATEGORY EMOJI\n");
+    if (words != 3) {
+        fprintf(stderr, "usage: streams ROUNDS SEED\n");
         return 2;
     }
     unsigned long rounds = strtoul(word[1], NULL, 10);
     seed = strtoul(word[2], NULL, 10) * 2 + 1;
-    read_table(&table, word + 3);
+    lbk_unicode(&table);
     fill_random(&any, sizeof any);
     pieces = fence(2 * MOST_TEXT);
     blocks = fence(MOST_ROOM * sizeof(lbk_break));

@@ -1,7 +1,7 @@
 /* Tests lbk_feed_utf16: cuts texts in UTF-16 into pieces in all ways and at random, also inside surrogate pairs, and
  * compares the breaks with those of lbk_breaks_utf16 over the whole text.
  *
- *     streams_utf16 ROUNDS SEED LINE_BREAK EAST_ASIAN CATEGORY EMOJI
+ *     streams_utf16 ROUNDS SEED
  *
  * Each piece, block and stream lies at a guard page, so an access out of bounds ends the program by a signal. The
  * last line is `N passed, M failed`.
@@ -190,13 +190,13 @@ static void try_any_stream(const lbk_table *any)
 int main(int count, char **word)
 {
     static lbk_table any;
-    if (count != 7) {
-        fprintf(stderr, "usage: streams_utf16 ROUNDS SEED LINE_BREAK EAST_ASIAN CATEGORY EMOJI\n");
+    if (count != 3) {
+        fprintf(stderr, "usage: streams_utf16 ROUNDS SEED\n");
         return 2;
     }
     unsigned long rounds = strtoul(word[1], NULL, 10);
     seed = strtoul(word[2], NULL, 10) * 2 + 1;
-    read_table(&table, word + 3);
+    lbk_unicode(&table);
     fill_random(&any, sizeof any);
     pieces = fence(2 * MOST_TEXT * sizeof(uint16_t));
     blocks = fence(MOST_FEED_ROOM * sizeof(lbk_break));

@@ -3,7 +3,7 @@
  * lbk_cut_before_utf16 at each offset of a text: compares them with its required breaks, and the parts with the
  * whole text.
  *
- *     units ROUNDS SEED LINE_BREAK EAST_ASIAN CATEGORY EMOJI [TEXT]
+ *     units ROUNDS SEED [TEXT]
  *
  * TEXT is a file of UTF-8; each of its lines is tested, too. Each text and block lies at a guard page, so an access
  * out of bounds ends the program by a signal. The last line is `N passed, M failed`.
@@ -355,13 +355,13 @@ static void try_lines(bytes text)
 int main(int count, char **word)
 {
     static lbk_table any;
-    if (count != 7 && count != 8) {
-        fprintf(stderr, "usage: units ROUNDS SEED LINE_BREAK EAST_ASIAN CATEGORY EMOJI [TEXT]\n");
+    if (count != 3 && count != 4) {
+        fprintf(stderr, "usage: units ROUNDS SEED [TEXT]\n");
         return 2;
     }
     unsigned long rounds = strtoul(word[1], NULL, 10);
     seed = strtoul(word[2], NULL, 10) * 2 + 1;
-    read_table(&table, word + 3);
+    lbk_unicode(&table);
     fill_random(&any, sizeof any);
     texts = fence(MOST_UNITS * sizeof(uint32_t));
     blocks = fence(MOST_ROOM * sizeof(lbk_break));
@@ -377,8 +377,8 @@ int main(int count, char **word)
         if (round % 10 == 0)
             try_any_table(round % 20 == 0 ? &table : &any, round % 40 < 20);
     }
-    if (count == 8) {
-        bytes text = load(word[7]);
+    if (count == 4) {
+        bytes text = load(word[3]);
         try_lines(text);
         free(text.at);
     }

@@ -1,21 +1,17 @@
 /* Writes each break of a text in UTF-16: its offset in units of 16 bits, its kind (1 may, 2 must) and its rule.
  *
- *     iconv -f UTF-8 -t UTF-16LE TEXT | utf16 LINE_BREAK EAST_ASIAN CATEGORY EMOJI
+ *     iconv -f UTF-8 -t UTF-16LE TEXT | utf16
  *
- * The units are in the machine's byte order, which is UTF-16LE on x86-64. The arguments name the four property files.
+ * The units are in the machine's byte order, which is UTF-16LE on x86-64.
  */
 #include "example.h"
 
 enum { ROOM = 256 };
 
-int main(int count, char **word)
+int main(void)
 {
     static lbk_table table;
-    if (count != 5) {
-        fprintf(stderr, "usage: utf16 LINE_BREAK EAST_ASIAN CATEGORY EMOJI < TEXT\n");
-        return 2;
-    }
-    read_table(&table, word + 1);
+    lbk_unicode(&table);
     bytes text = read_all(stdin);
     if (text.at == NULL || text.size % sizeof(uint16_t) != 0) {
         fprintf(stderr, "standard input cannot be read, or ends within a unit\n");

@@ -14,7 +14,8 @@
 # LIBDIR is PREFIX/lib by default. Both are the folders in which the files will be used; if DESTDIR is set, it precedes
 # them while files are copied. They may have spaces, but no characters that are special to pkg-config or CMake.
 #
-# Without DESTDIR the code must be for this machine; on x86-64 the processor needs SSE4.2, as most since 2009 have.
+# Without DESTDIR the code must be for this machine; on x86-64 the processor needs SSE4.2, as most since 2009 have. Then it
+# prints the commands that build a program.
 set -eu
 if [ $# = 0 ] || [ $# -gt 2 ] || [ -z "$1" ]; then
     echo "usage: ./install.sh PREFIX [LIBDIR]" >&2
@@ -70,4 +71,14 @@ if [ -e bin/lbk ]; then
     install -m 755 bin/lbk "$to/bin"
     install -m 644 share/lbk.1 "$to/share/man/man1"
     install -m 644 share/lbk.bash "$to/share/bash-completion/completions/lbk"
+fi
+
+[ -z "${DESTDIR:-}" ] || exit 0
+printf '%s\n' "Installed in $prefix. To build a program, for example examples/breaks.c:" \
+    "    cc -I\"$prefix/include\" breaks.c \"$libdir/liblbk.a\" -o breaks" \
+    'or by pkg-config, which c.md explains:' \
+    "    export PKG_CONFIG_PATH=\"$libdir/pkgconfig\"" \
+    "    eval \"cc breaks.c \$(pkg-config --cflags --libs lbk)\" -Wl,-rpath,'\"$libdir\"' -o breaks"
+if [ -e bin/lbk ]; then
+    printf '%s\n' 'To run the program:' "    printf 'ab cd' | \"$prefix/bin/lbk\" mark"
 fi

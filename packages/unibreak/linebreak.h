@@ -24,11 +24,10 @@ typedef unsigned int utf32_t;
 #define LINEBREAK_ALLOWBREAK 1    /* it may end */
 #define LINEBREAK_NOBREAK 2       /* it does not end */
 #define LINEBREAK_INSIDEACHAR 3   /* the position is inside of a scalar, or of bytes that are read as one U+FFFD */
-#define LINEBREAK_INDETERMINATE 4 /* there is no table, so nothing is known */
+#define LINEBREAK_INDETERMINATE 4 /* no mark is this one */
 
-/* Maps the table's file, or reads its folder, once per process; otherwise the first other call does it. Without an
- * intact table it writes one line to standard error, which names the file and says what to do, and all marks are
- * LINEBREAK_INDETERMINATE. Any number of threads may call at the same time. */
+/* Fills the table of properties, once per process; otherwise the first other call does it. Any number of threads may
+ * call at the same time. */
 void init_linebreak(void);
 
 /* Writes a mark for each of the `len` units of a text, about the position after it. The last one is

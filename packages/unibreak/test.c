@@ -1,9 +1,5 @@
-/* Tries the marks: those of UTF-8, UTF-16 and UTF-32 have to agree, and say what the rules say of known texts.
- *
- *     test              with a table
- *     test no-table     without one: every mark is LINEBREAK_INDETERMINATE
- *
- * The last line is `N passed, M failed`.
+/* Tries the marks: those of UTF-8, UTF-16 and UTF-32 have to agree, and say what the rules say of known texts. The last
+ * line is `N passed, M failed`.
  */
 #include "linebreak.h"
 
@@ -104,21 +100,9 @@ static void try_marks(void)
                             && is_line_breakable('\n', 'b', "") == LINEBREAK_MUSTBREAK);
 }
 
-static void try_no_table(void)
+int main(void)
 {
-    char marks[3];
-    set_linebreaks_utf8((const utf8_t *)"a b", 3, "", marks);
-    report("no table", memcmp(marks, "\4\4\4", 3) == 0);
-    report("no table, two scalars", is_line_breakable('a', 'b', "") == LINEBREAK_INDETERMINATE);
-}
-
-int main(int count, char **word)
-{
-    init_linebreak();
-    if (count == 2 && strcmp(word[1], "no-table") == 0)
-        try_no_table();
-    else
-        try_marks();
+    try_marks();
     printf("%u passed, %u failed\n", passed, failed);
     return failed != 0;
 }
