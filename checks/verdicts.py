@@ -7,6 +7,7 @@ prints and keeps.
 import os
 import re
 import shutil
+import signal
 import subprocess
 import tempfile
 import time
@@ -135,6 +136,16 @@ def try_changes(tally, here):
     tally.equal("a changed file of a library is told of", here.told("low"), wanted)
     status, said = here.prove("low")
     tally.equal("a changed library is proved anew", (status, here.told("low")), (0, (0, "")))
+
+
+def try_closed_pipe(tally, here):
+    """A pipe that nobody reads any more, as by `| head`, ends it in silence."""
+    ours, theirs = os.pipe()
+    os.close(ours)
+    ran = subprocess.run([here.top / "scripts/verdict-of", "--show", "lbk"], stdout=theirs, stderr=subprocess.PIPE,
+        env={**os.environ, "PATH": here.path}, check=False)
+    os.close(theirs)
+    tally.equal("a closed pipe", (ran.returncode, ran.stderr), (-signal.SIGPIPE, b""))
 
 
 def try_gate(tally, here):
@@ -299,6 +310,7 @@ def run(tally, _arguments):
         tally.equal("what is proved is not proved again", here.prove("lbk", "shown"), (0, ""))
         try_forged(tally, here)
         try_changes(tally, here)
+        try_closed_pipe(tally, here)
         try_gate(tally, here)
         try_kept_by_gate(tally, here, Path(name))
         try_without_proof(tally, here, Path(name))
