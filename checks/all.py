@@ -13,8 +13,10 @@ NAMES = [
     "stored-runs",
     "worked-rows",
     "first-look",
+    "install",
     "published-files",
     "shown-commands",
+    "pages",
     "page-references",
     "quoted-contracts",
     "bindings",
@@ -36,6 +38,8 @@ NAMES = [
     "clients",
     "speed",
     "hostile-input",
+    "drop-in",
+    "erased",
 ]
 
 

@@ -1,42 +1,33 @@
-"""The bindings compared with each other: where they look for property files, their messages, and their calls.
+"""The bindings compared with each other: that they look for no files, their messages, and their calls.
 
-`docs/c.md` lists the folders: each source has to have them in that order, with the same advice. It also lists the
-calls: each source has to declare those of its column, and none that the page leaves empty there.
+`docs/library.md` lists the calls: each source has to declare those of its column, and none that the page leaves empty there.
 """
 
 import re
 
 from checks.harness import TOP
 
-PAGE = TOP / "docs/c.md"
+PAGE = TOP / "docs/library.md"
+# What a source names that looks for property files. The folder is always the caller's.
+SEARCHES = ("/usr/share/unicode", "UNICODE_DATA", "XDG_DATA_HOME", ".local/share", "UCD.zip")
 SOURCES = {
-    "Python": "packages/python/src/lbk/_database.py",
-    "Rust": "packages/rust/src/find.rs",
-    "C++": "include/lbk.hpp",
-    "JavaScript": "packages/javascript/found.js",
-}
-# How a source spells a folder of the user.
-SIGNS = {"$XDG_DATA_HOME/unicode": "XDG_DATA_HOME", "~/.local/share/unicode": '.local/share"'}
-ADVICE = (
-    "found no files of Unicode 15.0.0; install the package unicode-data (Debian 12), unpack UCD.zip from "
-    "https://www.unicode.org/Public/15.0.0/ucd/ into ~/.local/share/unicode, or set UNICODE_DATA to a folder that has them. Looked for:"
-)
-# The sentences on a file that is not the published one: the program and lbk_claim_text have those of this definition,
-# and of the languages JavaScript alone, whose module has no such call, has them again.
-CLAIMS = "crates/lbk_ucd/specs/ClaimTexts.antt"
-CLAIM_SOURCES = {
-    "Python": ["packages/python/src/calls/calls.c", "packages/python/src/lbk"],
-    "Rust": ["packages/rust/src"],
+    "C": ["include/lbk.h"],
     "C++": ["include/lbk.hpp"],
-    "JavaScript": ["packages/javascript/property_files.js"],
+    "Rust": ["packages/rust/src", "packages/linebreak/src"],
+    "Python": ["packages/python/src/calls", "packages/python/src/lbk"],
+    "JavaScript": ["packages/javascript", "page"],
+    "libunibreak's calls": ["packages/unibreak"],
 }
+# The sentences on a file that is not the published one: the program and lbk_claim_text have those of this definition.
+CLAIMS = "crates/lbk_ucd/specs/ClaimTexts.antt"
 READS_VERSION = "Used with Emoji Version"
+CALL_THEM = ("C++", "Python")
 # Where the calls of each column are declared, and how.
 CALLS = {
     "C": (["include/lbk.h"], r"^\w+ {}\("),
     "C++": (["include/lbk.hpp"],
         r"^class {0} |^using {0} = |^inline [\w:<> ]+ {0}\(|^    (?:static const table &|std::string ){0}\("),
-    "Rust": (["packages/rust/src"], r"^ *pub fn {0}\b|^pub struct {0} "),
+    "Rust": (["packages/rust/src/lib.rs", "packages/rust/src/api"], r"^ *pub fn {0}\b|^pub struct {0}\b"),
     "Python": ([f"packages/python/src/lbk/_{it}.py" for it in ("table", "stream", "labels")],
         r"^    def {0}\(|^class {0}\b"),
     "JavaScript": (
@@ -44,42 +35,17 @@ CALLS = {
         r"^  (?:static )?{0}(?:<.*>)?\(|^export (?:class|function) {0}\b",
     ),
 }
-# How a source joins the parts of its message, and how it names the version.
-JOINTS = [
-    (r'"\s*\+?\s*f?"', ""),
-    (r"\\\n\s*", ""),
-    (r'\{_calls\.UNICODE_VERSION\}\.0|" LBK_UNICODE_VERSION "\.0', "15.0.0"),
-]
-
-
-def listed(page):
-    """The folders of the page, in their order."""
-    section = re.search(r"^## Finding the property files\n(.*?)^## ", page, re.S | re.M)[1]
-    return re.findall(r"`([/~$][^`]*/unicode[^`]*)`", section)
-
-
-def looked_into(source, folders):
-    """These folders in the order in which a source names each first. Those that it does not name are left out."""
-    code = "\n".join(line for line in source.split("\n") if not re.match(r"\s*(#|//|\*)", line))
-    places = {it: code.find(SIGNS.get(it, f'"{it}"')) for it in folders}
-    return sorted((it for it in folders if places[it] >= 0), key=places.get)
-
-
-def joined(source):
-    for pattern, by in JOINTS:
-        source = re.sub(pattern, by, source)
-    return source
 
 
 def text_of(paths):
     """The sources that these are, or that are in these folders."""
     found = [one for it in paths for one in (sorted((TOP / it).iterdir()) if (TOP / it).is_dir() else [TOP / it])]
-    return "\n".join(one.read_text(encoding="utf-8") for one in found if one.is_file())
+    return "\n".join(one.read_text(encoding="utf-8") for one in found if one.is_file() and one.suffix != ".wasm")
 
 
 def rows_of(page):
     """The rows of the table of calls: what a call gives, and its name in each language, "" where there is none."""
-    section = re.search(r"^## Which call each language has\n(.*?)^## ", page, re.S | re.M)[1]
+    section = re.search(r"^## Which call each language has\n(.*?)(?:^## |\Z)", page, re.S | re.M)[1]
     head, _, *rows = [[it.strip(" `") for it in line.split("|")[1:-1]] for line in section.split("\n")
         if line.startswith("|")]
     return [(row[0], dict(zip(head[1:], row[1:], strict=True))) for row in rows]
@@ -118,26 +84,16 @@ def claims():
 def try_claims(tally):
     parts = claims()
     tally.tell(f"{CLAIMS} has the sentences", None if len(parts) == 8 else parts)
-    for language, paths in CLAIM_SOURCES.items():
-        source = text_of(paths)
-        if language == "JavaScript":
-            tally.equal(f"{language} says what a file claims as lbk_claim_text does",
-                [it for it in parts if it not in source], [])
-        else:
-            calls = [name for name in ("lbk_claim_text", "lbk_remedy_text") if f"{name}(" not in source]
-            tally.equal(f"{language} calls what says it, and reads no version itself",
-                calls + re.findall(READS_VERSION, source), [])
+    for language in CALL_THEM:
+        source = text_of(SOURCES[language])
+        calls = [name for name in ("lbk_claim_text", "lbk_remedy_text") if f"{name}(" not in source]
+        tally.equal(f"{language} calls what says it, and reads no version itself",
+            calls + re.findall(READS_VERSION, source), [])
 
 
 def run(tally, _arguments):
-    page = PAGE.read_text(encoding="utf-8")
-    folders = listed(page)
-    tally.equal(f"{PAGE.name} lists the folders of the system and of the user", len(folders), 4)
-    try_calls(tally, page)
+    try_calls(tally, PAGE.read_text(encoding="utf-8"))
     try_claims(tally)
-    for language, path in SOURCES.items():
-        source = (TOP / path).read_text(encoding="utf-8")
-        tally.equal(f"{language} looks into the folders of {PAGE.name}, in their order", looked_into(source, folders),
-            folders)
-        tally.tell(f"{language} says the same where none has the files", None if ADVICE in joined(source)
-            else f"not in {path}: {ADVICE}")
+    for language, paths in SOURCES.items():
+        source = text_of(paths)
+        tally.equal(f"{language} looks for no property files", [it for it in SEARCHES if it in source], [])

@@ -2,7 +2,7 @@
 
 It is not part of the gate, because apt-get fetches the source of libass, by a list of its own in a temporary folder. In
 addition to what c-library needs, it needs Debian's packages libfribidi-dev, libfreetype-dev, libharfbuzz-dev, nasm,
-fonts-dejavu-core, librust-textwrap-dev and librust-termion-dev, and the published files of Unicode 15.0.
+fonts-dejavu-core, librust-textwrap-dev and librust-termion-dev.
 """
 
 import os
@@ -13,7 +13,6 @@ import tempfile
 from pathlib import Path
 
 from checks.harness import TOP, built_program, has
-from checks.unicode_files import MISSING, published
 
 FONT = Path("/usr/share/fonts/truetype/dejavu/DejaVuSans.ttf")
 CRATES = Path("/usr/share/cargo/registry")
@@ -61,21 +60,21 @@ def fetched(room):
     return None
 
 
-def wanted_breaks(folder, line):
+def wanted_breaks(line):
     """The breaks inside of a line by `lbk segment`: the scalars before each, and whether the line must end there."""
     text = line.replace("\\N", "\n").encode()
-    ran = subprocess.run([built_program(), "segment", "--ucd", folder], input=text, capture_output=True, check=True)
+    ran = subprocess.run([built_program(), "segment", "--unicode", "15.0"], input=text, capture_output=True, check=True)
     found = re.findall(rb"^S \d+ (\d+) (\w+)", ran.stdout, re.M)
     return {(len(text[: int(at)].decode()), kind == b"Must") for at, kind in found if int(at) < len(text)}
 
 
-def built_wraps(room, prefix, source, unicode, paths):
+def built_wraps(room, prefix, source, paths):
     """Builds the drop-in, libass over it, and checks/c/wraps.c. Returns which step failed, or None."""
     program = 'cc -O2 -Wall -Wextra "$0" $(pkg-config --static --cflags --libs libass) -o "$1"'
     options = ["--quiet", "--disable-fontconfig", "--disable-require-system-font-provider", "--enable-libunibreak",
         "--disable-shared"]
     steps = [
-        ([TOP / "packages/unibreak/build", unicode, room / "unibreak"], TOP),
+        ([TOP / "packages/unibreak/build", room / "unibreak"], TOP),
         (["./configure", *options, f"--prefix={prefix}"], source),
         (["make", "--silent", "install"], source),
         (["sh", "-c", program, TOP / "checks/c/wraps.c", room / "wraps"], TOP),
@@ -85,7 +84,7 @@ def built_wraps(room, prefix, source, unicode, paths):
         cwd=folder)), None)
 
 
-def try_libass(tally, room, prefix, unicode):
+def try_libass(tally, room, prefix):
     """libass has to wrap each line where `lbk segment` has a break, and in some frame at each of them."""
     headers = [it for it in ("harfbuzz", "fribidi", "freetype2") if done(["pkg-config", "--exists", it], room / "log")]
     if len(headers) < 3 or not FONT.exists() or not has("apt-get", "nasm", "make"):
@@ -98,17 +97,17 @@ def try_libass(tally, room, prefix, unicode):
     drop_in = room / "unibreak/lib"
     paths = {**os.environ, "PKG_CONFIG_PATH": f"{prefix}/lib/pkgconfig:{drop_in}/pkgconfig",
         "LD_LIBRARY_PATH": str(drop_in)}
-    if not tally.tell(f"{source.name} is built over the drop-in", built_wraps(room, prefix, source, unicode, paths)):
+    if not tally.tell(f"{source.name} is built over the drop-in", built_wraps(room, prefix, source, paths)):
         return
     ran = subprocess.run([room / "wraps", FONT], input="\n".join(LINES).encode(), capture_output=True, env=paths,
         check=True)
     found = re.findall(r"^(\d+) (\d+)( forced)?$", ran.stdout.decode(), re.M)
     for number, line in enumerate(LINES, 1):
         wraps = {(int(at), bool(forced)) for of, at, forced in found if int(of) == number}
-        tally.equal(f"where it wraps: {line}", sorted(wraps), sorted(wanted_breaks(unicode, line)))
+        tally.equal(f"where it wraps: {line}", sorted(wraps), sorted(wanted_breaks(line)))
 
 
-def try_textwrap(tally, room, unicode):
+def try_textwrap(tally, room):
     """The tests of textwrap, as Debian has it, have to pass over the crate in the place of unicode-linebreak."""
     packed = sorted(CRATES.glob("textwrap-*"))
     if not packed or not list(CRATES.glob("termion-*")) or not has("cargo"):
@@ -123,7 +122,7 @@ def try_textwrap(tally, room, unicode):
     (folder / ".cargo").mkdir()
     source = f'[source.crates-io]\nreplace-with = "debian"\n[source.debian]\ndirectory = "{CRATES}"\n'
     (folder / ".cargo/config.toml").write_text(source, encoding="utf-8")
-    environment = {**os.environ, "CARGO_TARGET_DIR": str(room / "target"), "UNICODE_DATA": str(unicode)}
+    environment = {**os.environ, "CARGO_TARGET_DIR": str(room / "target")}
     is_done = done(["cargo", "test", "--offline"], log, cwd=folder, env=environment)
     text = log.read_text(encoding="utf-8", errors="replace")
     counts = [int(it) for it in re.findall(r"test result: ok\. (\d+) passed", text)]
@@ -132,10 +131,6 @@ def try_textwrap(tally, room, unicode):
 
 
 def run(tally, _arguments):
-    unicode = published()
-    if unicode is None:
-        tally.leave_out(f"the clients: {MISSING}")
-        return
     with tempfile.TemporaryDirectory() as name:
         room = Path(name)
         prefix = room / "prefix"
@@ -145,5 +140,5 @@ def run(tally, _arguments):
             tally.tell("install-library", last_lines(room / "log"))
             return
         os.environ["PKG_CONFIG_PATH"] = f"{prefix}/lib/pkgconfig"
-        try_libass(tally, room, prefix, unicode)
-        try_textwrap(tally, room, unicode)
+        try_libass(tally, room, prefix)
+        try_textwrap(tally, room)

@@ -12,25 +12,42 @@ from pathlib import Path
 from checks.harness import TOP, built_program, run_script
 from checks.verdicts import failing_kit, forge
 
+# What is proved for the packages: crates, each with the file that is made.
+PROVED = [("lbk", "lbk"), ("lbk_c", "liblbk_c.a")]
 REFUSED = "FAILED  the program and the library are proved: status 70"
 
 
-def try_forged(tally, crate, file, room):
+def proved_copy(room):
+    """A copy of the repository with what was proved: other checks may prove in this one at the same time."""
+    top = room / "copy"
+    shutil.copytree(TOP, top, ignore=shutil.ignore_patterns("out", ".git", "dist", "__pycache__"))
+    for crate, name in PROVED:
+        (top / "crates" / crate / "out").mkdir()
+        for it in (name, "verdict"):
+            shutil.copy2(TOP / "crates" / crate / "out" / it, top / "crates" / crate / "out")
+    return top
+
+
+def try_forged(tally, top, room):
     """A file put into out/ by hand, where nothing can be proved: refused, and no package made."""
-    kept = room / file.name
-    shutil.copy2(file, kept)
-    try:
+    for crate, name in PROVED:
+        file, kept = top / "crates" / crate / "out" / name, room / name
+        fits = [top / "scripts/verdict-of", crate]
+        if not tally.equal(f"a copy of the proved {name}", told(fits), (0, "")):
+            continue
+        shutil.copy2(file, kept)
         forge(file)
         path = f"{room / 'kit/bin'}:{os.environ['PATH']}"
-        ran = subprocess.run([TOP / "scripts/packages"], env={**os.environ, "PATH": path}, capture_output=True,
-            text=True, check=False)
-    finally:
+        status, said = told([top / "scripts/packages"], env={**os.environ, "PATH": path})
+        tally.tell(f"{name} put into out/ by hand is refused", None if status == 1 and REFUSED in said else said[-1000:])
         shutil.copy2(kept, file)
-    is_refused = ran.returncode == 1 and REFUSED in ran.stdout
-    tally.tell(f"{file.name} put into out/ by hand is refused", None if is_refused else ran.stdout[-500:]
-        + ran.stderr[-500:])
-    fits = subprocess.run([TOP / "scripts/verdict-of", crate], capture_output=True, text=True, check=False)
-    tally.equal(f"the proved {file.name} is taken again", (fits.returncode, fits.stdout), (0, ""))
+        tally.equal(f"the proved {name} is taken again", told(fits), (0, ""))
+
+
+def told(words, **more):
+    """The status of a command, and all that it says."""
+    ran = subprocess.run(words, stdout=subprocess.PIPE, stderr=subprocess.STDOUT, text=True, check=False, **more)
+    return ran.returncode, ran.stdout
 
 
 def try_usage(tally, room):
@@ -51,6 +68,5 @@ def run(tally, arguments):
     with tempfile.TemporaryDirectory() as name:
         failing_kit(Path(name))
         try_usage(tally, Path(name))
-        for crate, file in (("lbk", "lbk"), ("lbk_c", "liblbk_c.a")):
-            try_forged(tally, crate, TOP / "crates" / crate / "out" / file, Path(name))
+        try_forged(tally, proved_copy(Path(name)), Path(name))
     run_script(tally, [TOP / "scripts/packages", *arguments])

@@ -2,7 +2,8 @@
 
 A line `    $ COMMAND` is a command, and the indented lines below it are its output. Commands with a line `..` in their
 output, and those of NOT_RUN, are left out. Commands that name $U are left out without the published files of Unicode
-15.0, and commands with `parallel` or its output `at-once` without GNU parallel. A block that ```rust opens shows a file
+15.0, all others run where no such file can be seen (scripts/without-unicode-data). Commands with `parallel` or its
+output `at-once` are left out without GNU parallel. A block that ```rust opens shows a file
 or a part of one; its name is the last one in backquotes in the nearest line of text before the block.
 """
 
@@ -22,12 +23,16 @@ SIGNS = [("\\(mu", "×"), ("\\(di", "÷"), ("\\-", "-")]
 class Shown:
     """Tries what the pages show. Assignments of U and T hold for the commands after them."""
 
-    def __init__(self, tally, room):
+    def __init__(self, tally, room, program):
         self.tally = tally
         # (`lbk` is the program, as where it is installed)
-        path = f"{TOP}/crates/lbk/out:{os.environ['PATH']}"
+        path = f"{program.parent}:{os.environ['PATH']}"
         self.environment = {**os.environ, "TMPDIR": room, "PATH": path}
         self.left = 0
+        self.bare = [str(TOP / "scripts/without-unicode-data")]
+        if run_program([*self.bare, "true"]).status != 0:
+            tally.leave_out("commands without files of Unicode, for which unshare of util-linux makes no namespace here")
+            self.bare = []
 
     def has_files(self):
         """Whether the folder that the page names has the published files."""
@@ -35,7 +40,8 @@ class Shown:
 
     def ran(self, text):
         """What a shell writes that runs this in the folder of the repository."""
-        return run_program(["bash", "-c", text], cwd=TOP,
+        bare = [] if "$U" in text else self.bare
+        return run_program([*bare, "bash", "-c", text], cwd=TOP,
             env=self.environment).out.decode(errors="replace").rstrip("\n")
 
     def command(self, command, lines):
@@ -95,9 +101,9 @@ class Shown:
 
 
 def run(tally, _arguments):
-    built_program()
+    program = built_program()
     with tempfile.TemporaryDirectory() as room:
-        each_page(tally, Shown(tally, room))
+        each_page(tally, Shown(tally, room, program))
 
 
 def each_page(tally, shown):
