@@ -221,7 +221,8 @@ static int has_segments(const char *text, size_t size, uint8_t profile, size_t r
     return from == all && same(state, of_segments.breaks) && of_segments.start == start;
 }
 
-/* Whether the breaks of a text after its safe break are those of the text that begins there. */
+/* Whether the safe break is the last one before the end, and the breaks after it are those of the text that begins
+ * there. */
 static int has_safe_break(const char *text, size_t size, uint8_t profile, size_t *safe)
 {
     lbk_state state = {.profile = profile}, fresh = {.profile = profile};
@@ -233,7 +234,7 @@ static int has_safe_break(const char *text, size_t size, uint8_t profile, size_t
         if (k > all || whole[all - k].at != *safe + rest[left - k].at || whole[all - k].kind != rest[left - k].kind
             || whole[all - k].rule != rest[left - k].rule)
             return 0;
-    return (*safe < size || size == 0) && (left == all || whole[all - left - 1].at == *safe);
+    return *safe == (all < 2 ? 0 : whole[all - 2].at);
 }
 
 static void try_safe_breaks(void)

@@ -585,12 +585,9 @@ size_t lbk_cut_before(const lbk_table *table, const char *text, size_t size, siz
 size_t lbk_cut_utf16(const lbk_table *table, const uint16_t *text, size_t size, size_t at);
 size_t lbk_cut_before_utf16(const lbk_table *table, const uint16_t *text, size_t size, size_t at);
 
-/* Returns an offset before the end of the text: after it, the breaks of the text are those of the text that begins
- * there. `profile` is LBK_FIRST or LBK_SECOND.
- *
- * It is the last break after the last cut of lbk_cut_before from which lbk_breaks with a new state returns the same next
- * break and reaches the same state as when it goes on from that cut. If there is none, it is that cut; for an empty text
- * it is 0. By any other profile it is the cut, too. It reads the last paragraph twice. Allocates nothing. */
+/* Returns the last break before the end of the text, or 0 if it has none: the breaks of the text after it are those of
+ * the text that begins there. `profile` is LBK_FIRST or LBK_SECOND; by any other profile it is the last cut of
+ * lbk_cut_before before the end. It reads the last paragraph. Allocates nothing. */
 size_t lbk_safe_break(const lbk_table *table, uint8_t profile, const char *text, size_t size);
 
 /* Returns the name of a rule by its number; an empty name for any other number. */

@@ -740,8 +740,8 @@ inline std::size_t cut_before(std::string_view text, std::size_t at) noexcept
     return cut_before(table::unicode(), text, at);
 }
 
-/// An offset before the end of a text such that the breaks after it are those of the text that begins there
-/// (lbk_safe_break); 0 if there is none. It reads the last paragraph of the text.
+/// The last break before the end of a text, or 0 if there is none (lbk_safe_break). The breaks after it are those of the
+/// text that begins there. It reads the last paragraph of the text.
 inline std::size_t safe_break(const lbk_table &by, std::string_view text, profile rules = profile::first) noexcept
 {
     return lbk_safe_break(&by, static_cast<std::uint8_t>(rules), text.data(), text.size());

@@ -1,8 +1,9 @@
 -- The breaks after a break are those of the text that begins there.
-use Rattle.std.proofs.Common.{◌≡◌, ◌⊎◌, inl, inr, ℕ, ◌+◌, ◌<◌, ◌≤◌, true, false, List, [], ◌∷◌, ◌++◌, if◌then◌else◌, length, drop, map, refl, sym, ap, subst, ◌∙◌, arith}
+use Rattle.std.proofs.Common.{◌≡◌, ◌⊎◌, inl, inr, ℕ, ◌+◌, ◌<◌, ◌≤◌, true, false, List, [], ◌∷◌, ◌++◌, if◌then◌else◌, length, drop, map, reverse, refl, sym, ap, ap₂, subst, ◌∙◌}
 use Rattle.std.proofs.lemmas.List.{drop_all}
 use Rattle.std.proofs.Math.Logic.{⊎_elim}
 use Rattle.bstr.specs.Utf8.{Decoded, decoded, or_replacement, pieces}
+use Rattle.bstr.proofs.lemmas.PieceLemmas.{pieces-nil}
 use Rattle.lbk_rules.specs.declared.Break.{Break}
 use Rattle.lbk_rules.specs.declared.Cell.{Cell}
 use Rattle.lbk_rules.specs.declared.Verdict.{Verdict}
@@ -12,7 +13,11 @@ use Rattle.lbk_rules.specs.Facts.{facts}
 use Rattle.lbk_rules.specs.Joins.{moved}
 use Rattle.lbk_rules.specs.Normal.{normal, normals}
 use Rattle.lbk_rules.specs.Verdict.{verdict_between_in}
+use Rattle.lbk_rules.proofs.AlikeLemmas.{facts-alike, from_cells-alike}
+use Rattle.lbk_rules.proofs.ChainLemmas.{verdict_between-chain}
 use Rattle.lbk_rules.proofs.EndLemmas.{start_of_text}
+use Rattle.lbk_rules.proofs.JoinLemmas.{map-moved-none}
+use Rattle.lbk_rules.proofs.NormalLemmas.{between-normal}
 use Rattle.lbk_rules.proofs.RestartLemmas.{facts-anew}
 use Rattle.lbk_rules.proofs.RowMachineLemmas.{normals-back}
 use Rattle.lbk_bytes.specs.Bytes.{breaks_of_bytes, with_break}
@@ -20,7 +25,35 @@ use Rattle.lbk_bytes.specs.Reached.{onward, scalars_of}
 use Rattle.lbk_bytes.proofs.BlockLemmas.{order}
 use Rattle.lbk_bytes.proofs.PartLemmas.{part-onward}
 use Rattle.lbk_bytes.proofs.PieceLemmas.{piece-within, pieces-on}
-use Rattle.lbk_c.proofs.SafeLemmas.{moved-none, onward-alike, pieces-none}
+
+-- What comes is told by what the rules ask about the scalars before it
+
+between-alike : (profile : Profile) (cell : ℕ → Cell) (a b : List ℕ) (right : List Cell) → facts (reverse (normals cell a)) ≡ facts (reverse (normals cell b))
+    → verdict_between_in profile (map cell a) right ≡ verdict_between_in profile (map cell b) right
+between-alike profile cell a b right same =
+    sym (between-normal profile (map cell a) right)
+    ∙ verdict_between-chain profile (normals cell a) (map normal right)
+    ∙ from_cells-alike profile (reverse (normals cell a)) (reverse (normals cell b)) (map normal right) same
+    ∙ sym (verdict_between-chain profile (normals cell b) (map normal right))
+    ∙ between-normal profile (map cell b) right
+
+facts-on : (cell : ℕ → Cell) (a b : List ℕ) (c : ℕ) → facts (reverse (normals cell a)) ≡ facts (reverse (normals cell b))
+    → facts (reverse (normals cell (a ++ c ∷ []))) ≡ facts (reverse (normals cell (b ++ c ∷ [])))
+facts-on cell a b c same =
+    ap facts (normals-back cell a c)
+    ∙ facts-alike (normal (cell c)) (reverse (normals cell a)) (reverse (normals cell b)) same
+    ∙ sym (ap facts (normals-back cell b c))
+
+onward-alike : (profile : Profile) (cell : ℕ → Cell) (a b : List ℕ) (at : ℕ) (ps : List Decoded) → facts (reverse (normals cell a)) ≡ facts (reverse (normals cell b))
+    → onward profile cell a at ps ≡ onward profile cell b at ps
+onward-alike profile cell a b at [] same = ap (λ v. with_break at v []) (between-alike profile cell a b [] same)
+onward-alike profile cell a b at (p ∷ ps) same =
+    ap₂ (λ (v : Verdict) (more : List Break). with_break at v more)
+    (between-alike profile cell a b (map cell (scalars_of (p ∷ ps))) same)
+    (onward-alike profile cell (a ++ or_replacement p.char ∷ []) (b ++ or_replacement p.char ∷ []) (at + p.size) ps
+    (facts-on cell a b (or_replacement p.char) same))
+
+-- A break of a list
 
 no-split : (front back : List Break) (here : Break) → [] ≡ front ++ here ∷ back → ⊥
 no-split [] back here none = (let nothing : [] ≡ here ∷ back = none in cc)
@@ -41,7 +74,7 @@ module _ (rules : Profile) (cell : ℕ → Cell) where
   onward-none : (at : ℕ) → onward rules cell [] at [] ≡ []
   onward-none at = ap (λ (v : Verdict). with_break at v []) (start_of_text rules [])
 
-  onward-first : (at : ℕ) (p : Decoded) (ps : List Decoded) → onward rules cell [] at (p ∷ ps) ≡ onward rules cell (or_replacement p.char ∷ []) (at + p.size) ps
+  pub onward-first : (at : ℕ) (p : Decoded) (ps : List Decoded) → onward rules cell [] at (p ∷ ps) ≡ onward rules cell (or_replacement p.char ∷ []) (at + p.size) ps
   onward-first at p ps =
       ap (λ (v : Verdict). with_break at v (onward rules cell (or_replacement p.char ∷ []) (at + p.size) ps))
       (start_of_text rules (map cell (scalars_of (p ∷ ps))))
@@ -54,7 +87,7 @@ module _ (rules : Profile) (cell : ℕ → Cell) where
 
     goes : (at : ℕ) (p : Decoded) (ps : List Decoded) → pieces (drop at text) ≡ p ∷ ps → Goes at p ps
     goes at p ps is =
-        ⊎_elim (λ (past : length text ≤ at). absurd (let none : [] ≡ p ∷ ps = sym pieces-none ∙ sym (ap pieces (drop_all at text past)) ∙ is in cc))
+        ⊎_elim (λ (past : length text ≤ at). absurd (let none : [] ≡ p ∷ ps = sym pieces-nil ∙ sym (ap pieces (drop_all at text past)) ∙ is in cc))
         (λ (inside : at < length text).
         let both : decoded (drop at text) ∷ pieces (drop (at + (decoded (drop at text)).size) text) ≡ p ∷ ps = sym (pieces-on text at inside) ∙ is in
         let head : decoded (drop at text) ≡ p = cc in
@@ -108,5 +141,5 @@ pub after-break : (rules : Profile) (cell : ℕ → Cell) (text : List ℕ) (fro
     → back ≡ map (moved here.at) (breaks_of_bytes rules cell (drop here.at text))
 after-break rules cell text front back here is =
     after-from rules cell text (pieces text) [] 0 front back here refl
-    (sym (part-onward false rules cell 0 text) ∙ moved-none (breaks_of_bytes rules cell text) ∙ is)
+    (sym (part-onward false rules cell 0 text) ∙ map-moved-none (breaks_of_bytes rules cell text) ∙ is)
     ∙ sym (part-onward false rules cell here.at (drop here.at text))

@@ -1,9 +1,7 @@
 pub mod TableLemmas
 pub mod MarkLemmas
-pub mod RowsApart
-pub mod SafeLemmas
-pub mod SafeWalks
 pub mod AfterLemmas
+pub mod SafeLemmas
 pub mod SegmentLemmas
 pub mod DigestLemmas
 pub mod EmptyLemmas

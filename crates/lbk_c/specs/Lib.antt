@@ -7,5 +7,3 @@ pub mod Reads
 pub mod SafeBreaks
 pub mod Segments
 pub mod Texts
--- What only carries proofs.
-pub mod SafeSteps

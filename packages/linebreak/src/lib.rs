@@ -48,9 +48,8 @@ pub fn linebreaks(s: &str) -> impl Iterator<Item = (usize, BreakOpportunity)> + 
 /// Divides a text so that the breaks of the second part are those of the text after the first part, also if more text
 /// follows.
 ///
-/// It divides at the last break before the end of the text after which the breaks are those of a text that begins
-/// there, or else before the whole text. The crate unicode-linebreak divides by pairs of classes, also at other
-/// offsets.
+/// It divides at the last break before the end of the text, or else before the whole text. The crate unicode-linebreak
+/// divides by pairs of classes, also at other offsets.
 ///
 /// ```
 /// use unicode_linebreak::split_at_safe;

@@ -206,8 +206,8 @@ class Table:
         return _calls.cut_before(self._memory, text, at)
 
     def safe_break(self, text: Text, profile: int = 1) -> int:
-        """An offset before the end of a text such that the breaks after it are those of the text
-        that begins there; 0 if there is none. It reads the last paragraph of the text."""
+        """The last break before the end of a text, or 0 if there is none. The breaks after it are
+        those of the text that begins there. It reads the last paragraph of the text."""
         return _calls.safe_break(self._memory, text, profile)
 
     def class_of(self, character: str | int) -> str:

@@ -173,9 +173,8 @@ impl<'t> Breaker<'t> {
         Stream::new(self)
     }
 
-    /// An offset before the end of a text such that the breaks after it are those of the text that begins there, also if
-    /// more text follows. It is the last break for which the next break and what is known after it show this, or else
-    /// the start of the last paragraph, which is all that is read.
+    /// The last break before the end of a text, or 0 if there is none. The breaks after it are those of the text that
+    /// begins there, also if more text follows. Only the last paragraph is read.
     ///
     /// ```
     /// let text = "See p. 7, or so";
