@@ -1,4 +1,4 @@
-"""The lanes beside plain arrays, over all bytes, in each form of a build, without SSSE3, and with valgrind."""
+"""The lanes beside plain arrays, over all bytes, in each form of a build, without SSE4.1, and with valgrind."""
 
 import json
 import os
@@ -32,9 +32,9 @@ def run(tally, folder):
             try_lanes(tally, name, [built(folder, flags)])
     plain = built(folder, "")
     if has("qemu-x86_64"):
-        try_lanes(tally, "a processor without SSSE3", ["qemu-x86_64", "-cpu", "qemu64", plain])
+        try_lanes(tally, "a processor without SSE4.1", ["qemu-x86_64", "-cpu", "qemu64", plain])
     else:
-        tally.leave_out("lanes without SSSE3 (Debian's package qemu-user)")
+        tally.leave_out("lanes without SSE4.1 (Debian's package qemu-user)")
     if has("valgrind"):
         try_lanes(tally, "valgrind", ["valgrind", "--quiet", "--error-exitcode=9", plain, "--test-threads", "1"])
     else:

@@ -11,13 +11,17 @@ TWINS = TOP / "checks/erased/twins"
 POSITIONS = 5_000_000
 # How the packages are built: what it is, words for rustc, and the profile.
 FORMS = [
-    ("with SSSE3", "-Ctarget-cpu=x86-64-v2", "release"),
+    ("x86-64-v2", "-Ctarget-cpu=x86-64-v2", "release"),
     ("plain x86-64", "", "release"),
     ("no vectors", "--cfg plain", "release"),
     ("with overflow checks", "", "checked"),
 ]
-# What makes of the lanes those of a processor without SSSE3, in which a look-up of bytes ends the program.
-LACKING = [("__cpuid(1) }.ecx >> 9 & 1;", "__cpuid(1) }.ecx >> 9 & 0;"), ('"pshufb {0}, {1}"', '"ud2 # {0} {1}"')]
+# What makes of the lanes those of a processor without SSE4.1, in which a look-up of bytes or a choice ends the program.
+LACKING = [
+    ("__cpuid(1) }.ecx >> 19 & 1;", "__cpuid(1) }.ecx >> 19 & 0;"),
+    ('"pshufb {0}, {1}"', '"ud2 # {0} {1}"'),
+    ('"pblendvb {0}, {1}, xmm0"', '"ud2 # {0} {1}"'),
+]
 # Texts of which parts are taken; others are drawn.
 TEXTS = ["README.md", "docs/guide.md", "docs/rattle.md", "page/characters.js", "page/examples.js"]
 
@@ -53,8 +57,8 @@ def built(work, feature, flags, profile, *words, cargo="cargo", env=None):
     return env["CARGO_TARGET_DIR"], profile
 
 
-def without_ssse3(work):
-    """The packages, as they run on a processor without SSSE3."""
+def without_sse41(work):
+    """The packages, as they run on a processor without SSE4.1."""
     for path in work.glob("*/src/simd.rs"):
         text = path.read_text(encoding="utf-8")
         for old, new in LACKING:
@@ -109,6 +113,6 @@ def run(tally, room, folder, positions):
     for name, flags, profile in FORMS:
         made, profile = built(work, "erased", flags, profile)
         try_form(tally, f"{made}/{profile}/twins", name, number, positions, wanted)
-    made, profile = built(without_ssse3(workspace(room / "lacking", folder)), "erased", "", "release")
-    try_form(tally, f"{made}/{profile}/twins", "a processor without SSSE3", number, positions, wanted)
+    made, profile = built(without_sse41(workspace(room / "lacking", folder)), "erased", "", "release")
+    try_form(tally, f"{made}/{profile}/twins", "a processor without SSE4.1", number, positions, wanted)
     try_narrow(tally, work, reference, number, positions)

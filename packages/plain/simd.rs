@@ -1,4 +1,4 @@
-//! Sixteen bytes side by side: what the erased modules use of Rattle's `std::simd`, by SSE2 and SSSE3, by NEON, or by
+//! Sixteen bytes side by side: what the erased modules use of Rattle's `std::simd`, by SSE2 to SSE4.1, by NEON, or by
 //! plain arrays. The features are those of the build; `plain` in `RUSTFLAGS="--cfg plain"` chooses the arrays anywhere.
 #![allow(non_camel_case_types)]
 use core::ops::{BitAnd, Shr};
@@ -94,19 +94,18 @@ mod lanes {
         fn not(a: V) -> V { _mm_xor_si128(a, _mm_set1_epi8(-1)) }
         fn eq(a: V, b: V) -> V { _mm_cmpeq_epi8(a, b) }
         fn ge(a: V, b: V) -> V { _mm_cmpeq_epi8(_mm_max_epu8(a, b), a) }
-        fn select(mask: V, a: V, b: V) -> V { _mm_or_si128(_mm_and_si128(mask, a), _mm_andnot_si128(mask, b)) }
         fn bits(mask: V) -> u16 { _mm_movemask_epi8(mask) as u16 }
         fn high_halves(a: V) -> V { _mm_and_si128(_mm_srli_epi16::<4>(a), _mm_set1_epi8(15)) }
         fn behind(a: V, b: V) -> V { _mm_or_si128(_mm_srli_si128::<15>(a), _mm_slli_si128::<1>(b)) }
     }
 
-    /// Whether the processor has SSSE3, for `look`.
-    #[cfg(target_feature = "ssse3")]
+    /// Whether the processor has SSE4.1, and so SSSE3, for `look` and `select`.
+    #[cfg(target_feature = "sse4.1")]
     #[inline(always)]
     pub(super) fn are_here() -> bool { true }
 
     /// The same where the build does not say so: the processor is asked once.
-    #[cfg(not(target_feature = "ssse3"))]
+    #[cfg(not(target_feature = "sse4.1"))]
     #[inline(always)]
     pub(super) fn are_here() -> bool {
         use core::sync::atomic::{AtomicU8, Ordering::Relaxed};
@@ -115,7 +114,7 @@ mod lanes {
         fn ask() -> bool {
             // SAFETY: each processor of x86-64 has CPUID, with leaf 1.
             #[allow(unused_unsafe)]
-            let has = unsafe { __cpuid(1) }.ecx >> 9 & 1;
+            let has = unsafe { __cpuid(1) }.ecx >> 19 & 1;
             KNOWN.store(has as u8, Relaxed);
             has == 1
         }
@@ -125,11 +124,14 @@ mod lanes {
         }
     }
 
-    #[cfg(target_feature = "ssse3")]
-    lanes! { fn look(row: V, places: V) -> V { _mm_shuffle_epi8(row, places) } }
+    #[cfg(target_feature = "sse4.1")]
+    lanes! {
+        fn look(row: V, places: V) -> V { _mm_shuffle_epi8(row, places) }
+        fn select(mask: V, a: V, b: V) -> V { _mm_blendv_epi8(b, a, mask) }
+    }
 
     /// By an instruction of SSSE3. Its intrinsic would be a call in each function that is not compiled for SSSE3.
-    #[cfg(not(target_feature = "ssse3"))]
+    #[cfg(not(target_feature = "sse4.1"))]
     #[inline(always)]
     pub(super) fn look(row: V, places: V) -> V {
         if !crate::ASKED_BEFORE && !are_here() { return look_by_bytes(row, places); }
@@ -142,8 +144,23 @@ mod lanes {
         found
     }
 
-    #[cfg(not(target_feature = "ssse3"))]
+    /// By one of SSE4.1. In a crate that does not ask before, to ask would take as long as this saves; a test asks.
+    #[cfg(not(target_feature = "sse4.1"))]
+    #[inline(always)]
+    pub(super) fn select(mask: V, a: V, b: V) -> V {
+        if !crate::ASKED_BEFORE && !(cfg!(test) && are_here()) { return select_by_bits(mask, a, b); }
+        let mut chosen = b;
+        // SAFETY: it writes one register, and the processor has SSE4.1.
+        unsafe {
+            core::arch::asm!("pblendvb {0}, {1}, xmm0", inout(xmm_reg) chosen, in(xmm_reg) a, in("xmm0") mask,
+                options(pure, nomem, nostack, preserves_flags));
+        }
+        chosen
+    }
+
+    #[cfg(not(target_feature = "sse4.1"))]
     lanes! {
+        fn select_by_bits(mask: V, a: V, b: V) -> V { _mm_or_si128(_mm_and_si128(mask, a), _mm_andnot_si128(mask, b)) }
         fn look_by_bytes(row: V, places: V) -> V {
             let (mut row_bytes, mut bytes) = ([0_u8; 16], [0_u8; 16]);
             _mm_storeu_si128(row_bytes.as_mut_ptr().cast(), row);
