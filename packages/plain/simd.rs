@@ -148,7 +148,8 @@ mod lanes {
     #[cfg(not(target_feature = "sse4.1"))]
     #[inline(always)]
     pub(super) fn select(mask: V, a: V, b: V) -> V {
-        if !crate::ASKED_BEFORE && !(cfg!(test) && are_here()) { return select_by_bits(mask, a, b); }
+        let is_taken = crate::ASKED_BEFORE || cfg!(test) && are_here();
+        if !is_taken { return select_by_bits(mask, a, b); }
         let mut chosen = b;
         // SAFETY: it writes one register, and the processor has SSE4.1.
         unsafe {
