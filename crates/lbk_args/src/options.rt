@@ -89,7 +89,7 @@ break at its end. It is as long as --most and --words allow, or ends early at
 a required break, once it has --least new bytes. Text without a break within
 the limits becomes one longer chunk. Offsets count bytes of the whole text;
 --from and --to still read all of it. With --text each chunk is a JSON object on
-a line. Examples:
+a line; with --names as well, each object names its file. Examples:
   $ printf 'ab cd' | lbk chunk --most 4
   C 0 3 1 May 18
   C 3 5 1 Must 3

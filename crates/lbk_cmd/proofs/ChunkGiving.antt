@@ -23,14 +23,13 @@ use Rattle.lbk_chunk_reader.specs.declared.held.Held.{Held}
 use Rattle.lbk_chunk_reader.specs.declared.window.Window.{Window}
 use Rattle.lbk_chunk_reader.proofs.ReaderLemmas.{chunk-within, next-between, stands-next}
 use Rattle.lbk_chunk_reader.proofs.SettledLemmas.{all-exist, settle-all, settle-none, settle-one, settle-then}
-use Rattle.lbk_cmd.specs.Chunk.{asked_line, chunk_lines, line_in}
+use Rattle.lbk_cmd.specs.Chunk.{Wanted, asked_line, chunk_lines, line_in}
 use Rattle.lbk_cmd.specs.Chunking.{Breaks, BreaksOff, Gave, IsIn, Passes, StandsIn}
-use Rattle.lbk_cmd.specs.declared.chunked.Asked.{Asked}
 use Rattle.lbk_cmd.proofs.Looping.{Appends-nil, Appends-trans}
 use Rattle.lbk_cmd.proofs.Stopping.{front_of}
 
 -- none
-pub gave-none : (asked : Asked) (text : List ℕ) (is_whole : Bool) (w : Window) (u : Option (List ℕ)) (waiting : List ℕ) → StandsIn asked text w
+pub gave-none : (asked : Wanted) (text : List ℕ) (is_whole : Bool) (w : Window) (u : Option (List ℕ)) (waiting : List ℕ) → StandsIn asked text w
     → Gave asked text is_whole w w u u waiting waiting
 gave-none asked text is_whole w u waiting st = record {
   limits = refl;
@@ -54,7 +53,7 @@ all-in text [] ds first second = second
 all-in text (c ∷ cs) ds first second = (first.0, all-in text cs ds first.1 second)
 
 -- the line of one chunk more
-lines-snoc : (asked : Asked) (text : List ℕ) (cs : List spec.Chunk) (c : spec.Chunk) → chunk_lines asked text (cs ++ c ∷ []) ≡ chunk_lines asked text cs ++ asked_line asked text c
+lines-snoc : (asked : Wanted) (text : List ℕ) (cs : List spec.Chunk) (c : spec.Chunk) → chunk_lines asked text (cs ++ c ∷ []) ≡ chunk_lines asked text cs ++ asked_line asked text c
 lines-snoc asked text cs c =
     flat_map-append (asked_line asked text) cs (c ∷ []) ∙ ap (λ x. chunk_lines asked text cs ++ x) (append-nil (asked_line asked text c))
 
@@ -96,7 +95,7 @@ module _ (is_whole : Bool) (w w' : Window) (chunk : Chunk)
       let before : cuts_past h.told (cuts_in w) ≡ n.first ∷ n.more = ap (cuts_past h.told) (sym (append-nil (cuts_in w))) ∙ n.are in
       omega (arith, ap length same, ap length before, short)
 
-module _ (asked : Asked) (text : List ℕ) (is_whole : Bool) (w0 w : Window) (u v : Option (List ℕ)) (waiting0 waiting : List ℕ)
+module _ (asked : Wanted) (text : List ℕ) (is_whole : Bool) (w0 w : Window) (u v : Option (List ℕ)) (waiting0 waiting : List ℕ)
     (g : Gave asked text is_whole w0 w u v waiting0 waiting)
     (rising0 : AreCutsPast (here_in w0).start (cuts_in w0)) (told0 : (here_in w0).start ≤ (here_in w0).told)
     (rising : AreCutsPast (here_in w).start (cuts_in w)) (told : (here_in w).start ≤ (here_in w).told) where
@@ -135,14 +134,14 @@ module _ (asked : Asked) (text : List ℕ) (is_whole : Bool) (w0 w : Window) (u 
     }
 
     pub line-is : (own : Option (List ℕ)) → own ≡ (if keeps_text w' then Some (chunk_text text (numbered_chunk chunk)) else None)
-        → line_in asked.range own (numbered_chunk chunk) ≡ asked_line asked text (numbered_chunk chunk)
+        → line_in asked own (numbered_chunk chunk) ≡ asked_line asked text (numbered_chunk chunk)
     line-is own is =
-        ap (λ x. line_in asked.range x (numbered_chunk chunk)) (is ∙ ap (λ (b : Bool). if b then Some (chunk_text text (numbered_chunk chunk)) else None) then-in.keeps)
+        ap (λ x. line_in asked x (numbered_chunk chunk)) (is ∙ ap (λ (b : Bool). if b then Some (chunk_text text (numbered_chunk chunk)) else None) then-in.keeps)
 
     -- that of the text which a window lends for it
     pub line-of : (own : Option (List ℕ)) → (HoldsFrom chunk.start text w' → IsIn text (numbered_chunk chunk)
         → own ≡ (if keeps_text w' then Some (chunk_text text (numbered_chunk chunk)) else None))
-        → line_in asked.range own (numbered_chunk chunk) ≡ asked_line asked text (numbered_chunk chunk)
+        → line_in asked own (numbered_chunk chunk) ≡ asked_line asked text (numbered_chunk chunk)
     line-of own lends = line-is own (lends kept-text is-in)
 
     settled-then : Settle (limits_in w0) is_whole (here_in w0) (cuts_in w0) (g.chunks ++ numbered_chunk chunk ∷ []) (here_in w') (cuts_in w')

@@ -18,7 +18,7 @@ use Rattle.lbk_chunk_reader.specs.Between.{AreCutsBetween}
 use Rattle.lbk_chunk_reader.specs.Cuts.{cuts_between, cuts_of_passages}
 use Rattle.lbk_chunk_reader.specs.Held.{chunk_text}
 use Rattle.lbk_chunk_reader.proofs.BetweenLemmas.{AreUpTo, between-append, between-up_to, passage-between, passages-rising, past-up_to}
-use Rattle.lbk_cmd.specs.Chunk.{chunk_lines, line_with, lines_by_ranges}
+use Rattle.lbk_cmd.specs.Chunk.{Wanted, chunk_lines, line_with, lines_by_ranges}
 use Rattle.lbk_cmd.specs.Ranges.{AreRanges, begins_in, end_of_ranges}
 use Rattle.lbk_cmd.proofs.Chunking.{text_given}
 
@@ -112,30 +112,30 @@ module _ (line : Chunk → List ℕ) where
   split from to (c ∷ cs) below rise = split-by from to c cs (nat_lt c.start to) (nat_lt c.start from) below rise refl refl (split from to cs below (rise-on c cs rise))
 
 -- what is written of a chunk that is asked for
-abbrev own_line : Bool → List ℕ → Chunk → List ℕ
-own_line texts text c = line_with (if texts then Some (chunk_text text c) else None) c
+abbrev own_line : Wanted → List ℕ → Chunk → List ℕ
+own_line wanted text c = line_with wanted.file (if wanted.texts then Some (chunk_text text c) else None) c
 
 all-from : (line : Chunk → List ℕ) (chunks : List Chunk) → lines_from line 0 chunks ≡ flat_map line chunks
 all-from line [] = refl
 all-from line (c ∷ cs) = let late : nat_lt c.start 0 ≡ false = grind (arith, nat_tests) in rw late (ap (λ x. line c ++ x) (all-from line cs))
 
-by-ranges : (texts : Bool) (text : List ℕ) (from : ℕ) (tos : List ℕ) (chunks : List Chunk) → AreRanges from tos → Rise (own_line texts text) chunks
-    → StartBelow (end_of_ranges from tos) chunks → lines_by_ranges texts text from tos chunks ≡ lines_from (own_line texts text) from chunks
-by-ranges texts text from [] chunks are rise below = sym (none-from (own_line texts text) from chunks below)
-by-ranges texts text from (to ∷ tos) chunks are rise below =
-    ap (λ x. lines_between (own_line texts text) from to chunks ++ x) (by-ranges texts text to tos chunks are.1 rise below)
-    ∙ split (own_line texts text) from to chunks are.0 rise
+by-ranges : (wanted : Wanted) (text : List ℕ) (from : ℕ) (tos : List ℕ) (chunks : List Chunk) → AreRanges from tos → Rise (own_line wanted text) chunks
+    → StartBelow (end_of_ranges from tos) chunks → lines_by_ranges wanted text from tos chunks ≡ lines_from (own_line wanted text) from chunks
+by-ranges wanted text from [] chunks are rise below = sym (none-from (own_line wanted text) from chunks below)
+by-ranges wanted text from (to ∷ tos) chunks are rise below =
+    ap (λ x. lines_between (own_line wanted text) from to chunks ++ x) (by-ranges wanted text to tos chunks are.1 rise below)
+    ∙ split (own_line wanted text) from to chunks are.0 rise
 
-pub chunks-by-ranges : (texts : Bool) (limits : Limits) (cell : ℕ → Cell) (passages : List (List Marked)) (chunks : List Chunk) (tos : List ℕ)
+pub chunks-by-ranges : (wanted : Wanted) (limits : Limits) (cell : ℕ → Cell) (passages : List (List Marked)) (chunks : List Chunk) (tos : List ℕ)
     → AreChunks limits (cuts_of_passages cell 0 0 passages) text_start chunks → AreRanges 0 tos → length (flat_map text_of passages) ≤ end_of_ranges 0 tos
-    → lines_by_ranges texts (flat_map text_of passages) 0 tos chunks ≡ chunk_lines (record { range = None; texts = texts }) (flat_map text_of passages) chunks
-chunks-by-ranges texts limits cell passages chunks tos are ranges short =
+    → lines_by_ranges wanted (flat_map text_of passages) 0 tos chunks ≡ chunk_lines (record wanted { range = None }) (flat_map text_of passages) chunks
+chunks-by-ranges wanted limits cell passages chunks tos are ranges short =
     let text = flat_map text_of passages in
     let cuts = cuts_of_passages cell 0 0 passages in
     let below = starts-below limits cuts (length text) text_start chunks (between-up_to (length text) 0 cuts (subst (AreCutsBetween 0 cuts) (let e : 0 + length text ≡ length text = omega arith in e) (passages-between cell 0 0 passages))) (omega arith) are in
-    by-ranges texts text 0 tos chunks ranges (rise chunks are) (farther chunks below) ∙ all-from (own_line texts text) chunks
+    by-ranges wanted text 0 tos chunks ranges (rise chunks are) (farther chunks below) ∙ all-from (own_line wanted text) chunks
   where
-    rise : (cs : List Chunk) → AreChunks limits (cuts_of_passages cell 0 0 passages) text_start cs → Rise (own_line texts (flat_map text_of passages)) cs
+    rise : (cs : List Chunk) → AreChunks limits (cuts_of_passages cell 0 0 passages) text_start cs → Rise (own_line wanted (flat_map text_of passages)) cs
     rise [] is = tt
     rise (c ∷ cs) is = chunks-start-past limits (cuts_of_passages cell 0 0 passages) text_start c cs (passages-rising cell 0 0 passages) (omega arith) is
 

@@ -31,9 +31,8 @@ use Rattle.lbk_chunk_reader.specs.Window.{Holds, IsNewWindow, IsTaken, cuts_in, 
 use Rattle.lbk_chunk_reader.specs.declared.window.Window.{Window}
 use Rattle.lbk_chunk_reader.proofs.BetweenLemmas.{between-past}
 use Rattle.lbk_chunk_reader.proofs.SettledLemmas.{settle-all}
-use Rattle.lbk_cmd.specs.Chunk.{AreLinesOf, chunk_lines, chunking}
+use Rattle.lbk_cmd.specs.Chunk.{Wanted, AreLinesOf, chunk_lines, chunking}
 use Rattle.lbk_cmd.specs.Chunking.{BreaksOff, Gave, IsIn, Rests, StandsIn, WritesAll}
-use Rattle.lbk_cmd.specs.declared.chunked.Asked.{Asked}
 use Rattle.lbk_cmd.specs.Gathering.{HasWritten}
 use Rattle.lbk_cmd.specs.Run.{IsRun, IsWhole, Writing, failed_reads_with, is_failed_read}
 use Rattle.lbk_cmd.specs.declared.faults.CmdFault.{CmdFault}
@@ -55,7 +54,7 @@ memory_alike ran = record {
 }
 
 -- a run over a reader that tells its bytes
-pub known_chunks : (asked : Asked) (l : Limits) (cell : ℕ → Cell) (profile : Profile) (limit : ℕ) (from to : Reads) (ended : Bool) (u u' w w' : Option (List ℕ))
+pub known_chunks : (asked : Wanted) (l : Limits) (cell : ℕ → Cell) (profile : Profile) (limit : ℕ) (from to : Reads) (ended : Bool) (u u' w w' : Option (List ℕ))
     → Ran false u u' w w' (IsRun (chunking asked l cell profile limit) from to ended (Ok (tt {0}))) → IsAtEnd u'
     → IfSome u (λ input. IsUtf8 input × ((out : List ℕ) × AreLinesOf asked l cell (passages profile cell (chars input)) out × Appends w w' out))
 known_chunks asked l cell profile limit from to ended u u' w w' ran at_end =
@@ -68,7 +67,7 @@ pub ok-no-limit : (answer : Result (Unit {0}) CmdFault) → answer ≡ Ok (tt {0
 ok-no-limit answer is limit = let both : Ok (tt {0}) ≡ Err (cmd.Passage fault.Limit) = sym is ∙ limit in cc
 
 -- all chunks that a window gave, where it gives no more
-pub gave-all : (asked : Asked) (text : List ℕ) (is_whole : Bool) (w w' : Window) (u v : Option (List ℕ)) (waiting waiting' : List ℕ) (g : Gave asked text is_whole w w' u v waiting waiting')
+pub gave-all : (asked : Wanted) (text : List ℕ) (is_whole : Bool) (w w' : Window) (u v : Option (List ℕ)) (waiting waiting' : List ℕ) (g : Gave asked text is_whole w w' u v waiting waiting')
     → Rests is_whole w' → AreCutsPast (here_in w).start (cuts_in w) → (here_in w).start ≤ (here_in w).told
     → SettleAll (limits_in w) is_whole (here_in w) (cuts_in w) g.chunks
 gave-all asked text true w w' u v waiting waiting' g rests rising told =
@@ -78,7 +77,7 @@ gave-all asked text false w w' u v waiting waiting' g rests rising told =
     (here_in w', cuts_in w', g.settle, subst (λ (x : Limits). IsOpen x (here_in w') (cuts_in w')) g.limits rests)
 
 -- the last lines were written, or only their front
-module _ (asked : Asked) (text : List ℕ) (w w' : Window) (u v : Option (List ℕ)) (waiting waiting' : List ℕ) (g : Gave asked text true w w' u v waiting waiting') (rests : Rests true w')
+module _ (asked : Wanted) (text : List ℕ) (w w' : Window) (u v : Option (List ℕ)) (waiting waiting' : List ℕ) (g : Gave asked text true w w' u v waiting waiting') (rests : Rests true w')
     (rising : AreCutsPast (here_in w).start (cuts_in w)) (told : (here_in w).start ≤ (here_in w).told) where
   pub last-lines : (v' : Option (List ℕ)) → Appends v v' waiting' → WritesAll asked text w u v' waiting
   last-lines v' wrote = record {
@@ -109,7 +108,7 @@ pub window-rising : (w : Window) (s : State) (is_whole : Bool) → Stands w s is
 window-rising w s is_whole st =
     subst (AreCutsPast (here_in w).start) (append-nil (cuts_in w)) (between-past (here_in w).start (cuts_in w) s.start [] st.between tt)
 
-module _ (asked : Asked) (l : Limits) (cell : ℕ → Cell) (profile : Profile) (limit : ℕ) (u0 w0 : Option (List ℕ)) (reads0 : Reads) where
+module _ (asked : Wanted) (l : Limits) (cell : ℕ → Cell) (profile : Profile) (limit : ℕ) (u0 w0 : Option (List ℕ)) (reads0 : Reads) where
   abbrev pub e : Writing
   e = chunking asked l cell profile limit
 

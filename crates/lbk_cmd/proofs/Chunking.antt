@@ -30,10 +30,9 @@ use Rattle.lbk_chunk_reader.specs.declared.window.Window.{Window}
 use Rattle.lbk_chunk_reader.proofs.BetweenLemmas.{passages-rising}
 use Rattle.lbk_chunk_reader.proofs.ReaderLemmas.{stands-new, stands-taken}
 use Rattle.lbk_chunk_reader.proofs.SettledLemmas.{all-exist, settle-all, settle-more, settle-none, settle-then, settle-whole}
-use Rattle.lbk_cmd.specs.Chunk.{asked_line, chunk_lines, chunking, line_in}
+use Rattle.lbk_cmd.specs.Chunk.{Wanted, asked_line, chunk_lines, chunking, line_in}
 use Rattle.lbk_cmd.specs.Chunking.{Gave, IsIn, Rests, StandsIn}
 use Rattle.lbk_cmd.specs.Run.{Writing}
-use Rattle.lbk_cmd.specs.declared.chunked.Asked.{Asked}
 use Rattle.lbk_cmd.proofs.ChunkGiving.{all-in}
 use Rattle.lbk_cmd.proofs.Running.{Finishes}
 
@@ -58,15 +57,15 @@ text-snoc : (given : List (List Marked)) (ms : List Marked) → text_given (give
 text-snoc given ms = flat_map-append text_of given (ms ∷ []) ∙ ap (λ x. text_given given ++ x) (append-nil (text_of ms))
 
 -- the lines of chunks of a text that goes on
-line-more : (asked : Asked) (text more : List ℕ) (c : Chunk) → IsIn text c → asked_line asked text c ≡ asked_line asked (text ++ more) c
-line-more asked text more c is = ap (λ x. line_in asked.range (if asked.texts then Some x else None) c) (sym same)
+line-more : (asked : Wanted) (text more : List ℕ) (c : Chunk) → IsIn text c → asked_line asked text c ≡ asked_line asked (text ++ more) c
+line-more asked text more c is = ap (λ x. line_in asked (if asked.texts then Some x else None) c) (sym same)
   where
     same : chunk_text (text ++ more) c ≡ chunk_text text c
     same =
         ap (take (c.end - c.start)) (drop-append-le c.start text more (omega (arith, is.0, is.1)))
         ∙ take-append-le (c.end - c.start) (drop c.start text) more (omega (arith, is.0, is.1, length-drop c.start text))
 
-lines-more : (asked : Asked) (text more : List ℕ) (cs : List Chunk) → AllByRecursion (IsIn text) cs → chunk_lines asked text cs ≡ chunk_lines asked (text ++ more) cs
+lines-more : (asked : Wanted) (text more : List ℕ) (cs : List Chunk) → AllByRecursion (IsIn text) cs → chunk_lines asked text cs ≡ chunk_lines asked (text ++ more) cs
 lines-more asked text more [] all = refl
 lines-more asked text more (c ∷ cs) all = ap₂ (λ x y. x ++ y) (line-more asked text more c all.0) (lines-more asked text more cs all.1)
 
@@ -104,7 +103,7 @@ words-snoc cell start (m ∷ given) ms =
     let same = ap (λ n. length (words_in_pieces n (pieces_of cell (text_of ms)))) (long_of m given start) in
     omega (arith, rest, same)
 
-module _ (asked : Asked) (l : Limits) (cell : ℕ → Cell) (profile : Profile) (limit : ℕ) where
+module _ (asked : Wanted) (l : Limits) (cell : ℕ → Cell) (profile : Profile) (limit : ℕ) where
   abbrev pub e : Writing
   e = chunking asked l cell profile limit
 

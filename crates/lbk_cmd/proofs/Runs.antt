@@ -19,7 +19,7 @@ use Rattle.lbk_cmd.specs.Devices.{Devices}
 use Rattle.lbk_cmd.specs.Operands.{Reads, Refusals, Standing, standing}
 use Rattle.lbk_cmd.specs.declared.ending.Ending.TheVariants.{Done}
 use Rattle.lbk_cmd.specs.Acts.{Performs, RunsOver, RunsReady}
-use Rattle.lbk_cmd.specs.Titles.{RunsNamed}
+use Rattle.lbk_cmd.specs.Titles.{RunsNamed, file_of, has_title}
 
 -- an engine that runs on what is ready for a task performs it
 pub ready_performs : {F : Type 0} (source : SourceMembers F) (file text : List ℕ → Option (Option (List ℕ))) (task : Task) (counts counts' : LoadCounts) (ready : Ready)
@@ -29,13 +29,16 @@ pub ready_performs : {F : Type 0} (source : SourceMembers F) (file text : List �
 ready_performs source file text task counts counts' ready before after is reads = inr (
   cell_of_task ready.cells,
   is.cells,
-  subst (λ (part : Option Part). Reads source text (RunsNamed task.names (RunsOver part task.engine task.sign task.profile (cell_of_task ready.cells))) task.texts before after) is.part
-      (subst (λ (engine : Engine). Reads source text (RunsNamed task.names (RunsOver ready.part engine task.sign task.profile (cell_of_task ready.cells))) task.texts before after) is.engine
-      (subst (λ (mark : List ℕ). Reads source text (RunsNamed task.names (RunsOver ready.part ready.engine mark task.profile (cell_of_task ready.cells))) task.texts before after) is.sign
-      (subst (λ (profile : Profile). Reads source text (RunsNamed task.names (RunsOver ready.part ready.engine ready.sign.now profile (cell_of_task ready.cells))) task.texts before after) is.profile
-      (subst (λ (names : Bool). Reads source text (RunsNamed names (RunsOver ready.part ready.engine ready.sign.now ready.profile (cell_of_task ready.cells))) task.texts before after) is.names
+  subst (λ (part : Option Part). By task.names part task.engine task.sign task.profile) is.part
+      (subst (λ (engine : Engine). By task.names ready.part engine task.sign task.profile) is.engine
+      (subst (λ (mark : List ℕ). By task.names ready.part ready.engine mark task.profile) is.sign
+      (subst (λ (profile : Profile). By task.names ready.part ready.engine ready.sign.now profile) is.profile
+      (subst (λ (names : Bool). By names ready.part ready.engine ready.sign.now ready.profile) is.names
       (subst (λ (texts : List (List ℕ)). Reads source text (RunsReady ready) texts before after) is.texts reads))))),
 )
+  where
+    By : Bool → Option Part → Engine → List ℕ → Profile → Type 0
+    By names part engine mark profile = Reads source text (λ name. RunsNamed (has_title names engine) (RunsOver part engine mark (file_of names name) profile (cell_of_task ready.cells)) name) task.texts before after
 
 -- what is performed, by what the texts told before they heard what is asked for
 pub performs_told : {F : Type 0} (source : SourceMembers F) (file text told : List ℕ → Option (Option (List ℕ))) (other task : Task) (counts counts' : LoadCounts)

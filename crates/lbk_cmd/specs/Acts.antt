@@ -15,9 +15,9 @@ use Rattle.lbk_cmd.specs.Engines.{engine_of, lines_of, marking, segmenting, show
 use Rattle.lbk_cmd.specs.Run.{Engine as TextEngine, IsRun, Writing, by_passage, failed_reads_with, failed_writes_with}
 use Rattle.lbk_cmd.specs.Run.{is_failed_read}
 use Rattle.lbk_cmd.specs.Ranges.{RangeRuns}
-use Rattle.lbk_cmd.specs.Chunk.{AreLinesOf, chunking, limits_of}
+use Rattle.lbk_cmd.specs.Chunk.{AreLinesOf, Wanted, chunking, limits_of}
 use Rattle.lbk_chunks.specs.declared.chunk.Limits.{Limits}
-use Rattle.lbk_cmd.specs.Titles.{RunsNamed}
+use Rattle.lbk_cmd.specs.Titles.{RunsNamed, file_of, has_title}
 use Rattle.lbk_cmd.specs.Texts.{lines_from, segment_text, show_text, signed_text}
 use Rattle.lbk_rules.specs.declared.Cell.{Cell}
 use Rattle.lbk_values.specs.declared.profile.Profile.{Profile}
@@ -43,7 +43,6 @@ use Rattle.lbk_files.specs.TaskCells.{cell_of_task}
 use Rattle.lbk_files.specs.Taking.{TakesFiles}
 use Rattle.lbk_files.specs.declared.store.Store.{Ghosts as StoreMembers}
 use Rattle.lbk_files.specs.declared.readiness.Ready.{Ready}
-use Rattle.lbk_cmd.specs.declared.chunked.Asked.{Asked}
 use Rattle.lbk_cmd.specs.declared.faults.CmdFault.{CmdFault}
 use Rattle.lbk_cmd.specs.declared.ending.Ending.{Ending}
 use Rattle.lbk_cmd.specs.declared.ending.Ending.TheVariants.{Refused}
@@ -88,11 +87,11 @@ Segments cell limit profile =
     (by_passage (segmenting cell profile limit))
 
 -- `chunk`, as the task asks for it
-abbrev pub Chunks : Asked → Limits → (ℕ → Cell) → ℕ → Profile → Devices → Devices → Result (Unit {0}) CmdFault → Type 0
-Chunks asked limits cell limit profile =
+abbrev pub Chunks : Wanted → Limits → (ℕ → Cell) → ℕ → Profile → Devices → Devices → Result (Unit {0}) CmdFault → Type 0
+Chunks wanted limits cell limit profile =
     TextRuns (λ input before after. (out : List ℕ)
-    × AreLinesOf asked limits cell (passages profile cell (chars input)) out × Appends before after out)
-    (chunking asked limits cell profile limit)
+    × AreLinesOf wanted limits cell (passages profile cell (chars input)) out × Appends before after out)
+    (chunking wanted limits cell profile limit)
 
 -- what `replay` does
 pub record Replays (cell : ℕ → Cell) (form : Form) (profile : Profile) (before after : Devices)
@@ -125,25 +124,27 @@ ShowsSamples before after ending =
     × (ending ≡ ending_of_text answer)))
 
 -- `chunk` runs, and the run ends as its result says
-abbrev pub ChunksEnd : Asked → Limits → (ℕ → Cell) → ℕ → Profile → Devices → Devices → Ending → Type 0
-ChunksEnd asked limits cell limit profile before after ending =
-    (answer : Result (Unit {0}) CmdFault) × Chunks asked limits cell limit profile before after answer
+abbrev pub ChunksEnd : Wanted → Limits → (ℕ → Cell) → ℕ → Profile → Devices → Devices → Ending → Type 0
+ChunksEnd wanted limits cell limit profile before after ending =
+    (answer : Result (Unit {0}) CmdFault) × Chunks wanted limits cell limit profile before after answer
     × (ending ≡ ending_of_text answer)
 
--- the engine runs with its option, `mark` with this sign, and the run ends as its result says
-abbrev pub EngineRuns : Engine → List ℕ → Profile → (ℕ → Cell) → Devices → Devices → Ending → Type 0
-EngineRuns (Mark limit) mark profile cell before after ending =
+-- the engine runs with its option, `mark` with this sign, `chunk` with this name of its file, and the run ends as its
+-- result says
+abbrev pub EngineRuns : Engine → List ℕ → Option (List ℕ) → Profile → (ℕ → Cell) → Devices → Devices → Ending → Type 0
+EngineRuns (Mark limit) mark file profile cell before after ending =
     (answer : Result (Unit {0}) CmdFault) × Marks mark cell limit profile before after answer
     × (ending ≡ ending_of_text answer)
-EngineRuns (Show limit) mark profile cell before after ending =
+EngineRuns (Show limit) mark file profile cell before after ending =
     (answer : Result (Unit {0}) CmdFault) × Shows cell limit profile before after answer
     × (ending ≡ ending_of_text answer)
-EngineRuns (Segment limit) mark profile cell before after ending =
+EngineRuns (Segment limit) mark file profile cell before after ending =
     (answer : Result (Unit {0}) CmdFault) × Segments cell limit profile before after answer
     × (ending ≡ ending_of_text answer)
-EngineRuns (Chunk limit sizes texts) mark profile cell before after ending =
-    ChunksEnd (record { range = None; texts = texts }) (limits_of sizes) cell limit profile before after ending
-EngineRuns (Replay kinds) mark profile cell before after ending =
+EngineRuns (Chunk limit sizes texts) mark file profile cell before after ending =
+    ChunksEnd (record { range = None; texts = texts; file = file }) (limits_of sizes) cell limit profile before after
+    ending
+EngineRuns (Replay kinds) mark file profile cell before after ending =
     (answer : Result Report ReplayFault) × Replays cell (form_of kinds) profile before after answer
     × (ending ≡ ending_of_replay answer)
 
@@ -160,23 +161,26 @@ LinesEnd (Some part) lines cell limit profile before after ending =
     RangeEnds part (engine_of lines cell profile limit) before after ending
 
 -- the engine runs over a text, or over a range of it; `replay` has no ranges
-abbrev pub RunsOver : Option Part → Engine → List ℕ → Profile → (ℕ → Cell) → Devices → Devices → Ending → Type 0
-RunsOver None engine mark profile cell = EngineRuns engine mark profile cell
-RunsOver (Some part) (Mark limit) mark profile cell = RangeEnds part (marking mark cell profile limit)
-RunsOver (Some part) (Show limit) mark profile cell = RangeEnds part (showing cell profile limit)
-RunsOver (Some part) (Segment limit) mark profile cell = RangeEnds part (segmenting cell profile limit)
-RunsOver (Some part) (Chunk limit sizes texts) mark profile cell =
-    ChunksEnd (record { range = Some part; texts = texts }) (limits_of sizes) cell limit profile
-RunsOver (Some part) (Replay kinds) mark profile cell = EngineRuns (Replay kinds) mark profile cell
+abbrev pub RunsOver : Option Part → Engine → List ℕ → Option (List ℕ) → Profile → (ℕ → Cell) → Devices → Devices
+    → Ending → Type 0
+RunsOver None engine mark file profile cell = EngineRuns engine mark file profile cell
+RunsOver (Some part) (Mark limit) mark file profile cell = RangeEnds part (marking mark cell profile limit)
+RunsOver (Some part) (Show limit) mark file profile cell = RangeEnds part (showing cell profile limit)
+RunsOver (Some part) (Segment limit) mark file profile cell = RangeEnds part (segmenting cell profile limit)
+RunsOver (Some part) (Chunk limit sizes texts) mark file profile cell =
+    ChunksEnd (record { range = Some part; texts = texts; file = file }) (limits_of sizes) cell limit profile
+RunsOver (Some part) (Replay kinds) mark file profile cell = EngineRuns (Replay kinds) mark file profile cell
 
 -- what a task runs over the text with a name, with cells
 abbrev pub RunsTask : Task → (ℕ → Cell) → List ℕ → Devices → Devices → Ending → Type 0
-RunsTask task cell = RunsNamed task.names (RunsOver task.part task.engine task.sign task.profile cell)
+RunsTask task cell name = RunsNamed (has_title task.names task.engine)
+    (RunsOver task.part task.engine task.sign (file_of task.names name) task.profile cell) name
 
 -- the same for an engine that is ready
 abbrev pub RunsReady : Ready → List ℕ → Devices → Devices → Ending → Type 0
-RunsReady ready =
-    RunsNamed ready.names (RunsOver ready.part ready.engine ready.sign.now ready.profile (cell_of_task ready.cells))
+RunsReady ready name = RunsNamed (has_title ready.names ready.engine)
+    (RunsOver ready.part ready.engine ready.sign.now (file_of ready.names name) ready.profile
+    (cell_of_task ready.cells)) name
 
 -- a task: its property values stop the run and no text is opened, or its engine runs with its options and profile and
 -- their cells, over its texts, or over its range of each

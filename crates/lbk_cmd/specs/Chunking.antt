@@ -14,8 +14,7 @@ use Rattle.lbk_chunk_reader.specs.Between.{AreCutsBetween}
 use Rattle.lbk_chunk_reader.specs.Window.{Holds, cuts_in, here_in, keeps_text, limits_in, words_in}
 use Rattle.lbk_chunk_reader.specs.Standing.{Stands}
 use Rattle.lbk_passage.specs.State.{State}
-use Rattle.lbk_cmd.specs.Chunk.{chunk_lines}
-use Rattle.lbk_cmd.specs.declared.chunked.Asked.{Asked}
+use Rattle.lbk_cmd.specs.Chunk.{Wanted, chunk_lines}
 
 -- a prefix of the buffered lines and of further ones was written, and the others are buffered
 pub record Passes (written written' : Option (List ℕ)) (waiting waiting' line : List ℕ) : Type 0 where
@@ -42,22 +41,22 @@ pub record IsInOrder (w : Window) : Type 0 where
   pub told : (here_in w).start ≤ (here_in w).told
 
 -- the cuts of a window are in a text; the window keeps the text from its next start on if texts are asked for
-pub record StandsIn (asked : Asked) (text : List ℕ) (w : Window) : Type 0 where
-  pub keeps : keeps_text w ≡ asked.texts
+pub record StandsIn (wanted : Wanted) (text : List ℕ) (w : Window) : Type 0 where
+  pub keeps : keeps_text w ≡ wanted.texts
   pub holds : Holds text w
   pub between : AreCutsBetween (here_in w).start (cuts_in w) (length text)
 
 -- a window returned chunks of a text; their lines are buffered or were written
-pub record Gave (asked : Asked) (text : List ℕ) (is_whole : Bool) (old new : Window)
+pub record Gave (wanted : Wanted) (text : List ℕ) (is_whole : Bool) (old new : Window)
     (written written' : Option (List ℕ)) (waiting waiting' : List ℕ) : Type 0 where
   pub limits : limits_in new ≡ limits_in old
   pub words : words_in new ≡ words_in old
   pub chunks : List Chunk
   pub within : AllByRecursion (IsIn text) chunks
-  pub stands_in : StandsIn asked text new
+  pub stands_in : StandsIn wanted text new
   pub stands : (s : State) → Stands old s is_whole → Stands new s is_whole
   pub settle : Settle (limits_in old) is_whole (here_in old) (cuts_in old) chunks (here_in new) (cuts_in new)
-  pub passes : Passes written written' waiting waiting' (chunk_lines asked text chunks)
+  pub passes : Passes written written' waiting waiting' (chunk_lines wanted text chunks)
 
 -- no more chunk is settled, or none is left
 abbrev pub Rests : Bool → Window → Type 0
@@ -65,32 +64,32 @@ Rests true w = cuts_past (here_in w).told (cuts_in w) ≡ []
 Rests false w = IsOpen (limits_in w) (here_in w) (cuts_in w)
 
 -- a write failed: a prefix of the buffered lines and of those of all settled chunks was written
-pub record BreaksOff (asked : Asked) (text : List ℕ) (is_whole : Bool) (old : Window)
+pub record BreaksOff (wanted : Wanted) (text : List ℕ) (is_whole : Bool) (old : Window)
     (written written' : Option (List ℕ)) (waiting : List ℕ) : Type 0 where
   pub chunks : List Chunk
   pub all : SettleAll (limits_in old) is_whole (here_in old) (cuts_in old) chunks
   pub count : ℕ
-  pub wrote : Appends written written' (take count (waiting ++ chunk_lines asked text chunks))
+  pub wrote : Appends written written' (take count (waiting ++ chunk_lines wanted text chunks))
 
 -- the buffered lines were written, and those of all chunks that are left
-pub record WritesAll (asked : Asked) (text : List ℕ) (old : Window) (written written' : Option (List ℕ))
+pub record WritesAll (wanted : Wanted) (text : List ℕ) (old : Window) (written written' : Option (List ℕ))
     (waiting : List ℕ) : Type 0 where
   pub chunks : List Chunk
   pub all : SettleAll (limits_in old) true (here_in old) (cuts_in old) chunks
-  pub wrote : Appends written written' (waiting ++ chunk_lines asked text chunks)
+  pub wrote : Appends written written' (waiting ++ chunk_lines wanted text chunks)
 
 -- what a call does that writes them; or a write failed
-pub record WritesLast {W X Y : Type 0} (sink : SinkMembers W) (asked : Asked) (window : Window) (old new : W)
+pub record WritesLast {W X Y : Type 0} (sink : SinkMembers W) (wanted : Wanted) (window : Window) (old new : W)
     (waiting : List ℕ) (result : Result X Y) : Type 0 where
-  pub all : (text : List ℕ) → StandsIn asked text window
-      → OnOk result (WritesAll asked text window (sink.written old) (sink.written new) waiting)
-  pub front : (text : List ℕ) → StandsIn asked text window
-      → OnErr result (BreaksOff asked text true window (sink.written old) (sink.written new) waiting)
+  pub all : (text : List ℕ) → StandsIn wanted text window
+      → OnOk result (WritesAll wanted text window (sink.written old) (sink.written new) waiting)
+  pub front : (text : List ℕ) → StandsIn wanted text window
+      → OnErr result (BreaksOff wanted text true window (sink.written old) (sink.written new) waiting)
   pub failures : sink.failure_count new ≡ failures_after (sink.failure_count old) result
 
-abbrev pub Gives : {X Y : Type 0} → Asked → List ℕ → Bool → Window → Window → Option (List ℕ) → Option (List ℕ)
+abbrev pub Gives : {X Y : Type 0} → Wanted → List ℕ → Bool → Window → Window → Option (List ℕ) → Option (List ℕ)
     → List ℕ → List ℕ → Result X Y → Type 0
-Gives asked text is_whole old new written written' waiting waiting' (Ok x) =
-    Gave asked text is_whole old new written written' waiting waiting' × Rests is_whole new
-Gives asked text is_whole old new written written' waiting waiting' (Err y) =
-    BreaksOff asked text is_whole old written written' waiting
+Gives wanted text is_whole old new written written' waiting waiting' (Ok x) =
+    Gave wanted text is_whole old new written written' waiting waiting' × Rests is_whole new
+Gives wanted text is_whole old new written written' waiting waiting' (Err y) =
+    BreaksOff wanted text is_whole old written written' waiting

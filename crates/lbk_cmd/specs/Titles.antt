@@ -1,6 +1,9 @@
--- The line with the name of a text before its output, if the arguments ask for such lines.
-use Rattle.std.specs.Prelude.{◌≡◌, ◌⊎◌, ℕ, Bool, true, false, List, [], ◌∷◌, ◌++◌, Option, Result, Ok, Err, codes, take}
+-- The name of a text in the output, if the arguments ask for names: in a line before its output, or in its objects.
+use Rattle.std.specs.Prelude.{◌≡◌, ◌⊎◌, ℕ, Bool, true, false, List, [], ◌∷◌, ◌++◌, Option, None, Some, Result, Ok, Err, codes, take}
+use Rattle.std.specs.Prelude.{◌&&◌, not, if◌then◌else◌}
 use Rattle.std.specs.Io.KnownBytes.{Appends}
+use Rattle.lbk_args.specs.declared.order.Engine.{Engine}
+use Rattle.lbk_args.specs.declared.order.Engine.TheVariants.{Chunk}
 use Rattle.lbk_cmd.specs.Devices.{Devices}
 use Rattle.lbk_cmd.specs.Ending.{ending_of_text}
 use Rattle.lbk_cmd.specs.Message.{operand_text}
@@ -8,6 +11,15 @@ use Rattle.lbk_cmd.specs.Run.{failed_writes_with}
 use Rattle.lbk_cmd.specs.declared.ending.Ending.{Ending}
 use Rattle.lbk_cmd.specs.declared.faults.CmdFault.{CmdFault}
 use Rattle.lbk_cmd.specs.declared.faults.CmdFault.TheVariants.{Passage, Write, Memory}
+
+-- whether the line comes: objects of `chunk` have the name in them
+abbrev pub has_title : Bool → Engine → Bool
+has_title names (Chunk limit sizes texts) = names && not texts
+has_title names _ = names
+
+-- the name for objects
+abbrev pub file_of : Bool → List ℕ → Option (List ℕ)
+file_of names name = if names then Some name else None
 
 -- ==> FILE <==
 abbrev pub title : List ℕ → List ℕ

@@ -32,7 +32,7 @@ ghost use Rattle.lbk_chunks.specs.declared.chunk.Chunk.{Chunk};
 ghost use Rattle.lbk_chunks.specs.declared.chunk.Limits.{Limits};
 ghost use Rattle.lbk_chunks.specs.Chunks.{AreChunks, text_start};
 ghost use Rattle.lbk_chunk_reader.specs.Cuts.{cuts_of_passages};
-ghost use Rattle.lbk_cmd.specs.Chunk.{chunk_lines, lines_by_ranges};
+ghost use Rattle.lbk_cmd.specs.Chunk.{Wanted, chunk_lines, lines_by_ranges};
 ghost use Rattle.lbk_args.specs.Task.{Task};
 ghost use Rattle.lbk_files.specs.Store.{LoadCounts};
 ghost use Rattle.lbk_cmd.specs.Acts.{Performs, PerformsAlone};
@@ -117,12 +117,12 @@ pub fn joined_ranges()
 /// The outputs of `chunk` for adjacent ranges, joined, are its output for the range of all of them: over ranges that
 /// tile a text, its output for the text.
 pub fn joined_ranges_of_chunks()
-    ensures { (texts : Bool) (limits : Limits) (cell : ℕ → Cell) (passages : List (List Marked)) (chunks : List Chunk)
+    ensures { (wanted : Wanted) (limits : Limits) (cell : ℕ → Cell) (passages : List (List Marked)) (chunks : List Chunk)
         (tos : List ℕ)
         → AreChunks limits (cuts_of_passages cell 0 0 passages) text_start chunks
         → AreRanges 0 tos → length (flat_map text_of passages) ≤ end_of_ranges 0 tos
-        → lines_by_ranges texts (flat_map text_of passages) 0 tos chunks
-        ≡ chunk_lines (record { range = None; texts = texts }) (flat_map text_of passages) chunks }
+        → lines_by_ranges wanted (flat_map text_of passages) 0 tos chunks
+        ≡ chunk_lines (record wanted { range = None }) (flat_map text_of passages) chunks }
 {}
 
 /// For a task that names no text `run_over_texts` does what `run` does, with any files, and reports nothing about them.

@@ -11,12 +11,12 @@ use super::waiting::place_number;
 use lbk_chunk_reader::Chunk;
 use lbk_passage::lines::{place_byte, place_front};
 
-/// Writes the object of a chunk up to its text.
+/// Writes the members of the object of a chunk, up to its text.
 pub fn place_front_of_object(line: &mut [u8], at: usize, chunk: &Chunk) -> usize
     requires { at + 128 ≤ length line.old }
     ensures { Placed line.old line.new at (front_of_object (numbered_chunk chunk.now)) result }
 {
-    let next = place_front(line, at, *b"{\"start\":       ", 9);
+    let next = place_front(line, at, *b"\"start\":        ", 8);
     let next = place_number(line, next, chunk.start);
     let next = place_front(line, next, *b",\"end\": ", 7);
     let next = place_number(line, next, chunk.end);

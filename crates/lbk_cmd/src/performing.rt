@@ -3,16 +3,17 @@
 ghost use Rattle.std.specs.Prelude.{◌≡◌, map};
 ghost use Rattle.lbk_files.specs.TaskCells.{cell_of_task};
 ghost use Rattle.lbk_cmd.specs.Acts.{ChunksEnd, LinesEnd, RunsOver, RunsReady, form_of};
-ghost use Rattle.lbk_cmd.specs.Chunk.{limits_of};
+ghost use Rattle.lbk_cmd.specs.Chunk.{limits_of, wanted_of};
 ghost use Rattle.lbk_cmd.specs.Devices.{devices_of};
 ghost use Rattle.lbk_cmd.specs.Operands.{Reads, ReadsText, RunsTexts, refused_after};
+ghost use Rattle.lbk_cmd.specs.Titles.{file_of};
 
 use super::chunked::{Asked, chunk};
 use super::ending::{Ending, RunFault};
 use super::engine::{Breaking, Lines, TextLines, write_lines};
 use super::operands::Texts;
 use super::ranges::write_range;
-use super::titles::write_title;
+use super::titles::{file_of, has_title, write_title};
 use lbk_args::{Engine, Sizes};
 use lbk_chunks::Limits;
 use lbk_feed::{Sink, Source};
@@ -83,7 +84,7 @@ fn perform_named<T: Opens, R: Source, W: Sink>(
     }
 }
 
-/// Runs the engine over the text with a name, after the line with the name if the task asks for it.
+/// Runs the engine over the text with a name, after the line with the name if it has one.
 #[tactic(none)]
 fn perform_titled<R: Source, W: Sink>(
     alloc: Global,
@@ -95,29 +96,31 @@ fn perform_titled<R: Source, W: Sink>(
     ensures { RunsReady ready.now name.now
         (devices_of R.Source W.Sink reader.old writer.old) (devices_of R.Source W.Sink reader.new writer.new) result }
 {
-    if !ready.names {
-        return perform_one(alloc, ready, reader, writer);
+    if !has_title(ready.names, &ready.engine) {
+        return perform_one(alloc, ready, name, reader, writer);
     }
     match write_title(alloc, name, writer) {
-        Ok(()) => perform_one(alloc, ready, reader, writer),
+        Ok(()) => perform_one(alloc, ready, name, reader, writer),
         Err(fault) => Ending::of_text(Err(fault)),
     }
 }
 
-/// Runs the engine over one text, or over its range of it.
+/// Runs the engine over the text with a name, or over its range of it.
 #[tactic(none)]
 fn perform_one<R: Source, W: Sink>(
     alloc: Global,
     ready: &Ready<'_>,
+    name: &str,
     reader: &mut R,
     writer: &mut W,
 ) -> Ending
-    ensures { RunsOver ready.now.part ready.now.engine ready.now.sign.now ready.now.profile (cell_of_task ready.now.cells)
+    ensures { RunsOver ready.now.part ready.now.engine ready.now.sign.now (file_of ready.now.names name.now)
+        ready.now.profile (cell_of_task ready.now.cells)
         (devices_of R.Source W.Sink reader.old writer.old) (devices_of R.Source W.Sink reader.new writer.new) result }
 {
     match &ready.cells {
-        TaskCells::BuiltIn(cells) => perform_by(alloc, ready, cells, reader, writer),
-        TaskCells::OfFiles(pages) => perform_by(alloc, ready, pages, reader, writer),
+        TaskCells::BuiltIn(cells) => perform_by(alloc, ready, name, cells, reader, writer),
+        TaskCells::OfFiles(pages) => perform_by(alloc, ready, name, pages, reader, writer),
     }
 }
 
@@ -127,11 +130,13 @@ fn perform_one<R: Source, W: Sink>(
 fn perform_by<R: Source, W: Sink, C: CellSource>(
     alloc: Global,
     ready: &Ready<'_>,
+    name: &str,
     cells: &C,
     reader: &mut R,
     writer: &mut W,
 ) -> Ending
-    ensures { RunsOver ready.now.part ready.now.engine ready.now.sign.now ready.now.profile (C.cell_of cells.now)
+    ensures { RunsOver ready.now.part ready.now.engine ready.now.sign.now (file_of ready.now.names name.now)
+        ready.now.profile (C.cell_of cells.now)
         (devices_of R.Source W.Sink reader.old writer.old) (devices_of R.Source W.Sink reader.new writer.new) result }
 {
     match ready.engine {
@@ -151,8 +156,11 @@ fn perform_by<R: Source, W: Sink, C: CellSource>(
             sizes,
             texts,
         } => {
-            let range = ready.part;
-            let asked = Asked { range, texts };
+            let asked = Asked {
+                range: ready.part,
+                texts,
+                file: file_of(ready.names, name),
+            };
             perform_chunk(alloc, asked, sizes, limit, ready, cells, reader, writer)
         }
         Engine::Replay { kinds } => Ending::of_replay(replay(
@@ -170,7 +178,7 @@ fn perform_by<R: Source, W: Sink, C: CellSource>(
 #[tactic(none)]
 fn perform_chunk<R: Source, W: Sink, C: CellSource>(
     alloc: Global,
-    asked: Asked,
+    asked: Asked<'_>,
     sizes: Sizes,
     limit: u32,
     ready: &Ready<'_>,
@@ -178,7 +186,7 @@ fn perform_chunk<R: Source, W: Sink, C: CellSource>(
     reader: &mut R,
     writer: &mut W,
 ) -> Ending
-    ensures { ChunksEnd asked (limits_of sizes) (C.cell_of cells.now) limit ready.now.profile
+    ensures { ChunksEnd (wanted_of asked.entry) (limits_of sizes) (C.cell_of cells.now) limit ready.now.profile
         (devices_of R.Source W.Sink reader.old writer.old) (devices_of R.Source W.Sink reader.new writer.new) result }
 {
     Ending::of_text(chunk(

@@ -6,9 +6,11 @@ ghost use Rattle.lbk_passage.specs.Shown.{state_of};
 ghost use Rattle.lbk_passage.specs.Placing.{Placed, PlacedIn};
 ghost use Rattle.lbk_chunk_reader.specs.Numbered.{numbered_chunk};
 ghost use Rattle.json.specs.Print.{escape};
-ghost use Rattle.lbk_cmd.specs.Chunk.{chunk_line, is_asked, line_in, object_line};
+ghost use Rattle.lbk_cmd.specs.Chunk.{chunk_line, is_asked, line_in, object_line, wanted_of};
+ghost use Rattle.lbk_cmd.specs.Objects.{opening};
 ghost use Rattle.lbk_cmd.specs.Writing.{PutsBehind, WritesDue, WritesOut};
 
+use super::chunked::Asked;
 use super::objects::{place_escaped, place_front_of_object};
 use itoa::write_digits;
 use lbk_args::Part;
@@ -76,20 +78,20 @@ impl Waiting {
     /// Appends the line of a chunk, if it is in the range: an object if its text is given.
     pub fn push<W: Sink>(
         &mut self,
-        range: Option<Part>,
+        asked: Asked<'_>,
         chunk: &Chunk,
         text: Option<&[u8]>,
         writer: &mut W,
     ) -> Result<(), Failed>
         ensures { PutsBehind W.Sink writer.old writer.new (waiting_in self.old) (waiting_in self.new)
-            (line_in range (option_map (λ bytes. bytes.now) text.entry) (numbered_chunk chunk.now)) result }
+            (line_in (wanted_of asked.entry) (option_map (λ bytes. bytes.now) text.entry) (numbered_chunk chunk.now)) result }
     {
-        if !is_asked(range, chunk.start) {
+        if !is_asked(asked.range, chunk.start) {
             return Ok(());
         }
         match text {
             None => self.push_place(chunk, writer),
-            Some(text) => self.push_object(chunk, text, writer),
+            Some(text) => self.push_object(asked.file, chunk, text, writer),
         }
     }
 
@@ -103,21 +105,40 @@ impl Waiting {
         Ok(())
     }
 
-    /// Appends the object of a chunk with this text.
+    /// Appends the object of a chunk with this text, and the name of its file.
     fn push_object<W: Sink>(
         &mut self,
+        file: Option<&str>,
         chunk: &Chunk,
         text: &[u8],
         writer: &mut W,
     ) -> Result<(), Failed>
         ensures { PutsBehind W.Sink writer.old writer.new (waiting_in self.old) (waiting_in self.new)
-            (object_line text.now (numbered_chunk chunk.now)) result }
+            (object_line (option_map (λ name. name.now) file.entry) text.now (numbered_chunk chunk.now)) result }
     {
+        self.push_opening(file, writer)?;
         self.make_room(writer)?;
         self.len = place_front_of_object(&mut self.bytes, self.len, chunk);
         self.push_escaped(text, writer)?;
         self.make_room(writer)?;
         self.len = place_front(&mut self.bytes, self.len, *b"\"}\n ", 3);
+        Ok(())
+    }
+
+    /// Appends the first bytes of an object.
+    fn push_opening<W: Sink>(&mut self, file: Option<&str>, writer: &mut W) -> Result<(), Failed>
+        ensures { PutsBehind W.Sink writer.old writer.new (waiting_in self.old) (waiting_in self.new)
+            (opening (option_map (λ name. name.now) file.entry)) result }
+    {
+        self.make_room(writer)?;
+        let Some(name) = file else {
+            self.len = place_byte(&mut self.bytes, self.len, b'{');
+            return Ok(());
+        };
+        self.len = place_front(&mut self.bytes, self.len, *b"{\"file\":\"       ", 9);
+        self.push_escaped(name.as_bytes(), writer)?;
+        self.make_room(writer)?;
+        self.len = place_front(&mut self.bytes, self.len, *b"\",", 2);
         Ok(())
     }
 

@@ -20,7 +20,7 @@ use test_support::reads::cuttings;
 fn chunked(
     alloc: Global,
     cells: &CellPages,
-    asked: Asked,
+    asked: Asked<'_>,
     reader: &mut MemorySource<'_>,
     writer: &mut MemorySink,
 ) -> Result<(), CmdFault> {
@@ -40,15 +40,17 @@ fn check(rt: &impl Abort, alloc: Global, cells: &CellPages, row: &Row, sizes: &[
 }
 
 /// All chunks, a line for each.
-const LINES: Asked = Asked {
+const LINES: Asked<'static> = Asked {
     range: None,
     texts: false,
+    file: None,
 };
 
 /// All chunks, an object for each.
-const OBJECTS: Asked = Asked {
+const OBJECTS: Asked<'static> = Asked {
     range: None,
     texts: true,
+    file: None,
 };
 
 const RANGE: Option<Part> = Some(Part { from: 1, to: 6 });
@@ -56,9 +58,14 @@ const RANGE: Option<Part> = Some(Part { from: 1, to: 6 });
 const ILL_FORMED: CmdFault = CmdFault::Passage(PassageFault::NotUtf8 { at: 8 });
 
 /// What is asked for, a text, the output, and how the run ends.
-type Row = (Asked, &'static [u8], &'static str, Result<(), CmdFault>);
+type Row = (
+    Asked<'static>,
+    &'static [u8],
+    &'static str,
+    Result<(), CmdFault>,
+);
 
-static WRITTEN: [Row; 5] = [
+static WRITTEN: [Row; 6] = [
     (
         LINES,
         b"aa bb\ncc",
@@ -70,6 +77,15 @@ static WRITTEN: [Row; 5] = [
         b"\"\\\x1F a\nb\x7F",
         "{\"start\":0,\"end\":4,\"words\":0,\"text\":\"\\\"\\\\\\u001f \"}\n\
          {\"start\":4,\"end\":8,\"words\":2,\"text\":\"a\\nb\x7F\"}\n",
+        Ok(()),
+    ),
+    (
+        Asked {
+            file: Some("a\t\"b\".txt"),
+            ..OBJECTS
+        },
+        b"cc",
+        "{\"file\":\"a\\t\\\"b\\\".txt\",\"start\":0,\"end\":2,\"words\":1,\"text\":\"cc\"}\n",
         Ok(()),
     ),
     (

@@ -5,7 +5,7 @@ use Rattle.lbk_feed.specs.Text.{longest_text}
 use Rattle.lbk_passage.specs.Shown.{state_of}
 use Rattle.lbk_passage.specs.declared.faults.PassageFault.{PassageFault}
 use Rattle.lbk_chunk_reader.specs.Taking.{TakesNext}
-use Rattle.lbk_cmd.specs.Chunk.{chunking}
+use Rattle.lbk_cmd.specs.Chunk.{chunking, wanted_of}
 use Rattle.lbk_cmd.specs.Devices.{devices_of}
 use Rattle.lbk_cmd.specs.Chunking.{BreaksOff, IsInOrder, StandsIn, WritesAll}
 use Rattle.lbk_cmd.specs.Run.{failed_reads_with}
@@ -21,14 +21,14 @@ use Rattle.lbk_cmd.proofs.chunked.chunk.Goals.{After-take_next}
 
 -- the lines that were due are written, and the next passage was taken
 due-in : (g : Over) (c : After-take_next g)
-    → CutsDue c.args.asked c.args.limits (g.C.CellSource.cell_of c.args.cells.now) c.args.profile c.args.limit
+    → CutsDue (wanted_of c.args.asked) c.args.limits (g.C.CellSource.cell_of c.args.cells.now) c.args.profile c.args.limit
     (g.R.Source.unread c.args.reader.now) (g.W.Sink.written c.args.writer.now) (g.R.Source.reads_made c.args.reader.now)
     (state_of g.C.CellSource.cell_of c.loop-window.segmenter) (state_of g.C.CellSource.cell_of c.write_due.new.segmenter)
     (g.R.Source.unread c.loop-window.reader) (g.W.Sink.written c.loop-window.writer) (g.W.Sink.written c.write_due.new.writer)
     (g.R.Source.has_ended c.loop-window.reader) (g.R.Source.reads_made c.loop-window.reader)
     (waiting_in c.write_due.new.self) c.loop-window.window
 due-in g c =
-    cuts-due c.args.asked c.args.limits (g.C.CellSource.cell_of c.args.cells.now) c.args.profile c.args.limit _ _ _
+    cuts-due (wanted_of c.args.asked) c.args.limits (g.C.CellSource.cell_of c.args.cells.now) c.args.profile c.args.limit _ _ _
     (state_of g.C.CellSource.cell_of c.loop-window.segmenter) (state_of g.C.CellSource.cell_of c.write_due.new.segmenter)
     _ _ _ _ _ _ _ _ c.loop-window.invariant.cuts c.write_due.ensures.state
     (⊎_elim inl (λ k. inr (k.0, ap g.W.Sink.written k.1, k.2)) c.in_ok-write_due.ensures.due)
@@ -58,10 +58,10 @@ pub returns-in_err-segmenter : goal.returns-in_err-segmenter
 returns-in_err-segmenter g c =
     let exit = err_from_is_err_and c.from_residual.result c.from_residual.ensures.1 in
     let cell = g.C.CellSource.cell_of c.args.cells.now in
-    none_made _ (chunking c.args.asked c.args.limits cell c.args.profile c.args.limit)
+    none_made _ (chunking (wanted_of c.args.asked) c.args.limits cell c.args.profile c.args.limit)
     (devices_of g.R.Source g.W.Sink c.args.reader.now c.args.writer.now)
     c.from_residual.result c.in_err-segmenter.field-0.0
-    (none_settled c.args.asked c.args.limits cell c.args.profile c.args.limit) (exit.1 ∙ ap Err exit.2)
+    (none_settled (wanted_of c.args.asked) c.args.limits cell c.args.profile c.args.limit) (exit.1 ∙ ap Err exit.2)
     c.in_err-segmenter.ensures.only (search rules)
 
 pub loop-window-init : goal.loop-window-init
@@ -74,8 +74,8 @@ loop-window-init g c =
     let s = state_of g.C.CellSource.cell_of c.in_ok-segmenter.segmenter in
     let window = c.new-window.result in
     record {
-      cuts = subst (λ (x : List ℕ). Cuts c.args.asked c.args.limits cell c.args.profile c.args.limit u w reads s u w ended reads x window) (sym c.new-waiting.ensures)
-          (cuts-new c.args.asked c.args.limits cell c.args.profile c.args.limit u w reads s ended window c.new-window.ensures.new c.new-window.ensures.keeps c.in_ok-segmenter.ensures.state);
+      cuts = subst (λ (x : List ℕ). Cuts (wanted_of c.args.asked) c.args.limits cell c.args.profile c.args.limit u w reads s u w ended reads x window) (sym c.new-waiting.ensures)
+          (cuts-new (wanted_of c.args.asked) c.args.limits cell c.args.profile c.args.limit u w reads s ended window c.new-window.ensures.new c.new-window.ensures.keeps c.in_ok-segmenter.ensures.state);
       read_failures = refl;
       write_failures = refl;
     }
@@ -87,8 +87,8 @@ returns-in_err-write_due g c =
     let l = c.loop-window.invariant in
     let front = c.in_err-write_due.ensures.front in
     rw (exit.1 ∙ ap Err exit.2) (text_runs tt tt
-    (whole_run (ran_unwritten (chunking c.args.asked c.args.limits cell c.args.profile c.args.limit) _ _ _ _ _ _ _ _ _ l.cuts.going
-    (chunks_finish c.args.asked c.args.limits cell c.args.profile c.args.limit) (Unit {0}) _ front.0 front.1))
+    (whole_run (ran_unwritten (chunking (wanted_of c.args.asked) c.args.limits cell c.args.profile c.args.limit) _ _ _ _ _ _ _ _ _ l.cuts.going
+    (chunks_finish (wanted_of c.args.asked) c.args.limits cell c.args.profile c.args.limit) (Unit {0}) _ front.0 front.1))
     (write_failed l.cuts.going.most l.read_failures (unwrote _ c.write_due.ensures.failures c.in_err-write_due.was ∙ ap count_up l.write_failures)
     (limit_kept c.args.limit c.new.result c.in_ok-segmenter.segmenter c.in_ok-segmenter.was c.new.ensures.limit)))
 
@@ -152,9 +152,9 @@ returns-in_err-write_last-in-Ok-false g c =
     let text = text_given d.cuts.going.standing.given in
     rw (exit.1 ∙ ap Err exit.2) (text_runs tt tt
     (last-broken-off _ _ _ _ _ _ _ _ _ _ _ _ _ _ _ _ _ 0 0 _ _ c.loop-window.window d.cuts d.wait k.0 _
-    (subst (λ x. BreaksOff c.args.asked text true x (g.W.Sink.written c.write_due.new.writer) (g.W.Sink.written c.write_last.new.writer) (waiting_in c.write_due.new.self)) k.1
+    (subst (λ x. BreaksOff (wanted_of c.args.asked) text true x (g.W.Sink.written c.write_due.new.writer) (g.W.Sink.written c.write_last.new.writer) (waiting_in c.write_due.new.self)) k.1
     (c.in_err-write_last-in-Ok-false.ensures.front text
-    (subst (StandsIn c.args.asked text) (sym k.1) (last-in _ _ _ _ _ _ _ _ _ _ _ _ _ _ _ _ _ 0 0 _ _ c.loop-window.window d.cuts d.wait k.0)))))
+    (subst (StandsIn (wanted_of c.args.asked) text) (sym k.1) (last-in _ _ _ _ _ _ _ _ _ _ _ _ _ _ _ _ _ 0 0 _ _ c.loop-window.window d.cuts d.wait k.0)))))
     (write_failed (reads-in g turn) (k.2 ∙ c.loop-window.invariant.read_failures)
     (unwrote _ c.write_last.ensures.failures c.in_err-write_last-in-Ok-false.was ∙ ap count_up (writes-in g turn)) (limits-in g turn)))
 
@@ -166,9 +166,9 @@ returns-in-Ok-false g c =
     let end = end-met _ _ _ _ _ _ _ _ _ _ _ _ _ _ _ _ _ 0 0 _ _ c.loop-window.window d.cuts d.wait k.0 in
     let text = text_given d.cuts.going.standing.given in
     let run = all-written _ _ _ _ _ _ _ _ _ _ _ _ _ _ _ _ _ 0 0 _ _ c.loop-window.window d.cuts d.wait k.0 _
-    (subst (λ x. WritesAll c.args.asked text x (g.W.Sink.written c.write_due.new.writer) (g.W.Sink.written c.write_last.new.writer) (waiting_in c.write_due.new.self)) k.1
-    (c.in_ok-write_last-in-Ok-false.ensures.all text (subst (StandsIn c.args.asked text) (sym k.1) (last-in _ _ _ _ _ _ _ _ _ _ _ _ _ _ _ _ _ 0 0 _ _ c.loop-window.window d.cuts d.wait k.0)))) in
-    text_runs (known_chunks c.args.asked c.args.limits (g.C.CellSource.cell_of c.args.cells.now) c.args.profile c.args.limit _ _ _ _ _ _ _ run end.1) end run (record {
+    (subst (λ x. WritesAll (wanted_of c.args.asked) text x (g.W.Sink.written c.write_due.new.writer) (g.W.Sink.written c.write_last.new.writer) (waiting_in c.write_due.new.self)) k.1
+    (c.in_ok-write_last-in-Ok-false.ensures.all text (subst (StandsIn (wanted_of c.args.asked) text) (sym k.1) (last-in _ _ _ _ _ _ _ _ _ _ _ _ _ _ _ _ _ 0 0 _ _ c.loop-window.window d.cuts d.wait k.0)))) in
+    text_runs (known_chunks (wanted_of c.args.asked) c.args.limits (g.C.CellSource.cell_of c.args.cells.now) c.args.profile c.args.limit _ _ _ _ _ _ _ run end.1) end run (record {
       reads = reads-in g turn;
       limit = limits-in g turn (Ok (tt {0})) (ok-no-limit (Ok (tt {0})) refl);
       failed_reads = k.2 ∙ c.loop-window.invariant.read_failures;

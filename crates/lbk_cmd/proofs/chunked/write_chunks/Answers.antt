@@ -1,6 +1,7 @@
 use Rattle.std.proofs.Common.{◌∙◌, refl, ap, subst}
 use Rattle.std.proofs.lemmas.Result.{err_from_is_err_and}
 use Rattle.lbk_feed.specs.Devices.{failures_after}
+use Rattle.lbk_cmd.specs.Chunk.{wanted_of}
 use Rattle.lbk_cmd.specs.Chunking.{Breaks, Passes}
 use Rattle.lbk_cmd.specs.Waiting.{waiting_in}
 use Rattle.lbk_cmd.proofs.ChunkGiving.{broke-off, fewer-then, gave-more, gave-none, line-of, rising-then, told-then}
@@ -8,7 +9,7 @@ use Rattle.lbk_cmd.proofs.chunked.write_chunks.Goals as goal
 
 pub loop-chunk-init : goal.loop-chunk-init
 loop-chunk-init g c = record {
-  gave = λ text st. gave-none c.args.asked text c.args.is_whole c.args.window.now (g.W.Sink.written c.args.writer.now) (waiting_in c.args.waiting.now) st;
+  gave = λ text st. gave-none (wanted_of c.args.asked) text c.args.is_whole c.args.window.now (g.W.Sink.written c.args.writer.now) (waiting_in c.args.waiting.now) st;
   rising = c.requires.rising;
   told = c.requires.told;
   failures = refl;
@@ -24,10 +25,10 @@ loop-chunk-preserved g c =
     record {
       gave = λ text st.
           let gave = i.gave text st in
-          let line = line-of c.args.asked text whole c.args.window.now l.window _ _ _ _ gave c.requires.rising c.requires.told i.rising i.told
+          let line = line-of (wanted_of c.args.asked) text whole c.args.window.now l.window _ _ _ _ gave c.requires.rising c.requires.told i.rising i.told
           w' chunk c.next.ensures.limits.0 c.next.ensures.limits.1 c.next.ensures.held c.in-Some.ensures.chunk c.in-Some.ensures.behind
           _ (λ kept is. c.text_of.ensures text kept is.0 is.1) in
-          gave-more c.args.asked text whole c.args.window.now l.window _ _ _ _ gave c.requires.rising c.requires.told i.rising i.told
+          gave-more (wanted_of c.args.asked) text whole c.args.window.now l.window _ _ _ _ gave c.requires.rising c.requires.told i.rising i.told
           w' chunk c.next.ensures.limits.0 c.next.ensures.limits.1 c.next.ensures.held c.in-Some.ensures.chunk c.in-Some.ensures.behind _ _
           (subst (Passes _ _ _ _) line c.in_ok-push.ensures.line);
       rising = rising-then whole l.window w' chunk c.in-Some.ensures.chunk c.in-Some.ensures.behind i.rising i.told;
@@ -49,9 +50,9 @@ returns-in_err-push-clause-gives g c = λ text st.
     let whole = c.args.is_whole in
     let exit = err_from_is_err_and c.from_residual.result c.from_residual.ensures.1 in
     let gave = i.gave text st in
-    let line = line-of c.args.asked text whole c.args.window.now l.window _ _ _ _ gave c.requires.rising c.requires.told i.rising i.told
+    let line = line-of (wanted_of c.args.asked) text whole c.args.window.now l.window _ _ _ _ gave c.requires.rising c.requires.told i.rising i.told
     w' chunk c.next.ensures.limits.0 c.next.ensures.limits.1 c.next.ensures.held c.in-Some.ensures.chunk c.in-Some.ensures.behind
     _ (λ kept is. c.text_of.ensures text kept is.0 is.1) in
-    rw exit.1 (broke-off c.args.asked text whole c.args.window.now l.window _ _ _ _ gave c.requires.rising c.requires.told i.rising i.told
+    rw exit.1 (broke-off (wanted_of c.args.asked) text whole c.args.window.now l.window _ _ _ _ gave c.requires.rising c.requires.told i.rising i.told
     w' chunk c.next.ensures.limits.0 c.next.ensures.limits.1 c.next.ensures.held c.in-Some.ensures.chunk c.in-Some.ensures.behind _
     (subst (Breaks _ _ _) line c.in_err-push.ensures.line))
