@@ -15,10 +15,16 @@ NUMBERS = """
 Numbers are decimal digits: --limit 1 to 16777216, --from and --to 0 to
 4294967295, --profile 1 or 2.
 """
-NUMBERS_OF_CHUNKS = """
-Numbers are decimal digits: --most, --words and --limit 1 to 16777216, --least
-and --overlap 0 to 16777216, --from and --to 0 to 4294967295, --profile 1 or 2.
+NUMBERS_OF_MARK = """
+Numbers are decimal digits: --limit 1 to 16777216, perhaps in K (1024) or M
+(1048576), --from and --to 0 to 4294967295, --profile 1 or 2.
 """
+NUMBERS_OF_CHUNKS = """
+Numbers are decimal digits: --most and --limit 1 to 16777216, --least and
+--overlap 0 to 16777216, perhaps in K (1024) or M (1048576), --words 1 to
+16777216, --from and --to 0 to 4294967295, --profile 1 or 2.
+"""
+NUMBERS_OF = {"mark": NUMBERS_OF_MARK, "chunk": NUMBERS_OF_CHUNKS}
 LIMIT_OPTION, FROM_OPTION = "--limit <NUMBER>", "--from <BYTE>"
 SIGN = "--sign <TEXT> must be 1 to 8 bytes of UTF-8 without a line end"
 
@@ -56,7 +62,15 @@ MISTAKES = [
     ("mark", "--sign ninebytes", SIGN, True),
     ("mark", "--sign=", SIGN, True),
     ("segment", "--sign +", UNEXPECTED.format("--sign"), True),
-    ("chunk", "--most 64K", INVALID.format("64K", "--most <NUMBER>", "invalid digit found in string"), False),
+    ("show", "--limit 64k", INVALID.format("64k", LIMIT_OPTION, "invalid digit found in string"), False),
+    ("mark", "--limit 17M", INVALID.format("17M", LIMIT_OPTION, "17M is not in 1..=16777216"), False),
+    ("mark", "--limit K", INVALID.format("K", LIMIT_OPTION, "cannot parse integer from empty string"), False),
+    ("mark", "--limit 1KK", INVALID.format("1KK", LIMIT_OPTION, "invalid digit found in string"), False),
+    ("chunk", "--most 4G", INVALID.format("4G", "--most <NUMBER>", "invalid digit found in string"), False),
+    ("chunk", "--most 4096M", INVALID.format("4096M", "--most <NUMBER>", "4096M is not in 1..=16777216"), False),
+    ("chunk", "--most 4 --least 20m", INVALID.format("20m", "--least <NUMBER>", "20m is not in 0..=16777216"), False),
+    ("chunk", "--most 4 --overlap x", INVALID.format("x", "--overlap <NUMBER>", "invalid digit found in string"), False),
+    ("chunk", "--words 1K", INVALID.format("1K", "--words <NUMBER>", "invalid digit found in string"), False),
     ("chunk", "--most 0", INVALID.format("0", "--most <NUMBER>", "0 is not in 1..=16777216"), False),
     ("chunk", "--words=1e6", INVALID.format("1e6", "--words <NUMBER>", "invalid digit found in string"), False),
     ("chunk", "--most 4 --overlap -1", UNEXPECTED.format("-1"), True),
@@ -70,7 +84,7 @@ def mistakes(place):
     for task, more, told, has_usage in MISTAKES:
         most = " --most <NUMBER>" if task == "chunk" else ""
         usage = f"\nUsage: lbk {task}{WAYS.get(task, '')}{most} [OPTIONS] [FILE]...\n" if has_usage else ""
-        hint = (NUMBERS_OF_CHUNKS if most else NUMBERS) if told.startswith("invalid value") or "'-1'" in told else ""
+        hint = NUMBERS_OF.get(task, NUMBERS) if told.startswith("invalid value") or "'-1'" in told else ""
         err = f"lbk: {told}\n{usage}\nFor more information, try '--help'.\n{hint}".encode()
         place.row(f"{task} {more}", words_of(task, more=more.split()), b"ab", 2, b"", err)
     place.write("--limit", b"a a")

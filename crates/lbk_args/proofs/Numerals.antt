@@ -1,16 +1,20 @@
 -- A numeral behind `--limit`, as it is read.
-use Rattle.std.proofs.Common.{◌≡◌, ◌≢◌, ◌+◌, ◌<◌, ◌≤◌, ◌^◌, ℕ, false, [], ◌∷◌, Some, get_or, sym, subst, arith, lit≤}
+use Rattle.std.proofs.Common.{◌≡◌, ◌≢◌, ◌∙◌, ◌*◌, ◌+◌, ◌-◌, ◌<◌, ◌≤◌, ◌^◌, ℕ, zero, suc, false, [], ◌∷◌, Some, get_or, ap, length, min, refl, sym, subst, arith, lit≤}
+use Rattle.std.specs.Char.{digit_value}
 use Rattle.std.specs.Fmt.{decimal}
-use Rattle.std.specs.Str.Parse.{IsNumeral, digits_value, without_leading_plus}
+use Rattle.std.specs.Str.Parse.{AllDigits, IsNumeral, digits_value, without_leading_plus}
 use Rattle.std.proofs.lemmas.Fmt.{decimal_is_IsNumeral}
 use Rattle.std.proofs.lemmas.Str.Parse.{digit_from_value, without_leading_plus_none}
+use Rattle.std.proofs.Math.Nat.{min-eq_left}
 use Rattle.clap.specs.Words.{Text}
 use Rattle.clap.specs.Kinds.{value_kinds}
 use Rattle.clap.specs.declared.builder.value_parser.ValueParser.TheVariants.{Unsigned}
 use Rattle.clap.proofs.KindLemmas.{value_kinds-ok}
 use Rattle.lbk_feed.specs.Text.{greatest_limit}
 use Rattle.lbk_args.specs.PlainWords.{IsPlainName}
-use Rattle.lbk_args.specs.Task.{number_or}
+use Rattle.lbk_args.specs.Command.{greatest_byte}
+use Rattle.lbk_args.specs.Numbers.{bytes_or, last_of, number_or, unit_of}
+use Rattle.lbk_args.proofs.Units.{no_letter}
 use Rattle.lbk_args.proofs.Values.{number_parsed}
 
 numeral_plain : (ds : Text) → IsNumeral 10 ds → IsPlainName ds
@@ -54,3 +58,26 @@ limit_read other n most =
     let small : digits_value 10 (without_leading_plus (decimal n)) < 2 ^ 32 =
     omega (arith, it.value, lit≤ {m = greatest_limit + 1} {n = 2 ^ 32} tt) in
     number_parsed ℕ other (decimal n) n ((it.numeral, small), sym it.value)
+
+-- the last digit of a numeral is no unit
+digit_at : (ds : Text) (k : ℕ) → AllDigits 10 ds → k < length ds → digit_value (get_or ds k 0) < 10
+digit_at [] k all some = absurd (omega (arith, some))
+digit_at (d ∷ ds) zero all some = all.0
+digit_at (d ∷ ds) (suc k) all some = digit_at ds k all.1 (omega (arith, some))
+
+no_unit : (c : ℕ) → digit_value c < 10 → unit_of c ≡ 1
+no_unit c is =
+    let digit = digit_from_value c is in
+    no_letter c (λ e. absurd (omega (arith, digit.0, digit.1, e))) (λ e. absurd (omega (arith, digit.0, digit.1, e)))
+    (λ e. absurd (omega (arith, digit.0, digit.1, e))) (λ e. absurd (omega (arith, digit.0, digit.1, e)))
+
+-- a numeral without a unit means its number of bytes
+pub bytes_read : (other n : ℕ) → n ≤ greatest_limit → n ≡ bytes_or other (Some (decimal n))
+bytes_read other n most =
+    let small : n < 2 ^ 64 = omega (arith, lit≤ {m = greatest_limit + 1} {n = 2 ^ 64} tt) in
+    let numeral = (decimal_is_IsNumeral n small).0 in
+    let plain : unit_of (last_of (decimal n)) ≡ 1 = no_unit (last_of (decimal n))
+    (digit_at (decimal n) (length (decimal n) - 1) numeral.1 (let some = numeral.0 in omega (arith, some))) in
+    let within : n ≤ greatest_byte = omega (arith, most, lit≤ {m = greatest_limit} {n = greatest_byte} tt) in
+    rw plain (sym (ap (λ k. min (k * 1) greatest_byte) (sym (limit_read greatest_byte n most))
+    ∙ ap (λ k. min k greatest_byte) (let e : n * 1 ≡ n = omega arith in e) ∙ min-eq_left within))

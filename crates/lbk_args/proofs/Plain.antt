@@ -20,18 +20,19 @@ use Rattle.lbk_args.specs.declared.order.Engine.{Engine}
 use Rattle.lbk_args.specs.declared.order.Engine.TheVariants.{Mark, Show, Segment, Chunk, Replay}
 use Rattle.lbk_args.specs.declared.order.Part.{Part}
 use Rattle.lbk_args.specs.declared.order.Sizes.{Sizes}
-use Rattle.lbk_args.specs.Accepted.{are_sizes, faults_of, task_fault}
+use Rattle.lbk_args.specs.Accepted.{are_bytes, faults_of, is_limit, task_fault}
 use Rattle.lbk_feed.specs.Text.{greatest_limit}
-use Rattle.lbk_args.specs.Command.{chunk_app, default_limit, default_limit_text, flag_rule, lbk_app, limited_app}
-use Rattle.lbk_args.specs.Command.{mark_app, number_rule, profile_rule, replay_app, size_rule, texts_flag_rule}
+use Rattle.lbk_args.specs.Command.{byte_limit_rule, chunk_app, default_limit, flag_rule, lbk_app, limit_rule, limited_app}
+use Rattle.lbk_args.specs.Command.{mark_app, profile_rule, replay_app, texts_flag_rule}
 use Rattle.lbk_args.specs.Command.{value_rule}
 use Rattle.lbk_args.specs.PlainWords.{AreEngineWords, AreFlagWords, AreNoWords, AreValueWords, AreProfileWords}
 use Rattle.lbk_args.specs.PlainWords.{IsPlainFor, IsPlainName, name_of_engine, profile_word, sizes_of}
-use Rattle.lbk_args.specs.Task.{NamedValues, Task, built_in, folder_files, given_files, in_files, kinds_in, limit_in, number_or}
+use Rattle.lbk_args.specs.Task.{NamedValues, Task, built_in, byte_limit_in, folder_files, given_files, in_files, kinds_in, limit_in}
+use Rattle.lbk_args.specs.Numbers.{bytes_or, number_or}
 use Rattle.lbk_args.specs.Task.{names_in, part_in, profile_in, sign_in, values_in}
 use Rattle.lbk_args.specs.Task.{sizes_in, task_by, task_in, texts_in, with_texts_in}
 use Rattle.lbk_args.specs.Sign.{default_sign}
-use Rattle.lbk_args.proofs.Numerals.{limit_plain, limit_read, limit_taken}
+use Rattle.lbk_args.proofs.Numerals.{bytes_read, limit_plain, limit_read, limit_taken}
 use Rattle.lbk_args.proofs.Steps.{Enters, Takes, Walks, between, done, entered_clean, entered_rows, pair, step, taken}
 
 -- ---- a subcommand as it is built
@@ -233,11 +234,14 @@ sub_performs name s words rows task leaves takes same fits =
 
 -- ---- the words behind the files
 
-abbrev limit_rule : Rule
-limit_rule = built_rule (number_rule (codes "limit") greatest_limit default_limit_text)
+abbrev built_limit_rule : Rule
+built_limit_rule = built_rule limit_rule
+
+abbrev built_byte_limit_rule : Rule
+built_byte_limit_rule = built_rule byte_limit_rule
 
 abbrev most_rule : Rule
-most_rule = built_rule (record (size_rule (codes "most") 1) { required = true })
+most_rule = built_rule (record (value_rule (codes "most")) { required = true })
 
 abbrev built_texts_rule : Rule
 built_texts_rule = built_rule texts_flag_rule
@@ -288,7 +292,10 @@ abbrev behind_profile : List Row → Text → Held
 behind_profile rows p = pending rows (codes "profile") (p ∷ [])
 
 abbrev limit_rows : Files → Text → List Row
-limit_rows fs d = file_rows fs ++ found limit_rule d ∷ []
+limit_rows fs d = file_rows fs ++ found built_limit_rule d ∷ []
+
+abbrev byte_limit_rows : Files → Text → List Row
+byte_limit_rows fs d = file_rows fs ++ found built_byte_limit_rule d ∷ []
 
 abbrev kinds_rows : Files → List Row
 kinds_rows fs = file_rows fs ++ found kinds_rule (codes "true") ∷ []
@@ -309,10 +316,10 @@ own_words _ _ rest = rest
 
 -- a number that the option takes
 abbrev IsOwn : Sub → Own → Type 0
-IsOwn marks (fuller d) = IsPlainName d × IsLimitText d
+IsOwn marks (fuller d) = IsPlainName d
 IsOwn (limits name) (fuller d) = IsPlainName d × IsLimitText d
-IsOwn chunks (fewer d) = IsPlainName d × IsLimitText d
-IsOwn chunks (fuller d) = IsPlainName d × IsLimitText d
+IsOwn chunks (fewer d) = IsPlainName d
+IsOwn chunks (fuller d) = IsPlainName d
 IsOwn _ _ = ⊤
 
 -- what is held behind them, and the rows once it is settled
@@ -325,7 +332,7 @@ own_held replays (fuller d) fs = settled_held (kinds_rows fs)
 own_held _ _ fs = behind fs
 
 abbrev own_rows : Sub → Own → Files → List Row
-own_rows marks (fuller d) fs = limit_rows fs d
+own_rows marks (fuller d) fs = byte_limit_rows fs d
 own_rows (limits name) (fuller d) fs = limit_rows fs d
 own_rows chunks (fewer d) fs = most_rows fs d
 own_rows chunks (fuller d) fs = text_rows fs d
@@ -355,16 +362,16 @@ own_walk marks (fewer d) (folder u) rest end fits further = further
 own_walk marks (fewer d) (four l e c m) rest end fits further = further
 own_walk marks (fuller d) version rest end fits further =
     pair (shape_of marks) (behind version) (pending (file_rows version) (codes "limit") []) (pending (file_rows version) (codes "limit") (d ∷ []))
-    (codes "limit") (codes "--limit") d rest end refl refl fits.0 refl further
+    (codes "limit") (codes "--limit") d rest end refl refl fits refl further
 own_walk marks (fuller d) absent rest end fits further =
     pair (shape_of marks) (behind absent) (pending (file_rows absent) (codes "limit") []) (pending (file_rows absent) (codes "limit") (d ∷ []))
-    (codes "limit") (codes "--limit") d rest end refl refl fits.0 refl further
+    (codes "limit") (codes "--limit") d rest end refl refl fits refl further
 own_walk marks (fuller d) (folder u) rest end fits further =
     pair (shape_of marks) (behind (folder u)) (pending (file_rows (folder u)) (codes "limit") []) (pending (file_rows (folder u)) (codes "limit") (d ∷ []))
-    (codes "limit") (codes "--limit") d rest end refl refl fits.0 refl further
+    (codes "limit") (codes "--limit") d rest end refl refl fits refl further
 own_walk marks (fuller d) (four l e c m) rest end fits further =
     pair (shape_of marks) (behind (four l e c m)) (pending (file_rows (four l e c m)) (codes "limit") []) (pending (file_rows (four l e c m)) (codes "limit") (d ∷ []))
-    (codes "limit") (codes "--limit") d rest end refl refl fits.0 refl further
+    (codes "limit") (codes "--limit") d rest end refl refl fits refl further
 own_walk (limits name) (fewer d) version rest end fits further = further
 own_walk (limits name) (fewer d) absent rest end fits further = further
 own_walk (limits name) (fewer d) (folder u) rest end fits further = further
@@ -383,36 +390,36 @@ own_walk (limits name) (fuller d) (four l e c m) rest end fits further =
     (codes "limit") (codes "--limit") d rest end refl refl fits.0 refl further
 own_walk chunks (fewer d) version rest end fits further =
     pair (shape_of chunks) (behind version) (pending (file_rows version) (codes "most") []) (pending (file_rows version) (codes "most") (d ∷ []))
-    (codes "most") (codes "--most") d rest end refl refl fits.0 refl further
+    (codes "most") (codes "--most") d rest end refl refl fits refl further
 own_walk chunks (fewer d) absent rest end fits further =
     pair (shape_of chunks) (behind absent) (pending (file_rows absent) (codes "most") []) (pending (file_rows absent) (codes "most") (d ∷ []))
-    (codes "most") (codes "--most") d rest end refl refl fits.0 refl further
+    (codes "most") (codes "--most") d rest end refl refl fits refl further
 own_walk chunks (fewer d) (folder u) rest end fits further =
     pair (shape_of chunks) (behind (folder u)) (pending (file_rows (folder u)) (codes "most") []) (pending (file_rows (folder u)) (codes "most") (d ∷ []))
-    (codes "most") (codes "--most") d rest end refl refl fits.0 refl further
+    (codes "most") (codes "--most") d rest end refl refl fits refl further
 own_walk chunks (fewer d) (four l e c m) rest end fits further =
     pair (shape_of chunks) (behind (four l e c m)) (pending (file_rows (four l e c m)) (codes "most") []) (pending (file_rows (four l e c m)) (codes "most") (d ∷ []))
-    (codes "most") (codes "--most") d rest end refl refl fits.0 refl further
+    (codes "most") (codes "--most") d rest end refl refl fits refl further
 own_walk chunks (fuller d) version rest end fits further =
     pair (shape_of chunks) (behind version) (pending (file_rows version) (codes "most") []) (pending (file_rows version) (codes "most") (d ∷ []))
-    (codes "most") (codes "--most") d (codes "--text" ∷ rest) end refl refl fits.0 refl
+    (codes "most") (codes "--most") d (codes "--text" ∷ rest) end refl refl fits refl
     (step (shape_of chunks) (between (pending (file_rows version) (codes "most") (d ∷ [])) idle) (between (settled_held (text_rows version d)) idle) end
-    (codes "--text") rest refl (ap (λ (ks : Kinds). or_else (or_else (or_else ks []) []) []) fits.1) further)
+    (codes "--text") rest refl refl further)
 own_walk chunks (fuller d) absent rest end fits further =
     pair (shape_of chunks) (behind absent) (pending (file_rows absent) (codes "most") []) (pending (file_rows absent) (codes "most") (d ∷ []))
-    (codes "most") (codes "--most") d (codes "--text" ∷ rest) end refl refl fits.0 refl
+    (codes "most") (codes "--most") d (codes "--text" ∷ rest) end refl refl fits refl
     (step (shape_of chunks) (between (pending (file_rows absent) (codes "most") (d ∷ [])) idle) (between (settled_held (text_rows absent d)) idle) end
-    (codes "--text") rest refl (ap (λ (ks : Kinds). or_else (or_else (or_else ks []) []) []) fits.1) further)
+    (codes "--text") rest refl refl further)
 own_walk chunks (fuller d) (folder u) rest end fits further =
     pair (shape_of chunks) (behind (folder u)) (pending (file_rows (folder u)) (codes "most") []) (pending (file_rows (folder u)) (codes "most") (d ∷ []))
-    (codes "most") (codes "--most") d (codes "--text" ∷ rest) end refl refl fits.0 refl
+    (codes "most") (codes "--most") d (codes "--text" ∷ rest) end refl refl fits refl
     (step (shape_of chunks) (between (pending (file_rows (folder u)) (codes "most") (d ∷ [])) idle) (between (settled_held (text_rows (folder u) d)) idle) end
-    (codes "--text") rest refl (ap (λ (ks : Kinds). or_else (or_else (or_else ks []) []) []) fits.1) further)
+    (codes "--text") rest refl refl further)
 own_walk chunks (fuller d) (four l e c m) rest end fits further =
     pair (shape_of chunks) (behind (four l e c m)) (pending (file_rows (four l e c m)) (codes "most") []) (pending (file_rows (four l e c m)) (codes "most") (d ∷ []))
-    (codes "most") (codes "--most") d (codes "--text" ∷ rest) end refl refl fits.0 refl
+    (codes "most") (codes "--most") d (codes "--text" ∷ rest) end refl refl fits refl
     (step (shape_of chunks) (between (pending (file_rows (four l e c m)) (codes "most") (d ∷ [])) idle) (between (settled_held (text_rows (four l e c m) d)) idle) end
-    (codes "--text") rest refl (ap (λ (ks : Kinds). or_else (or_else (or_else ks []) []) []) fits.1) further)
+    (codes "--text") rest refl refl further)
 own_walk replays (fewer d) version rest end fits further = further
 own_walk replays (fewer d) absent rest end fits further = further
 own_walk replays (fewer d) (folder u) rest end fits further = further
@@ -432,10 +439,10 @@ own_opens marks (fewer d) version fits = record { walks = refl; clean = refl; ta
 own_opens marks (fewer d) absent fits = record { walks = refl; clean = refl; takes = λ p. refl }
 own_opens marks (fewer d) (folder u) fits = record { walks = refl; clean = refl; takes = λ p. refl }
 own_opens marks (fewer d) (four l e c m) fits = record { walks = refl; clean = refl; takes = λ p. refl }
-own_opens marks (fuller d) version fits = record { walks = refl; clean = ap (λ (ks : Kinds). or_else (or_else ks []) []) fits.1; takes = λ p. refl }
-own_opens marks (fuller d) absent fits = record { walks = refl; clean = ap (λ (ks : Kinds). or_else (or_else ks []) []) fits.1; takes = λ p. refl }
-own_opens marks (fuller d) (folder u) fits = record { walks = refl; clean = ap (λ (ks : Kinds). or_else (or_else ks []) []) fits.1; takes = λ p. refl }
-own_opens marks (fuller d) (four l e c m) fits = record { walks = refl; clean = ap (λ (ks : Kinds). or_else (or_else ks []) []) fits.1; takes = λ p. refl }
+own_opens marks (fuller d) version fits = record { walks = refl; clean = refl; takes = λ p. refl }
+own_opens marks (fuller d) absent fits = record { walks = refl; clean = refl; takes = λ p. refl }
+own_opens marks (fuller d) (folder u) fits = record { walks = refl; clean = refl; takes = λ p. refl }
+own_opens marks (fuller d) (four l e c m) fits = record { walks = refl; clean = refl; takes = λ p. refl }
 own_opens (limits name) (fewer d) version fits = record { walks = refl; clean = refl; takes = λ p. refl }
 own_opens (limits name) (fewer d) absent fits = record { walks = refl; clean = refl; takes = λ p. refl }
 own_opens (limits name) (fewer d) (folder u) fits = record { walks = refl; clean = refl; takes = λ p. refl }
@@ -444,10 +451,10 @@ own_opens (limits name) (fuller d) version fits = record { walks = refl; clean =
 own_opens (limits name) (fuller d) absent fits = record { walks = refl; clean = ap (λ (ks : Kinds). or_else (or_else ks []) []) fits.1; takes = λ p. refl }
 own_opens (limits name) (fuller d) (folder u) fits = record { walks = refl; clean = ap (λ (ks : Kinds). or_else (or_else ks []) []) fits.1; takes = λ p. refl }
 own_opens (limits name) (fuller d) (four l e c m) fits = record { walks = refl; clean = ap (λ (ks : Kinds). or_else (or_else ks []) []) fits.1; takes = λ p. refl }
-own_opens chunks (fewer d) version fits = record { walks = refl; clean = ap (λ (ks : Kinds). or_else (or_else ks []) []) fits.1; takes = λ p. refl }
-own_opens chunks (fewer d) absent fits = record { walks = refl; clean = ap (λ (ks : Kinds). or_else (or_else ks []) []) fits.1; takes = λ p. refl }
-own_opens chunks (fewer d) (folder u) fits = record { walks = refl; clean = ap (λ (ks : Kinds). or_else (or_else ks []) []) fits.1; takes = λ p. refl }
-own_opens chunks (fewer d) (four l e c m) fits = record { walks = refl; clean = ap (λ (ks : Kinds). or_else (or_else ks []) []) fits.1; takes = λ p. refl }
+own_opens chunks (fewer d) version fits = record { walks = refl; clean = refl; takes = λ p. refl }
+own_opens chunks (fewer d) absent fits = record { walks = refl; clean = refl; takes = λ p. refl }
+own_opens chunks (fewer d) (folder u) fits = record { walks = refl; clean = refl; takes = λ p. refl }
+own_opens chunks (fewer d) (four l e c m) fits = record { walks = refl; clean = refl; takes = λ p. refl }
 own_opens chunks (fuller d) version fits = record { walks = refl; clean = refl; takes = λ p. refl }
 own_opens chunks (fuller d) absent fits = record { walks = refl; clean = refl; takes = λ p. refl }
 own_opens chunks (fuller d) (folder u) fits = record { walks = refl; clean = refl; takes = λ p. refl }
@@ -467,10 +474,10 @@ own_ends marks (fewer d) version fits = record { settles = refl; defaults = refl
 own_ends marks (fewer d) absent fits = record { settles = refl; defaults = refl; checks = refl }
 own_ends marks (fewer d) (folder u) fits = record { settles = refl; defaults = refl; checks = refl }
 own_ends marks (fewer d) (four l e c m) fits = record { settles = refl; defaults = refl; checks = refl }
-own_ends marks (fuller d) version fits = record { settles = ap (λ (ks : Kinds). or_else ks []) fits.1; defaults = refl; checks = refl }
-own_ends marks (fuller d) absent fits = record { settles = ap (λ (ks : Kinds). or_else ks []) fits.1; defaults = refl; checks = refl }
-own_ends marks (fuller d) (folder u) fits = record { settles = ap (λ (ks : Kinds). or_else ks []) fits.1; defaults = refl; checks = refl }
-own_ends marks (fuller d) (four l e c m) fits = record { settles = ap (λ (ks : Kinds). or_else ks []) fits.1; defaults = refl; checks = refl }
+own_ends marks (fuller d) version fits = record { settles = refl; defaults = refl; checks = refl }
+own_ends marks (fuller d) absent fits = record { settles = refl; defaults = refl; checks = refl }
+own_ends marks (fuller d) (folder u) fits = record { settles = refl; defaults = refl; checks = refl }
+own_ends marks (fuller d) (four l e c m) fits = record { settles = refl; defaults = refl; checks = refl }
 own_ends (limits name) (fewer d) version fits = record { settles = refl; defaults = refl; checks = refl }
 own_ends (limits name) (fewer d) absent fits = record { settles = refl; defaults = refl; checks = refl }
 own_ends (limits name) (fewer d) (folder u) fits = record { settles = refl; defaults = refl; checks = refl }
@@ -479,10 +486,10 @@ own_ends (limits name) (fuller d) version fits = record { settles = ap (λ (ks :
 own_ends (limits name) (fuller d) absent fits = record { settles = ap (λ (ks : Kinds). or_else ks []) fits.1; defaults = refl; checks = refl }
 own_ends (limits name) (fuller d) (folder u) fits = record { settles = ap (λ (ks : Kinds). or_else ks []) fits.1; defaults = refl; checks = refl }
 own_ends (limits name) (fuller d) (four l e c m) fits = record { settles = ap (λ (ks : Kinds). or_else ks []) fits.1; defaults = refl; checks = refl }
-own_ends chunks (fewer d) version fits = record { settles = ap (λ (ks : Kinds). or_else ks []) fits.1; defaults = refl; checks = refl }
-own_ends chunks (fewer d) absent fits = record { settles = ap (λ (ks : Kinds). or_else ks []) fits.1; defaults = refl; checks = refl }
-own_ends chunks (fewer d) (folder u) fits = record { settles = ap (λ (ks : Kinds). or_else ks []) fits.1; defaults = refl; checks = refl }
-own_ends chunks (fewer d) (four l e c m) fits = record { settles = ap (λ (ks : Kinds). or_else ks []) fits.1; defaults = refl; checks = refl }
+own_ends chunks (fewer d) version fits = record { settles = refl; defaults = refl; checks = refl }
+own_ends chunks (fewer d) absent fits = record { settles = refl; defaults = refl; checks = refl }
+own_ends chunks (fewer d) (folder u) fits = record { settles = refl; defaults = refl; checks = refl }
+own_ends chunks (fewer d) (four l e c m) fits = record { settles = refl; defaults = refl; checks = refl }
 own_ends chunks (fuller d) version fits = record { settles = refl; defaults = refl; checks = refl }
 own_ends chunks (fuller d) absent fits = record { settles = refl; defaults = refl; checks = refl }
 own_ends chunks (fuller d) (folder u) fits = record { settles = refl; defaults = refl; checks = refl }
@@ -575,16 +582,16 @@ task_with engine fs profile =
     }
 
 -- nothing is wrong in it
-nothing_wrong : (engine : Engine) (fs : Files) (profile : Profile) → are_sizes engine ≡ true
+nothing_wrong : (engine : Engine) (fs : Files) (profile : Profile) → are_bytes engine ≡ true
     → task_fault (Some (task_with engine fs profile)) ≡ []
 unfolding chars
 nothing_wrong engine fs profile fits = ap (λ (b : Bool). if b then [] else ValueValidation ∷ []) fits
 
 -- what a subcommand finds behind its name
 abbrev read_engine : Sub → (ℕ → Engine) → List Row → Engine
-read_engine marks engine rows = engine (limit_in rows)
+read_engine marks engine rows = engine (byte_limit_in rows)
 read_engine (limits name) engine rows = engine (limit_in rows)
-read_engine chunks engine rows = Chunk (limit_in rows) (sizes_in rows) (with_texts_in rows)
+read_engine chunks engine rows = Chunk (byte_limit_in rows) (sizes_in rows) (with_texts_in rows)
 read_engine replays engine rows = Replay (kinds_in rows)
 
 abbrev task_found : Text → (List Row → Engine) → List Row → Option Task
@@ -601,11 +608,11 @@ task_found name engine rows = option_map (λ values. record {
 -- what its own words mean
 abbrev own_engine : Sub → (ℕ → Engine) → Own → Engine
 own_engine marks engine (fewer d) = engine default_limit
-own_engine marks engine (fuller d) = engine (number_or default_limit (Some d))
+own_engine marks engine (fuller d) = engine (bytes_or default_limit (Some d))
 own_engine (limits name) engine (fewer d) = engine default_limit
 own_engine (limits name) engine (fuller d) = engine (number_or default_limit (Some d))
-own_engine chunks engine (fewer d) = Chunk default_limit (sizes_of (number_or 1 (Some d))) false
-own_engine chunks engine (fuller d) = Chunk default_limit (sizes_of (number_or 1 (Some d))) true
+own_engine chunks engine (fewer d) = Chunk default_limit (sizes_of (bytes_or 1 (Some d))) false
+own_engine chunks engine (fuller d) = Chunk default_limit (sizes_of (bytes_or 1 (Some d))) true
 own_engine replays engine (fewer d) = Replay false
 own_engine replays engine (fuller d) = Replay true
 
@@ -701,7 +708,7 @@ profile_asks replays (fuller d) (four l e c m) p plain engine = refl
 sub_plain : (which : Sub) (make : ℕ → Engine) (own : Own) (engine : Engine) (fs : Files) (profile : Profile) (last : List Text)
     → Leaves (name_of which) (shape_of which)
     → ((rows : List Row) → task_in (name_of which, rows) ≡ task_found (name_of which) (read_engine which make) rows)
-    → ArePlainFor which fs → IsOwn which own → own_engine which make own ≡ engine → are_sizes engine ≡ true → AreProfileWords profile last
+    → ArePlainFor which fs → IsOwn which own → own_engine which make own ≡ engine → are_bytes engine ≡ true → AreProfileWords profile last
     → Performs (name_of which ∷ words_before fs (own_words which own last)) (task_with engine fs profile)
 sub_plain which make own engine fs profile last leaves reads plain fits means sized (inl first) =
     rw (first.0, first.1) (sub_performs (name_of which) (shape_of which) _ _ (task_with engine fs First) leaves (own_taken which own fs plain.0 fits)
@@ -715,9 +722,13 @@ sub_plain which make own engine fs profile last leaves reads plain fits means si
     ∙ ap₂ (λ (e : Engine) (p : Profile). Some (task_with e fs p)) means (profile_read profile))
     (nothing_wrong engine fs profile sized))
 
--- chunks with room for half of their bytes
-sizes_fit : (limit most : ℕ) (texts : Bool) → are_sizes (Chunk limit (sizes_of most) texts) ≡ true
-sizes_fit limit most texts = rw (le-leb (most / 2) most (omega arith), le-leb 0 (most / 2) (omega arith)) refl
+-- limits in their range, and chunks with room for half of their bytes
+limit_fits : (limit : ℕ) → 1 ≤ limit → limit ≤ greatest_limit → is_limit limit ≡ true
+limit_fits limit some few = rw (le-leb 1 limit some, le-leb limit greatest_limit few) refl
+
+sizes_fit : (most : ℕ) (texts : Bool) → 1 ≤ most → most ≤ greatest_limit → are_bytes (Chunk default_limit (sizes_of most) texts) ≡ true
+sizes_fit most texts some few =
+    rw (limit_fits most some few, le-leb (most / 2) most (omega arith), le-leb 0 (most / 2) (omega arith)) refl
 
 chunk_plain : (fs : Files) (limit : ℕ) (sizes : Sizes) (texts : Bool) (profile : Profile) (most : ℕ)
     (own text_words last : List Text) → ArePlainFor chunks fs
@@ -729,13 +740,13 @@ unfolding clap_on_literals
 chunk_plain fs limit sizes texts profile most own text_words last plain some few words limit_is sizes_are (inl none) more_words =
     rw (words, none.0, limit_is, sizes_are, none.1) (sub_plain chunks Mark (fewer (decimal most))
     (Chunk default_limit (sizes_of most) false) fs profile last leaves_chunk (λ rows. refl) plain
-    (limit_plain most few, limit_taken most some few)
-    (ap (λ (n : ℕ). Chunk default_limit (sizes_of n) false) (sym (limit_read 1 most few))) (sizes_fit default_limit most false) more_words)
+    (limit_plain most few)
+    (ap (λ (n : ℕ). Chunk default_limit (sizes_of n) false) (sym (bytes_read 1 most few))) (sizes_fit most false some few) more_words)
 chunk_plain fs limit sizes texts profile most own text_words last plain some few words limit_is sizes_are (inr flag) more_words =
     rw (words, flag.0, limit_is, sizes_are, flag.1) (sub_plain chunks Mark (fuller (decimal most))
     (Chunk default_limit (sizes_of most) true) fs profile last leaves_chunk (λ rows. refl) plain
-    (limit_plain most few, limit_taken most some few)
-    (ap (λ (n : ℕ). Chunk default_limit (sizes_of n) true) (sym (limit_read 1 most few))) (sizes_fit default_limit most true) more_words)
+    (limit_plain most few)
+    (ap (λ (n : ℕ). Chunk default_limit (sizes_of n) true) (sym (bytes_read 1 most few))) (sizes_fit most true some few) more_words)
 
 abbrev sub_of : Engine → Sub
 sub_of (Mark limit) = marks
@@ -754,7 +765,7 @@ engine_plain fs (Mark limit) profile own last plain (inl none) more =
     rw (none.0, none.1) (sub_plain marks Mark (fewer []) (Mark default_limit) fs profile last leaves_mark (λ rows. refl) plain tt refl refl more)
 engine_plain fs (Mark limit) profile own last plain (inr number) more_words =
     rw number.0 (sub_plain marks Mark (fuller (decimal limit)) (Mark limit) fs profile last leaves_mark (λ rows. refl) plain
-    (limit_plain limit number.2, limit_taken limit number.1 number.2) (ap Mark (sym (limit_read default_limit limit number.2))) refl more_words)
+    (limit_plain limit number.2) (ap Mark (sym (bytes_read default_limit limit number.2))) (limit_fits limit number.1 number.2) more_words)
 engine_plain fs (Show limit) profile own last plain (inl none) more =
     rw (none.0, none.1) (sub_plain (limits (codes "show")) Show (fewer []) (Show default_limit) fs profile last leaves_show (λ rows. refl) plain tt refl refl more)
 engine_plain fs (Show limit) profile own last plain (inr number) more_words =

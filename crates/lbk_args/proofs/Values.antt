@@ -2,6 +2,7 @@
 use Rattle.std.proofs.Common.{◌≡◌, ◌^◌, ℕ, Bool, true, false, List, [], ◌∷◌, length, Option, Some, None, Result, Ok}
 use Rattle.std.proofs.Common.{Err, refl, sym, nat_lt, lt-ltb, ltb-true, codes}
 use Rattle.std.specs.Option.{unwrap_or}
+use Rattle.std.specs.Result.{result_unwrap_or}
 use Rattle.std.specs.List.{list_all}
 use Rattle.std.specs.Char.{digit_value}
 use Rattle.std.specs.Str.{bytes_eq}
@@ -9,7 +10,8 @@ use Rattle.std.specs.Str.Parse.{AllDigits, ParsesUnsigned, ParsesBool, digits_va
 use Rattle.std.proofs.lemmas.Slice.Eq.{bytes_eq-Decides}
 use Rattle.clap.specs.Words.{ReadsOne, Text}
 use Rattle.clap.proofs.WalkLemmas.{both}
-use Rattle.lbk_args.specs.Task.{is_number, is_true, number_or}
+use Rattle.lbk_args.specs.Numbers.{is_number, number_or}
+use Rattle.lbk_args.specs.Task.{is_true}
 
 digits_pass : (ds : List ℕ) → AllDigits 10 ds → list_all (λ d. nat_lt (digit_value d) 10) ds ≡ true
 digits_pass [] h = refl
@@ -37,6 +39,12 @@ number_refused E other text e h = go (is_number text) refl
         let outer = both _ _ t in
         let inner = both _ _ outer.0 in
         absurd (h ((ltb-true _ _ inner.0, digits_from (without_leading_plus text) inner.1), ltb-true _ _ outer.1))
+
+-- the number that a text tells, or the other
+pub number_told : (E : Type 0) (other : ℕ) (text : Text) (r : Result ℕ E) → ParsesUnsigned {E = E} 32 10 text r
+    → result_unwrap_or r other ≡ number_or other (Some text)
+number_told E other text (Ok n) h = number_parsed E other text n h
+number_told E other text (Err e) h = number_refused E other text e h
 
 -- a number, or the other where there is none
 pub number_read : {E : Type 0} (gives : Text → Result ℕ E → Type 0) (other : ℕ) (found : Option Text) (r : Option ℕ)

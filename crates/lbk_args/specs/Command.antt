@@ -35,9 +35,16 @@ greatest_byte = 4294967295
 abbrev pub byte_rule : Text → Rule
 byte_rule name = record (value_rule name) { parser = Some (Unsigned 0 greatest_byte) }
 
--- an option with a number of bytes or words, at most as many as bytes in a paragraph
-abbrev pub size_rule : Text → ℕ → Rule
-size_rule name least = record (value_rule name) { parser = Some (Unsigned least greatest_limit) }
+-- an option with a number of words, at most as many as bytes in a paragraph
+abbrev pub words_rule : Rule
+words_rule = record (value_rule (codes "words")) { parser = Some (Unsigned 1 greatest_limit) }
+
+-- the limit of a paragraph, and the same as a text, which may have a unit
+abbrev pub limit_rule : Rule
+limit_rule = number_rule (codes "limit") greatest_limit default_limit_text
+
+abbrev pub byte_limit_rule : Rule
+byte_limit_rule = record (value_rule (codes "limit")) { defaults = default_limit_text ∷ [] }
 
 -- a flag
 abbrev pub flag_rule : Text → Rule
@@ -75,29 +82,28 @@ abbrev pub shared_app : App → App
 shared_app app = with_rule (with_rule (with_rule app profile_rule) (flag_rule (codes "names"))) texts_rule
 
 -- a subcommand over texts, with `--limit`, `--from` and `--to` after its other options
-abbrev pub ranged_app : App → App
-ranged_app app = shared_app (with_rule (with_rule (with_rule app
-    (number_rule (codes "limit") greatest_limit default_limit_text)) (byte_rule (codes "from")))
+abbrev pub ranged_app : Rule → App → App
+ranged_app limit app = shared_app (with_rule (with_rule (with_rule app limit) (byte_rule (codes "from")))
     (byte_rule (codes "to")))
 
--- `show` and `segment`, and `mark`, which has one more
+-- `show` and `segment`
 abbrev pub limited_app : Text → App
-limited_app name = ranged_app (files_app name)
+limited_app name = ranged_app limit_rule (files_app name)
 
 -- `mark`
 abbrev pub mark_app : App
-mark_app = with_rule (limited_app (codes "mark")) (value_rule (codes "sign"))
+mark_app = with_rule (ranged_app byte_limit_rule (files_app (codes "mark"))) (value_rule (codes "sign"))
 
 -- `chunk`, with its sizes and its flag before the limit; the greatest size is required
 abbrev pub most_app : App
-most_app = with_rule (files_app (codes "chunk")) (record (size_rule (codes "most") 1) { required = true })
+most_app = with_rule (files_app (codes "chunk")) (record (value_rule (codes "most")) { required = true })
 
 abbrev pub sized_app : App
 sized_app = with_rule (with_rule (with_rule (with_rule most_app
-    (size_rule (codes "words") 1)) (size_rule (codes "least") 0)) (size_rule (codes "overlap") 0)) texts_flag_rule
+    words_rule) (value_rule (codes "least"))) (value_rule (codes "overlap"))) texts_flag_rule
 
 abbrev pub chunk_app : App
-chunk_app = ranged_app sized_app
+chunk_app = ranged_app byte_limit_rule sized_app
 
 -- `replay`
 abbrev pub replay_app : App

@@ -1,6 +1,7 @@
 -- What a reader has to believe.
 pub mod Command
 pub mod Sign
+pub mod Numbers
 pub mod Task
 pub mod Accepted
 pub mod PlainWords

@@ -1,13 +1,12 @@
 -- What accepted arguments ask for, by the values that `clap` finds in them.
-use Rattle.std.specs.Prelude.{ℕ, ◌^◌, ◌==◌, ◌&&◌, ◌||◌, ◌/◌, Bool, false, List, [], ◌∷◌, Option, Some, None, if◌then◌else◌}
-use Rattle.std.specs.Prelude.{nat_lt, codes, map, option_and_then, option_map, unwrap_or}
+use Rattle.std.specs.Prelude.{ℕ, ◌==◌, ◌&&◌, ◌||◌, ◌/◌, Bool, false, List, [], ◌∷◌, Option, Some, None, if◌then◌else◌}
+use Rattle.std.specs.Prelude.{codes, map, option_and_then, option_map, unwrap_or}
 use Rattle.std.specs.Str.{bytes_eq}
-use Rattle.std.specs.Str.Parse.{digits_value, without_leading_plus}
 use Rattle.clap.specs.Words.{Row, Text, all_of, first_of, one_of, subcommand_of}
-use Rattle.clap.specs.ValueTests.{is_numeral}
 use Rattle.lbk_values.specs.declared.profile.Profile.{Profile}
 use Rattle.lbk_values.specs.declared.profile.Profile.TheVariants.{First, Second}
 use Rattle.lbk_args.specs.Command.{lbk_app, default_limit, greatest_byte}
+use Rattle.lbk_args.specs.Numbers.{bytes_or, number_or}
 use Rattle.lbk_args.specs.Sign.{default_sign}
 use Rattle.lbk_args.specs.declared.order.Engine.{Engine}
 use Rattle.lbk_args.specs.declared.order.Engine.TheVariants.{Mark, Show, Segment, Chunk, Replay}
@@ -135,17 +134,12 @@ abbrev pub values_in : Text → List Row → Option NamedValues
 values_in name rows =
     values_by (needs_no_values name) (first_of (codes "unicode") rows) (first_of (codes "ucd") rows) (own_files_in rows)
 
--- the text is a 32-bit number in decimal, perhaps after a plus
-abbrev pub is_number : Text → Bool
-is_number text = is_numeral (without_leading_plus text) && nat_lt (digits_value 10 (without_leading_plus text)) (2 ^ 32)
-
--- the number in a text, or `other` if it has none
-abbrev pub number_or : ℕ → Option Text → ℕ
-number_or other None = other
-number_or other (Some text) = if is_number text then digits_value 10 (without_leading_plus text) else other
-
+-- the limit of `show` and `segment`, and that of `mark` and `chunk`, which may have a unit
 abbrev pub limit_in : List Row → ℕ
 limit_in rows = number_or default_limit (one_of (codes "limit") rows)
+
+abbrev pub byte_limit_in : List Row → ℕ
+byte_limit_in rows = bytes_or default_limit (first_of (codes "limit") rows)
 
 abbrev pub profile_in : List Row → Profile
 profile_in rows = if number_or 1 (one_of (codes "profile") rows) == 2 then Second else First
@@ -185,22 +179,22 @@ abbrev pub sizes_by : ℕ → List Row → Sizes
 sizes_by most rows = record {
   most = most;
   words = number_or 0 (one_of (codes "words") rows);
-  least = number_or (most / 2) (one_of (codes "least") rows);
-  overlap = number_or 0 (one_of (codes "overlap") rows);
+  least = bytes_or (most / 2) (first_of (codes "least") rows);
+  overlap = bytes_or 0 (first_of (codes "overlap") rows);
 }
 
 abbrev pub sizes_in : List Row → Sizes
-sizes_in rows = sizes_by (number_or 1 (one_of (codes "most") rows)) rows
+sizes_in rows = sizes_by (bytes_or 1 (first_of (codes "most") rows)) rows
 
 abbrev pub with_texts_in : List Row → Bool
 with_texts_in rows = flag_in (codes "texts") rows
 
 abbrev pub engine_in : Text → List Row → Engine
 engine_in name rows =
-    if bytes_eq name (codes "mark") then Mark (limit_in rows)
+    if bytes_eq name (codes "mark") then Mark (byte_limit_in rows)
     else if bytes_eq name (codes "show") then Show (limit_in rows)
     else if bytes_eq name (codes "segment") then Segment (limit_in rows)
-    else if bytes_eq name (codes "chunk") then Chunk (limit_in rows) (sizes_in rows) (with_texts_in rows)
+    else if bytes_eq name (codes "chunk") then Chunk (byte_limit_in rows) (sizes_in rows) (with_texts_in rows)
     else Replay (kinds_in rows)
 
 -- the task of a subcommand, from its options, if its property values are named

@@ -2,6 +2,7 @@
 #![tactic(auto)]
 
 pub mod laws;
+mod numbers;
 mod one_line;
 mod options;
 mod order;
@@ -9,6 +10,7 @@ mod parsing;
 mod property_values;
 mod sign;
 mod usage;
+mod wrong_bytes;
 
 pub use one_line::OneLine;
 pub use order::{Engine, FileName, FileNames, Order, Part, PropertyValues, Sizes, WordsFault};

@@ -2,10 +2,9 @@
 
 ghost use Rattle.std.specs.Prelude.{codes};
 ghost use Rattle.clap.specs.Words.{App, Rule, with_rule, with_subcommand};
-ghost use Rattle.lbk_feed.specs.Text.{greatest_limit};
 ghost use Rattle.lbk_args.specs.Made.{IsMade, IsOption};
-ghost use Rattle.lbk_args.specs.Command.{byte_rule, long_rule, value_rule, number_rule, default_limit_text};
-ghost use Rattle.lbk_args.specs.Command.{flag_rule, size_rule, texts_flag_rule, texts_rule};
+ghost use Rattle.lbk_args.specs.Command.{byte_rule, long_rule, value_rule, number_rule, limit_rule, byte_limit_rule};
+ghost use Rattle.lbk_args.specs.Command.{flag_rule, texts_flag_rule, texts_rule, words_rule};
 ghost use Rattle.lbk_args.specs.Command.{files_app, shared_app};
 ghost use Rattle.lbk_args.specs.Command.{ranged_app, limited_app, mark_app, sized_app, chunk_app};
 ghost use Rattle.lbk_args.specs.Command.{replay_app, bare_app, lbk_app};
@@ -60,7 +59,8 @@ const REPLAY_ABOUT: &str = "Compares break tests with the rules, and counts what
 
 const MARK_AFTER: &str = "\
 The text is otherwise unchanged: where a line must end, it has its own line end.
-A text that ends without a line end gets one. Example:
+A text that ends without a line end gets one. K and M after the number of bytes
+mean 1024 and 1048576: --limit 64K. Example:
   $ printf 'ab cd' | lbk mark
   ab ÷cd";
 
@@ -89,7 +89,8 @@ break at its end. It is as long as --most and --words allow, or ends early at
 a required break, once it has --least new bytes. Text without a break within
 the limits becomes one longer chunk. Offsets count bytes of the whole text;
 --from and --to still read all of it. With --text each chunk is a JSON object on
-a line; with --names as well, each object names its file. Examples:
+a line; with --names as well, each object names its file. K and M after a number
+of bytes mean 1024 and 1048576: --most 2K. Examples:
   $ printf 'ab cd' | lbk chunk --most 4
   C 0 3 1 May 18
   C 3 5 1 Must 3
@@ -158,11 +159,20 @@ fn number_option<'a>(
         .default_value(default)
 }
 
+/// `--limit` of `show` and `segment`.
 fn limit_option<'a>(alloc: Global) -> Arg<'a>
-    ensures { IsOption (number_rule (codes "limit") greatest_limit default_limit_text) result }
+    ensures { IsOption limit_rule result }
 {
     let help = "Bytes of a paragraph, 1 to 16777216";
     number_option(alloc, "limit", u64::from(LIMIT_MAX), "65536", help)
+}
+
+/// `--limit` of `mark` and `chunk`, whose number may have a unit.
+fn byte_limit_option<'a>(alloc: Global) -> Arg<'a>
+    ensures { IsOption byte_limit_rule result }
+{
+    let help = "Bytes of a paragraph, 1 to 16M";
+    value_option(alloc, "limit", "NUMBER", help).default_value("65536")
 }
 
 /// An option with a byte offset in a text.
@@ -173,12 +183,12 @@ fn byte_option<'a>(alloc: Global, name: &'a str, help: &'a str) -> Arg<'a>
     option.value_parser(ValueParser::unsigned(0, u64::from(u32::MAX)))
 }
 
-/// An option with a number of bytes or words.
-fn size_option<'a>(alloc: Global, name: &'a str, least: u64, help: &'a str) -> Arg<'a>
-    ensures { IsOption (size_rule name.entry.now least) result }
+fn words_option<'a>(alloc: Global) -> Arg<'a>
+    ensures { IsOption words_rule result }
 {
-    let option = value_option(alloc, name, "NUMBER", help);
-    option.value_parser(ValueParser::unsigned(least, u64::from(LIMIT_MAX)))
+    let help = "Most words, 1 to 16777216 [default: any number]";
+    let option = value_option(alloc, "words", "NUMBER", help);
+    option.value_parser(ValueParser::unsigned(1, u64::from(LIMIT_MAX)))
 }
 
 /// The flag `--text`; its name here differs, because the operands have the name `text`.
@@ -266,21 +276,28 @@ fn with_shared<'a>(alloc: Global, command: Made<'a>) -> Made<'a>
 }
 
 /// A subcommand over texts, with `--limit`, `--from` and `--to` after its other options.
-fn ranged<'a>(alloc: Global, command: Made<'a>, from: &'a str, to: &'a str) -> Made<'a>
-    ensures { (app : App) → IsMade app command.entry → IsMade (ranged_app app) result }
+fn ranged<'a>(
+    alloc: Global,
+    command: Made<'a>,
+    limit: Arg<'a>,
+    from: &'a str,
+    to: &'a str,
+) -> Made<'a>
+    ensures { (app : App) → (rule : Rule) → IsOption rule limit.entry → IsMade app command.entry
+        → IsMade (ranged_app rule app) result }
 {
-    let command = with_option(command, limit_option(alloc));
+    let command = with_option(command, limit);
     let command = with_option(command, byte_option(alloc, "from", from));
     with_shared(alloc, with_option(command, byte_option(alloc, "to", to)))
 }
 
 /// `mark`, `show` or `segment`.
-fn limited<'a>(alloc: Global, name: &'a str) -> Made<'a>
-    ensures { IsMade (limited_app name.entry.now) result }
+fn limited<'a>(alloc: Global, name: &'a str, limit: Arg<'a>) -> Made<'a>
+    ensures { (rule : Rule) → IsOption rule limit.entry → IsMade (ranged_app rule (files_app name.entry.now)) result }
 {
     let from = "Only paragraphs that begin at this byte or after it";
     let to = "Only paragraphs that begin before this byte";
-    ranged(alloc, with_files(alloc, name), from, to)
+    ranged(alloc, with_files(alloc, name), limit, from, to)
 }
 
 fn mark<'a>(alloc: Global) -> Made<'a>
@@ -288,40 +305,37 @@ fn mark<'a>(alloc: Global) -> Made<'a>
 {
     let sign = "Instead of ÷: 1 to 8 bytes without a line end";
     let sign = value_option(alloc, "sign", "TEXT", sign);
-    let command = with_option(limited(alloc, "mark"), sign);
+    let command = limited(alloc, "mark", byte_limit_option(alloc));
+    let command = with_option(command, sign);
     described(command, MARK_USAGE, MARK_ABOUT, MARK_AFTER)
 }
 
 fn show<'a>(alloc: Global) -> Made<'a>
     ensures { IsMade (limited_app (codes "show")) result }
 {
-    described(limited(alloc, "show"), SHOW_USAGE, SHOW_ABOUT, SHOW_AFTER)
+    let command = limited(alloc, "show", limit_option(alloc));
+    described(command, SHOW_USAGE, SHOW_ABOUT, SHOW_AFTER)
 }
 
 fn segment<'a>(alloc: Global) -> Made<'a>
     ensures { IsMade (limited_app (codes "segment")) result }
 {
-    described(
-        limited(alloc, "segment"),
-        SEGMENT_USAGE,
-        SEGMENT_ABOUT,
-        SEGMENT_AFTER,
-    )
+    let command = limited(alloc, "segment", limit_option(alloc));
+    described(command, SEGMENT_USAGE, SEGMENT_ABOUT, SEGMENT_AFTER)
 }
 
 /// `chunk`, with its sizes and `--text` before its other options.
 fn sized<'a>(alloc: Global) -> Made<'a>
     ensures { IsMade sized_app result }
 {
-    let most = "Largest chunk in bytes, 1 to 16777216";
-    let most = size_option(alloc, "most", 1, most).required(true);
+    let most = "Largest chunk in bytes, 1 to 16M";
+    let most = value_option(alloc, "most", "NUMBER", most).required(true);
     let command = with_option(with_files(alloc, "chunk"), most);
-    let words = "Most words, 1 to 16777216 [default: any number]";
-    let command = with_option(command, size_option(alloc, "words", 1, words));
+    let command = with_option(command, words_option(alloc));
     let least = "New bytes before an early end [default: half]";
-    let command = with_option(command, size_option(alloc, "least", 0, least));
+    let command = with_option(command, value_option(alloc, "least", "NUMBER", least));
     let overlap = "Most bytes that the next chunk repeats [default: 0]";
-    let command = with_option(command, size_option(alloc, "overlap", 0, overlap));
+    let command = with_option(command, value_option(alloc, "overlap", "NUMBER", overlap));
     with_option(command, texts_option(alloc))
 }
 
@@ -330,7 +344,7 @@ fn chunk<'a>(alloc: Global) -> Made<'a>
 {
     let from = "Only chunks that begin at this byte or after it";
     let to = "Only chunks that begin before this byte";
-    let command = ranged(alloc, sized(alloc), from, to);
+    let command = ranged(alloc, sized(alloc), byte_limit_option(alloc), from, to);
     described(command, CHUNK_USAGE, CHUNK_ABOUT, CHUNK_AFTER)
 }
 

@@ -1,36 +1,35 @@
 //! Parses arguments into a task.
 
 ghost use Rattle.std.specs.Prelude.{◌≡◌, [], ◌∷◌, ◌/◌, Some, IfOk, IfErr, MatchOption, MatchResult, OnOk, codes};
-ghost use Rattle.std.specs.Prelude.{is_some, map, not, option_map};
+ghost use Rattle.std.specs.Prelude.{map, option_map};
 ghost use Rattle.clap.specs.Words.{first_of, found_of, kind_of, one_of, rows_of};
 ghost use Rattle.clap.specs.declared.error.kind.ErrorKind.{ErrorKind};
-ghost use Rattle.lbk_args.specs.Accepted.{AreAccepted, faults_of, are_sizes, is_range, task_fault};
-ghost use Rattle.lbk_args.specs.Task.{Task, engine_in, flag_in, limit_in, number_or, part_in, profile_in, sign_in};
+ghost use Rattle.lbk_args.specs.Accepted.{AreAccepted, faults_of, is_range, task_fault};
+ghost use Rattle.lbk_args.specs.Task.{Task, byte_limit_in, engine_in, flag_in, limit_in, part_in, profile_in, sign_in};
 ghost use Rattle.lbk_args.specs.Task.{sizes_by, sizes_in, task_by, task_in, task_of, texts_in};
+ghost use Rattle.lbk_args.specs.Numbers.{number_or};
 ghost use Rattle.lbk_args.specs.PlainWords.{IsPlainFor};
 ghost use Rattle.lbk_args.specs.Sign.{is_sign};
 ghost use Rattle.lbk_args.specs.Refusal.{IsMistake, IsRefusalBy};
 
+use super::numbers::bytes_or;
 use super::options::{command, usage_of};
 use super::order::{Engine, Order, Part, Sizes, WordsFault};
 use super::property_values::{cause, values};
 use super::sign::{DEFAULT_SIGN, is_sign};
-use super::usage::usage_text;
+use super::usage::{numbers_of, usage_text};
+use super::wrong_bytes::{WrongBytes, wrong_bytes};
 use clap::error::ErrorKind;
 use clap::{ArgMatches, Error};
 use lbk_values::Profile;
 use std::alloc::{AllocError, Global};
+use std::fmt;
 
 /// The default of the most bytes of a paragraph.
 pub const DEFAULT_LIMIT: u32 = 65_536;
 
 /// The message for a range that ends before it begins.
 const TURNED_ROUND: &str = "--from <BYTE> is greater than --to <BYTE>";
-
-/// The message for sizes of chunks that contradict each other.
-const LEAST_PAST_MOST: &str = "--least <NUMBER> is greater than --most <NUMBER>";
-
-const OVERLAP_PAST_HALF: &str = "--overlap <NUMBER> is more than half of --most <NUMBER>";
 
 /// The message for an invalid sign.
 const NO_SIGN: &str = "--sign <TEXT> must be 1 to 8 bytes of UTF-8 without a line end";
@@ -55,26 +54,26 @@ pub fn parse<'a>(alloc: Global, words: &'a [&'a str]) -> Result<Order<'a>, Words
             let Ok(texts) = texts(alloc, given) else {
                 return Err(WordsFault::Memory);
             };
-            accepted(alloc, name, order(name, given, texts), cause(given))
+            accepted(alloc, name, given, order(name, given, texts))
         }
         Err(error) => Err(refusal(alloc, words, &error)),
     }
 }
 
-/// A task, if its property values are named, its range does not end before it begins, its sign is valid, and so are the
-/// sizes of its chunks. `cause` says what is wrong with the values.
+/// A task of these options, if its property values are named, its range does not end before it begins, its sign is
+/// valid, and so are its numbers of bytes.
 fn accepted<'a>(
     alloc: Global,
     name: &str,
+    given: &ArgMatches<'a>,
     order: Option<Order<'a>>,
-    cause: &str,
 ) -> Result<Order<'a>, WordsFault>
     ensures order { IfOk result (λ made. order.entry ≡ Some made) }
     ensures clean { OnOk result (task_fault (option_map task_of order.entry) ≡ []) }
     ensures refused { IfErr result (IsRefusalBy (task_fault (option_map task_of order.entry))) }
 {
     let Some(order) = order else {
-        return Err(mistake(alloc, name, cause));
+        return Err(mistake(alloc, name, cause(given)));
     };
     if !is_range(order.part) {
         return Err(mistake(alloc, name, TURNED_ROUND));
@@ -82,26 +81,10 @@ fn accepted<'a>(
     if !is_sign(order.sign) {
         return Err(mistake(alloc, name, NO_SIGN));
     }
-    if let Some(cause) = wrong_size(&order.engine) {
-        return Err(mistake(alloc, name, cause));
+    if let Some(wrong) = wrong_bytes(given, &order.engine) {
+        return Err(refused_bytes(alloc, name, wrong));
     }
     Ok(order)
-}
-
-/// What is wrong with the sizes of chunks, if anything.
-fn wrong_size(engine: &Engine) -> Option<&'static str>
-    ensures { is_some result ≡ not (are_sizes engine.now) }
-{
-    let Engine::Chunk { sizes, .. } = engine else {
-        return None;
-    };
-    if sizes.least > sizes.most {
-        return Some(LEAST_PAST_MOST);
-    }
-    if sizes.overlap > sizes.most / 2 {
-        return Some(OVERLAP_PAST_HALF);
-    }
-    None
 }
 
 /// Whether a range does not end before it begins.
@@ -136,7 +119,7 @@ fn engine(name: &str, given: &ArgMatches<'_>) -> Engine
 {
     match name {
         "mark" => Engine::Mark {
-            limit: limit(given),
+            limit: byte_limit(given),
         },
         "show" => Engine::Show {
             limit: limit(given),
@@ -145,7 +128,7 @@ fn engine(name: &str, given: &ArgMatches<'_>) -> Engine
             limit: limit(given),
         },
         "chunk" => Engine::Chunk {
-            limit: limit(given),
+            limit: byte_limit(given),
             sizes: sizes(given),
             texts: flag(given, "texts"),
         },
@@ -159,12 +142,12 @@ fn engine(name: &str, given: &ArgMatches<'_>) -> Engine
 fn sizes(given: &ArgMatches<'_>) -> Sizes
     ensures { result ≡ sizes_in (rows_of (found_of given.now)) }
 {
-    let most = number(given, "most", 1);
+    let most = bytes_or(text(given, "most"), 1);
     Sizes {
         most,
         words: number(given, "words", 0),
-        least: number(given, "least", most / 2),
-        overlap: number(given, "overlap", 0),
+        least: bytes_or(text(given, "least"), most / 2),
+        overlap: bytes_or(text(given, "overlap"), 0),
     }
 }
 
@@ -182,10 +165,18 @@ fn number(given: &ArgMatches<'_>, id: &str, other: u32) -> u32
     given.get_one(id).unwrap_or(other)
 }
 
+/// The limit of `show` and `segment`.
 fn limit(given: &ArgMatches<'_>) -> u32
     ensures { result ≡ limit_in (rows_of (found_of given.now)) }
 {
     number(given, "limit", DEFAULT_LIMIT)
+}
+
+/// The limit of `mark` and `chunk`.
+fn byte_limit(given: &ArgMatches<'_>) -> u32
+    ensures { result ≡ byte_limit_in (rows_of (found_of given.now)) }
+{
+    bytes_or(text(given, "limit"), DEFAULT_LIMIT)
 }
 
 /// Whether the flag with this name is given.
@@ -256,13 +247,30 @@ fn refusal(alloc: Global, words: &[&str], error: &Error) -> WordsFault
 }
 
 /// What the program writes for arguments that `clap` accepts, but that are wrong in this way.
-fn mistake(alloc: Global, name: &str, cause: &str) -> WordsFault
+fn mistake<C: fmt::Display + Drop>(alloc: Global, name: &str, cause: C) -> WordsFault
     ensures { (kind : ErrorKind) → IsMistake kind → IsRefusalBy (kind ∷ []) result }
 {
     let usage = usage_of(name);
-    let told = format!(in alloc;
+    usage_fault(format!(in alloc;
         "lbk: {cause}\n\nUsage: {usage}\n\nFor more information, try '--help'.\n"
-    );
+    ))
+}
+
+/// What the program writes for numbers of bytes that are out of range, or contradict each other.
+fn refused_bytes(alloc: Global, name: &str, wrong: WrongBytes<'_>) -> WordsFault
+    ensures { (kind : ErrorKind) → IsMistake kind → IsRefusalBy (kind ∷ []) result }
+{
+    let WrongBytes::Value { .. } = wrong else {
+        return mistake(alloc, name, wrong);
+    };
+    let numbers = numbers_of(name);
+    usage_fault(format!(in alloc; "lbk: {wrong}\n\nFor more information, try '--help'.\n{numbers}"))
+}
+
+/// The result for a mistake with this message.
+fn usage_fault(told: Result<String, AllocError>) -> WordsFault
+    ensures { (kind : ErrorKind) → IsMistake kind → IsRefusalBy (kind ∷ []) result }
+{
     match told {
         Ok(text) => WordsFault::Usage { text },
         Err(_) => WordsFault::Memory,

@@ -12,9 +12,15 @@ Numbers are decimal digits: --limit 1 to 16777216, --from and --to 0 to
 4294967295, --profile 1 or 2.
 ";
 
+const NUMBERS_OF_MARK: &str = "
+Numbers are decimal digits: --limit 1 to 16777216, perhaps in K (1024) or M
+(1048576), --from and --to 0 to 4294967295, --profile 1 or 2.
+";
+
 const NUMBERS_OF_CHUNKS: &str = "
-Numbers are decimal digits: --most, --words and --limit 1 to 16777216, --least
-and --overlap 0 to 16777216, --from and --to 0 to 4294967295, --profile 1 or 2.
+Numbers are decimal digits: --most and --limit 1 to 16777216, --least and
+--overlap 0 to 16777216, perhaps in K (1024) or M (1048576), --words 1 to
+16777216, --from and --to 0 to 4294967295, --profile 1 or 2.
 ";
 
 /// The message for arguments that `clap` refuses: its text, and what to do.
@@ -70,10 +76,19 @@ fn push_hint_of_file(text: &mut String, words: &[&str]) -> Result<(), AllocError
 }
 
 fn push_hint_of_numbers(text: &mut String, words: &[&str]) -> Result<(), AllocError> {
-    text.push_str(match words.first() {
-        Some(&"chunk") => NUMBERS_OF_CHUNKS,
+    match words.first() {
+        Some(name) => text.push_str(numbers_of(name)),
+        None => text.push_str(NUMBERS),
+    }
+}
+
+/// The numbers that the options of a subcommand accept.
+pub(crate) fn numbers_of(name: &str) -> &'static str {
+    match name {
+        "mark" => NUMBERS_OF_MARK,
+        "chunk" => NUMBERS_OF_CHUNKS,
         _ => NUMBERS,
-    })
+    }
 }
 
 /// Whether a character occurs in names of files, but in no subcommand.

@@ -27,12 +27,12 @@ none_of : (b : Bool) → true ≡ not b → b ≡ false
 none_of true is = is
 none_of false is = refl
 
-pub returns-in-Some-wrong_size-clause-refused : goal.returns-in-Some-wrong_size-clause-refused
-returns-in-Some-wrong_size-clause-refused c =
+pub returns-in-Some-wrong_bytes-clause-refused : goal.returns-in-Some-wrong_bytes-clause-refused
+returns-in-Some-wrong_bytes-clause-refused c =
     rw (
       c.in-Some.is,
       sym c.is_range.ensures ∙ c.if-not-is_range.false,
       sym c.is_sign.ensures ∙ c.if-not-is_sign.false,
-      none_of _ (sym (ap is_some c.in-Some-wrong_size.is) ∙ c.wrong_size.ensures),
+      none_of _ (sym (ap is_some c.in-Some-wrong_bytes.is) ∙ c.wrong_bytes.ensures),
     )
-    (c.mistake-in-Some-wrong_size.ensures ValueValidation unfit)
+    (c.refused_bytes.ensures ValueValidation unfit)
