@@ -20,6 +20,7 @@ from checks.unicode_files import OPTIONS
 IN_FAULT = f"lbk: standard input: cannot be read: {NOT_READY}\n"
 OUT_FAULT = "lbk: standard output: cannot be written: file too large\n"
 ILL_FORMED = "lbk: {}: byte {}: invalid UTF-8\n"
+LATIN_1 = ILL_FORMED[:-1] + "; if it is Latin-1, convert it by iconv -f ISO-8859-1 -t UTF-8\n"
 MISSING = "lbk: {}: cannot be read: no such file\n"
 TOO_LONG = (
     "lbk: standard input: byte {}: the paragraph that starts here has more than {} bytes; "
@@ -101,20 +102,20 @@ CUT = [
         (words, given, sizes, False, out, err)
         for words, given, out, err in (
             ("show --limit 4", b"abcde\xff", "", too_long(0, 4)),
-            ("show --limit 4", b"abcd\xff", "", ILL_FORMED.format("standard input", 4)),
+            ("show --limit 4", b"abcd\xff", "", LATIN_1.format("standard input", 4)),
             ("segment --limit 4", b"abc\r\n", "", too_long(0, 4)),
             ("segment --limit 1", b"\n\xe2\x80\x99", "P 0 1\nS 0 1 Must 5\n", too_long(1, 1)),
             ("show", b"a\xe2\x82", "", ILL_FORMED.format("standard input", 1)),
-            ("show --profile 2", b"a\nb\xff", "× 0061 × 000A !\t# 2 6 5\n", ILL_FORMED.format("standard input", 3)),
+            ("show --profile 2", b"a\nb\xff", "× 0061 × 000A !\t# 2 6 5\n", LATIN_1.format("standard input", 3)),
             (
                 "segment --profile 2",
                 b"a\nb\xff",
                 "P 0 2\nS 0 2 Must 5\nW 0 1\n",
-                ILL_FORMED.format("standard input", 3),
+                LATIN_1.format("standard input", 3),
             ),
             ("segment", b"a\n\xff", "", ILL_FORMED.format("standard input", 2)),
-            ("chunk --most 3", b"ab cd\nef\xff", "C 0 3 1 May 18\n", ILL_FORMED.format("standard input", 8)),
-            ("chunk --most 9", b"a\nb\xff", "", ILL_FORMED.format("standard input", 3)),
+            ("chunk --most 3", b"ab cd\nef\xff", "C 0 3 1 May 18\n", LATIN_1.format("standard input", 8)),
+            ("chunk --most 9", b"a\nb\xff", "", LATIN_1.format("standard input", 3)),
         )
         for sizes in ([1], [2], [])
     ],

@@ -15,7 +15,7 @@ def run(place):
         # The last paragraph is given only once the scalar after it is there.
         for ending, rows, err in (
             (b"\xff", lines - 1, f"byte {at}: invalid UTF-8"),
-            (b"a\xff", lines, f"byte {at + 1}: invalid UTF-8"),
+            (b"a\x80", lines, f"byte {at + 1}: invalid UTF-8"),
             (b"a" * 65_537, lines, too_long),
         ):
             err = f"lbk: standard input: {err}\n".encode()

@@ -12,6 +12,7 @@ from checks.program import run as run_program
 
 MISSING = "lbk: {}: cannot be read: no such file\n"
 NOT_UTF_8 = "lbk: {}: byte {}: invalid UTF-8"
+LATIN_1 = NOT_UTF_8 + "; if it is Latin-1, convert it by iconv -f ISO-8859-1 -t UTF-8\n"
 UTF_16 = NOT_UTF_8 + "; it looks like UTF-16: convert it by iconv -f UTF-16 -t UTF-8\n"
 KINDS = "lbk: to read lines with ! (a required break), add --kinds\n"
 LONGEST_NAME = 4_095
@@ -59,6 +60,7 @@ def run(place):
     pipes = {place.folder / "pipe": (b"ab\ncd", 1)}
     over_pipes(place, "texts: one from a pipe", words_of("mark", more=["pipe", "one"]), pipes, b"",
         "ab\ncd\na ÷b\n".encode())
+    encodings(place)
     shrunk(place)
     closed(place)
     begun(place)
@@ -204,6 +206,23 @@ def begun(place):
     place.write("begun", b"a\n" + b"b b\n" * 5_000)
     ran = run_program(["bash", "-c", command], cwd=place.folder)
     place.tally.equal("texts: the rest of standard input", tuple(ran), (0, "b ÷b\n".encode() * 5_000, b""))
+
+
+def encodings(place):
+    """Ill-formed texts that may be Latin-1, and others."""
+    other = NOT_UTF_8 + "\n"
+    for what, text, at, told in (
+        ("a letter before", b"caf\xe9", 3, LATIN_1),
+        ("a letter after", b"1 \xc9t", 2, LATIN_1),
+        ("a letter in the read before", b"a" * 4096 + b"\xe9", 4096, LATIN_1),
+        ("a letter in the read after", b" " * 4095 + b"\xe9a", 4095, LATIN_1),
+        ("no letter", b"1 \xa35", 2, other),
+        ("two in a row", b"a\xe4\xf6", 1, other),
+        ("a quotation mark of Windows-1252", b"a\x93b", 1, other),
+        ("UTF-8 before", b"\xc3\xa9 a\xe9", 4, other),
+        ("a cut character", "日".encode()[:2], 0, other),
+    ):
+        place.row(f"texts: {what}", words_of("mark"), text, 1, b"", told.format("standard input", at).encode())
 
 
 def shrunk(place):

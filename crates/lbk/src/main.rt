@@ -2,6 +2,7 @@
 #![tactic(auto)]
 
 mod hints;
+mod latin1;
 mod output_file;
 mod reporting;
 mod system_files;
@@ -9,6 +10,7 @@ mod waiting;
 mod watching;
 mod words;
 
+use latin1::{Looking, MayBeLatin1};
 use lbk_cmd::{Caller, CmdFault, Ending, RunFault, run_over_texts};
 use lbk_feed::Device;
 use lbk_feed::noted::{Input, Notes, Noting, Prompted};
@@ -32,18 +34,25 @@ fn main(rt: HostRuntime) -> ExitCode {
 /// Runs the program with the arguments after its name, and prints how the run ended.
 fn run_and_tell(rt: &HostRuntime) -> Ending {
     let notes = Notes::new();
+    let latin1 = MayBeLatin1::new(false);
     let given = match words_given(rt) {
         Ok(given) => given,
-        Err(ending) => return report(rt, Caller::NoWords, ending, &notes),
+        Err(ending) => return report(rt, Caller::NoWords, ending, &notes, &latin1),
     };
     let Ok(words) = slices_of(rt.alloc(), &given) else {
-        return report(rt, Caller::NoWords, out_of_memory(), &notes);
+        return report(rt, Caller::NoWords, out_of_memory(), &notes, &latin1);
     };
     if words.is_empty() {
         let _ = eprintln!(rt; "lbk: {}", hints::SAMPLES);
     }
     let named = Named::new([false; 4]);
-    run_on_devices(rt, without_help_of_help(words.as_slice()), &named, &notes)
+    run_on_devices(
+        rt,
+        without_help_of_help(words.as_slice()),
+        &named,
+        &notes,
+        &latin1,
+    )
 }
 
 /// Runs the program over the files of the system, from its texts or standard input to standard output, and prints how
@@ -53,6 +62,7 @@ fn run_on_devices<'x>(
     words: &'x [&'x str],
     named: &'x Named,
     notes: &'x Notes,
+    latin1: &'x MayBeLatin1,
 ) -> Ending {
     let input = rt.stdin();
     let is_terminal = input.is_terminal();
@@ -61,11 +71,11 @@ fn run_on_devices<'x>(
     let input = Barred::new(input, is_output, notes);
     let input = Device::new(Noting::new(input, notes));
     let input = Prompted::new(input, Waiting::new(rt), is_terminal);
-    let mut reader = Input::new(input, notes);
+    let mut reader = Input::new(Looking::new(input, latin1), notes);
     let mut writer = Device::new(Noting::new(rt.stdout(), notes));
     let files = SystemFiles::new(rt, notes);
     let mut store = Watching::new(rt, FileStore::new(&files), named);
-    let mut texts = SystemTexts::new(rt, output, named, notes);
+    let mut texts = SystemTexts::new(rt, output, named, notes, latin1);
     let ending = run_over_texts(
         rt.alloc(),
         words,
@@ -74,7 +84,7 @@ fn run_on_devices<'x>(
         &mut reader,
         &mut writer,
     );
-    report(rt, texts.caller(), ending, notes)
+    report(rt, texts.caller(), ending, notes, latin1)
 }
 
 fn slices_of(alloc: Global, words: &[String]) -> Result<Vec<&str>, AllocError> {
@@ -87,7 +97,13 @@ pub fn out_of_memory() -> Ending {
 
 /// Prints how a run ended: help on standard output; usage, errors and hints on standard error. Returns that ending, or
 /// a refused one if the help could not be written.
-fn report(rt: &HostRuntime, caller: Caller<'_>, ending: Ending, notes: &Notes) -> Ending {
+fn report(
+    rt: &HostRuntime,
+    caller: Caller<'_>,
+    ending: Ending,
+    notes: &Notes,
+    latin1: &MayBeLatin1,
+) -> Ending {
     let ending = with_help_written(rt, ending, notes);
     match &ending {
         Ending::Done | Ending::Help { .. } | Ending::Reported => {}
@@ -99,7 +115,7 @@ fn report(rt: &HostRuntime, caller: Caller<'_>, ending: Ending, notes: &Notes) -
         Ending::Usage { text } => {
             let _ = eprint!(rt; "{text}");
         }
-        Ending::Refused(fault) => report_refusal(rt, caller, None, *fault, notes),
+        Ending::Refused(fault) => report_refusal(rt, caller, None, *fault, notes, latin1),
     }
     ending
 }

@@ -1,6 +1,7 @@
 //! The messages for refused runs.
 
-use lbk_cmd::{Caller, CmdFault, Message, Reason, RunFault};
+use super::latin1::MayBeLatin1;
+use lbk_cmd::{Caller, CmdFault, Encoding, Message, Reason, RunFault};
 use lbk_feed::noted::Notes;
 use lbk_notation::ReplayFault;
 use std::io::ErrorKind;
@@ -12,6 +13,7 @@ pub fn report_refusal<'x>(
     text: Option<&'x str>,
     fault: RunFault,
     notes: &Notes,
+    latin1: &MayBeLatin1,
 ) {
     let error = notes.error.get();
     if is_write(fault) && error == Some(ErrorKind::BrokenPipe) {
@@ -22,9 +24,20 @@ pub fn report_refusal<'x>(
         caller,
         text,
         reason: reason_of(error, notes.is_output.get() && !is_write(fault)),
-        is_utf16: notes.is_utf16.get(),
+        looks_like: encoding(notes.is_utf16.get(), latin1.get()),
     };
     let _ = eprintln!(rt; "lbk: {message}");
+}
+
+/// The encoding that the text looks like.
+fn encoding(is_utf16: bool, may_be_latin1: bool) -> Option<Encoding> {
+    if is_utf16 {
+        Some(Encoding::Utf16)
+    } else if may_be_latin1 {
+        Some(Encoding::Latin1)
+    } else {
+        None
+    }
 }
 
 /// Why a file or a device failed.

@@ -2,6 +2,7 @@
 
 ghost use Rattle.std.specs.Prelude.{None};
 
+use super::latin1::{Looking, MayBeLatin1};
 use super::output_file::OutputFile;
 use super::reporting;
 use super::watching::{Named, named};
@@ -40,6 +41,9 @@ impl<'a> Opens for SystemFiles<'a> {
     }
 }
 
+/// A text of the system.
+pub type Text<'a> = Input<'a, Looking<'a, Device<Noting<'a, File>>>>;
+
 /// The texts of the system, by their names. It records why one cannot be opened or read, and prints on standard error
 /// why one is refused.
 #[derive(Drop)]
@@ -51,6 +55,7 @@ pub struct SystemTexts<'a> {
     /// The property files that they name.
     named: &'a Named,
     notes: &'a Notes,
+    latin1: &'a MayBeLatin1,
 }
 
 impl<'a> SystemTexts<'a> {
@@ -59,6 +64,7 @@ impl<'a> SystemTexts<'a> {
         output: OutputFile,
         named: &'a Named,
         notes: &'a Notes,
+        latin1: &'a MayBeLatin1,
     ) -> SystemTexts<'a> {
         SystemTexts {
             rt,
@@ -66,6 +72,7 @@ impl<'a> SystemTexts<'a> {
             caller: Caller::NoWords,
             named,
             notes,
+            latin1,
         }
     }
 
@@ -76,12 +83,12 @@ impl<'a> SystemTexts<'a> {
 }
 
 impl<'a> Opens for SystemTexts<'a> {
-    type File = Input<'a, Device<Noting<'a, File>>>;
+    type File = Text<'a>;
 
     ghost contents = { λ texts name. None };
 
     /// A file that is also the output is refused.
-    fn open(&self, name: &str) -> Result<Input<'a, Device<Noting<'a, File>>>, LoadFault> {
+    fn open(&self, name: &str) -> Result<Text<'a>, LoadFault> {
         self.notes.is_output.set(false);
         match self.notes.noted(File::open(self.rt, name)) {
             Ok(file) if self.output.is(file.metadata()) => {
@@ -90,7 +97,7 @@ impl<'a> Opens for SystemTexts<'a> {
             }
             Ok(file) => {
                 let device = Device::new(Noting::new(file, self.notes));
-                Ok(Input::new(device, self.notes))
+                Ok(Input::new(Looking::new(device, self.latin1), self.notes))
             }
             Err(error) if error.kind() == ErrorKind::OutOfMemory => Err(LoadFault::Memory),
             Err(_) => Err(LoadFault::Unreadable),
@@ -113,6 +120,13 @@ impl<'a> Texts<'a> for SystemTexts<'a> {
     }
 
     fn refuse(&mut self, name: &str, fault: RunFault) {
-        reporting::report_refusal(self.rt, self.caller, Some(name), fault, self.notes);
+        reporting::report_refusal(
+            self.rt,
+            self.caller,
+            Some(name),
+            fault,
+            self.notes,
+            self.latin1,
+        );
     }
 }

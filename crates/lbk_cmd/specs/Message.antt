@@ -1,5 +1,5 @@
 -- The message for a refused run, in one line.
-use Rattle.std.specs.Prelude.{ℕ, Bool, false, List, [], ◌∷◌, ◌++◌, Option, Some, None, codes, decimal, if◌then◌else◌}
+use Rattle.std.specs.Prelude.{ℕ, List, [], ◌∷◌, ◌++◌, Option, Some, None, codes, decimal, if◌then◌else◌}
 use Rattle.std.specs.Prelude.{nat_eq, nat_lt}
 use Rattle.std.specs.Borrow.{Bor}
 use Rattle.std.specs.Fmt.{◌++?◌}
@@ -34,6 +34,8 @@ use Rattle.lbk_cmd.specs.declared.faults.CmdFault.TheVariants as cmd
 use Rattle.lbk_cmd.specs.declared.message.Caller.{Caller}
 use Rattle.lbk_cmd.specs.declared.message.Caller.TheVariants.{Call, NoWords, Words}
 use Rattle.lbk_cmd.specs.declared.message.Message.{Message}
+use Rattle.lbk_cmd.specs.declared.parts_of_messages.Encoding.{Encoding}
+use Rattle.lbk_cmd.specs.declared.parts_of_messages.Encoding.TheVariants.{Utf16, Latin1}
 use Rattle.lbk_cmd.specs.declared.parts_of_messages.Input.{Input}
 use Rattle.lbk_cmd.specs.declared.parts_of_messages.Input.TheVariants as of_input
 use Rattle.lbk_cmd.specs.declared.parts_of_messages.Name.{Name}
@@ -116,10 +118,14 @@ abbrev pub than_limit : Option ℕ → List ℕ
 than_limit None = codes "bytes than the limit"
 than_limit (Some limit) = codes "than " ++ (decimal limit ++ rest_of_limit limit)
 
-abbrev pub invalid_text : Bool → List ℕ
-invalid_text is_utf16 =
-    if is_utf16 then codes "invalid UTF-8; it looks like UTF-16: convert it by iconv -f UTF-16 -t UTF-8"
-    else codes "invalid UTF-8"
+-- what to do with a text that may have another encoding
+abbrev pub advice_of_encoding : Option Encoding → List ℕ
+advice_of_encoding None = []
+advice_of_encoding (Some Utf16) = codes "; it looks like UTF-16: convert it by iconv -f UTF-16 -t UTF-8"
+advice_of_encoding (Some Latin1) = codes "; if it is Latin-1, convert it by iconv -f ISO-8859-1 -t UTF-8"
+
+abbrev pub invalid_text : Option Encoding → List ℕ
+invalid_text encoding = codes "invalid UTF-8" ++ advice_of_encoding encoding
 
 -- what failed, that it failed, and why
 abbrev pub failed_text : List ℕ → List ℕ → Option Reason → Option (List ℕ)
@@ -135,7 +141,7 @@ abbrev pub at_byte : Message → ℕ → List ℕ
 at_byte m at = input_of m ++ (codes ": byte " ++ (decimal at ++ codes ": "))
 
 abbrev pub not_utf8_text : Message → ℕ → List ℕ
-not_utf8_text m at = at_byte m at ++ invalid_text m.is_utf16
+not_utf8_text m at = at_byte m at ++ invalid_text m.looks_like
 
 abbrev pub paragraph_text : Message → ℕ → List ℕ
 paragraph_text m start = at_byte m start
@@ -207,7 +213,7 @@ message_text m = text_of_fault m m.fault
 
 -- the message for a library call
 abbrev pub of_call : RunFault → Message
-of_call fault = record { fault = fault; caller = Call; text = None; reason = None; is_utf16 = false }
+of_call fault = record { fault = fault; caller = Call; text = None; reason = None; looks_like = None }
 
 -- the texts of the parts of a message
 abbrev pub text_of_name : Name → List ℕ

@@ -35,5 +35,5 @@ pub use lbk_files::{
 pub use message::{Caller, Message};
 pub use operands::{MemoryTexts, Texts};
 pub use owned::{OwnedPassage, Word};
-pub use parts_of_messages::Reason;
+pub use parts_of_messages::{Encoding, Reason};
 pub use passages::read_passages;

@@ -9,7 +9,7 @@ ghost use Rattle.lbk_cmd.specs.Message.{too_long_text, unloaded_text, unpublishe
 
 use super::ending::RunFault;
 use super::faults::CmdFault;
-use super::parts_of_messages::{FolderAdvice, Input, Name, Reason, Why};
+use super::parts_of_messages::{Encoding, FolderAdvice, Input, Name, Reason, Why};
 use lbk_args::{DEFAULT_LIMIT, Engine, FileName, FileNames, PropertyValues};
 use lbk_feed::TEXT_MAX;
 use lbk_files::{CellsFault, ClaimCause, NamedFault};
@@ -43,8 +43,8 @@ pub struct Message<'a> {
     pub text: Option<&'a str>,
     /// Why a file or a device failed.
     pub reason: Option<Reason>,
-    /// Whether the text begins like UTF-16.
-    pub is_utf16: bool,
+    /// The encoding that an ill-formed text looks like.
+    pub looks_like: Option<Encoding>,
 }
 
 impl<'a> fmt::Display for Message<'a> {
@@ -78,7 +78,7 @@ impl<'a> Message<'a> {
             caller: Caller::Call,
             text: None,
             reason: None,
-            is_utf16: false,
+            looks_like: None,
         }
     }
 
@@ -200,7 +200,7 @@ impl<'a> Message<'a> {
         ensures { DisplaysOnOk W.write_str_gives f.old result (Some (not_utf8_text self.now at)) f.new }
     {
         self.at_byte(f, at)?;
-        invalid_utf8(f, self.is_utf16)
+        invalid_utf8(f, self.looks_like)
     }
 
     fn paragraph_too_long<W: fmt::Write>(
@@ -239,14 +239,22 @@ impl<'a> Message<'a> {
     }
 }
 
-/// The message for ill-formed bytes, also for a text that begins like UTF-16.
-fn invalid_utf8<W: fmt::Write>(f: &mut fmt::Formatter<W>, is_utf16: bool) -> fmt::Result
-    ensures { DisplaysOnOk W.write_str_gives f.old result (Some (invalid_text is_utf16)) f.new }
+/// The message for ill-formed bytes, and what to do with a text that may have another encoding.
+fn invalid_utf8<W: fmt::Write>(
+    f: &mut fmt::Formatter<W>,
+    looks_like: Option<Encoding>,
+) -> fmt::Result
+    ensures { DisplaysOnOk W.write_str_gives f.old result (Some (invalid_text looks_like)) f.new }
 {
-    if is_utf16 {
-        f.write_str("invalid UTF-8; it looks like UTF-16: convert it by iconv -f UTF-16 -t UTF-8")
-    } else {
-        f.write_str("invalid UTF-8")
+    f.write_str("invalid UTF-8")?;
+    match looks_like {
+        None => Ok(()),
+        Some(Encoding::Utf16) => {
+            f.write_str("; it looks like UTF-16: convert it by iconv -f UTF-16 -t UTF-8")
+        }
+        Some(Encoding::Latin1) => {
+            f.write_str("; if it is Latin-1, convert it by iconv -f ISO-8859-1 -t UTF-8")
+        }
     }
 }
 

@@ -19,6 +19,14 @@ pub enum Reason {
     IsOutput,
 }
 
+/// An encoding that a text may have instead of UTF-8.
+#[derive(Clone, Copy, Debug, PartialEq, Eq)]
+pub enum Encoding {
+    Utf16,
+    /// ISO 8859-1.
+    Latin1,
+}
+
 /// The reason after a colon, if there is one.
 #[derive(Clone, Copy)]
 pub(crate) struct Why(pub(crate) Option<Reason>);

@@ -109,7 +109,7 @@ fn check(
         caller,
         text,
         reason: Some(Reason::System(kind)),
-        is_utf16: false,
+        looks_like: None,
     };
     let told = must(rt, format!(in alloc; "{message}"));
     same(rt, &told.as_str(), &want, &"the message");
