@@ -1,5 +1,5 @@
 -- A text without the letter at its end.
-use Rattle.std.proofs.Common.{◌≡◌, ◌≢◌, ◌+◌, ◌-◌, ◌<◌, ◌≤◌, ◌∙◌, ℕ, Bool, true, false, List, [], ◌∷◌, ◌++◌, Option, Some, None, suc}
+use Rattle.std.proofs.Common.{◌≡◌, ◌≢◌, ◌+◌, ◌-◌, ◌<◌, ◌∙◌, ℕ, Bool, true, false, List, [], ◌∷◌, ◌++◌, Option, Some, None, suc}
 use Rattle.std.proofs.Common.{length, take, ap, refl, sym, arith, eqb-true, nat_lt, ltb-true}
 use Rattle.std.specs.Borrow.{Bor}
 use Rattle.std.specs.Option.{MatchOption}
@@ -10,7 +10,7 @@ use Rattle.std.proofs.lemmas.Bool.{ltb-false}
 use Rattle.std.proofs.lemmas.Bool.Decides.{nat_tests}
 use Rattle.std.proofs.lemmas.List.{length-append}
 use Rattle.clap.specs.Words.{Text}
-use Rattle.lbk_args.specs.Numbers.{last_of, unit_of, without_unit}
+use Rattle.lbk_args.specs.Numbers.{last_of, unit_of}
 
 -- a byte that is none of the letters is no unit
 pub no_letter : (c : ℕ) → c ≢ 75 → c ≢ 107 → c ≢ 77 → c ≢ 109 → unit_of c ≡ 1
