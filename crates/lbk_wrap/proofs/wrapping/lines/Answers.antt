@@ -1,0 +1,24 @@
+use Rattle.std.proofs.Common.{◌≡◌, ◌++◌, [], map, drop, refl, sym, ap, ◌∙◌, append-nil}
+use Rattle.std.proofs.lemmas.Str.{IsCharBoundary-start}
+use Rattle.lbk_wrap.specs.Lines.{lines, part_of}
+use Rattle.lbk_wrap.specs.Steps.{lines_from, open_at}
+use Rattle.lbk_wrap.proofs.Laying.{lines-same}
+use Rattle.lbk_wrap.proofs.Standing.{open_at-standing}
+use Rattle.lbk_wrap.proofs.wrapping.lines.Goals as goal
+
+pub loop-segment-init : goal.loop-segment-init
+loop-segment-init c =
+    rw (c.new-found.ensures.items, c.at-line.ensures.line)
+    (record { all = refl; small = rw c.at-line.ensures.line at c.at-line.ensures.small; cutting = c.requires.cutting; boundary = IsCharBoundary-start c.args.text.now c.utf8.text })
+
+pub returns : goal.returns
+unfolding lines
+returns c =
+    let text = c.args.text.now in
+    let segments = c.args.segments.now in
+    let layout = c.args.layout.now in
+    let none = drop_all c.loop-segment.segment-index segments c.loop-segment-test.false in
+    let all = rw none at c.loop-segment.invariant.all in
+    sym (append-nil c.loop-segment.found.items) ∙ all
+    ∙ ap (λ line. lines_from layout line (map (part_of text) segments)) (open_at-standing layout 0)
+    ∙ lines-same layout 0 [] (map (part_of text) segments)

@@ -1,0 +1,8 @@
+-- What a reader has to believe.
+pub mod Layouts
+pub mod Columns
+pub mod Cuttings
+pub mod Lines
+pub mod Filled
+-- What only carries proofs.
+pub mod Steps
