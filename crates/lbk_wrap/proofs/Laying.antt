@@ -1,15 +1,14 @@
 -- The lines as clusters, and as offsets and columns.
-use Rattle.std.proofs.Common.{◌≡◌, ℕ, ◌+◌, ◌≤◌, Bool, true, false, not, ◌&&◌, ◌||◌, ◌==◌, nat_le, List, [], ◌∷◌, ◌++◌, length, refl, ap, sym, ◌∙◌, arith, append_assoc, append-nil, length-append, if◌then◌else◌}
+use Rattle.std.proofs.Common.{◌≡◌, ℕ, ◌+◌, ◌≤◌, Bool, true, false, ◌==◌, nat_le, List, [], ◌∷◌, ◌++◌, refl, ap, sym, ◌∙◌, arith, if◌then◌else◌}
 use Rattle.std.proofs.lemmas.Bool.Decides.{nat_tests}
-use Rattle.std.specs.List.{concat}
 use Rattle.lbk_wrap.specs.declared.layout.Layout.{Layout}
 use Rattle.lbk_wrap.specs.declared.open.Line.{Line}
-use Rattle.lbk_wrap.specs.declared.open.LineKind.TheVariants.{May, Must, Cut}
+use Rattle.lbk_wrap.specs.declared.open.LineKind.TheVariants.{Must, Cut}
 use Rattle.lbk_wrap.specs.declared.open.Open.{Open}
 use Rattle.lbk_wrap.specs.Layouts.{tab_of}
-use Rattle.lbk_wrap.specs.Columns.{Cluster, ends_soft, is_blank, shown, size}
-use Rattle.lbk_wrap.specs.Lines.{Laid, Part, Whole, alone, before_next, behind, columns, cut, ended, ended_if, fits, has_room, hyphen, lay, line_at, lines_on, placed}
-use Rattle.lbk_wrap.specs.Steps.{Taken, after_lines, cut_on, end_if, ended_before, fits_as, grown, grown_all, has_room_as, line_of, lines_from, open_at, take, take_alone}
+use Rattle.lbk_wrap.specs.Columns.{Cluster, shown, size}
+use Rattle.lbk_wrap.specs.Lines.{Laid, Part, Whole, alone, before_next, behind, cut, ended_if, fits, has_room, lay, line_at, lines_on, placed}
+use Rattle.lbk_wrap.specs.Steps.{Taken, after_lines, cut_on, end_if, ended_before, fits_as, grown_all, has_room_as, lines_from, open_at, take, take_alone}
 use Rattle.lbk_wrap.proofs.Standing.{grown-standing, grown_all-standing, open_at-standing, shown-append_none, shown-append_some, size-append, size-shown, standing}
 
 -- how many bytes some lines are
@@ -34,7 +33,7 @@ placed-append layout start (x ∷ xs) ys =
     let e : (start + size x.clusters) + sizes xs ≡ start + (size x.clusters + sizes xs) = omega arith in
     ap (λ ls. line_at layout start x ∷ ls)
     (placed-append layout (start + size x.clusters) xs ys
-      ∙ ap (λ n. placed layout (start + size x.clusters) xs ++ placed layout n ys) e)
+    ∙ ap (λ n. placed layout (start + size x.clusters) xs ++ placed layout n ys) e)
 
 taken_same : (ls ms : List Line) (x y : Open) → ls ≡ ms → x ≡ y
     → (let t : Taken = record { lines = ls; line = x } in t) ≡ record { lines = ms; line = y }
@@ -65,9 +64,9 @@ cut-by layout start line c cs true h more =
 cut-by layout start line c cs false h more =
     rw (grown-standing layout start line c, room-same layout start line c, h)
     (rw (open_at-standing layout (start + size line), grown-standing layout (start + size line) [] c, more (start + size line) (c ∷ []))
-      (let e : start + size line ≡ start + (size line + 0) = omega arith in
-      ap (λ n. after_lines (placed layout start (record { clusters = line; kind = Cut } ∷ [])) (as_taken layout n (cut layout (c ∷ []) cs))) e
-      ∙ as_taken-behind layout start (record { clusters = line; kind = Cut } ∷ []) (cut layout (c ∷ []) cs)))
+    (let e : start + size line ≡ start + (size line + 0) = omega arith in
+    ap (λ n. after_lines (placed layout start (record { clusters = line; kind = Cut } ∷ [])) (as_taken layout n (cut layout (c ∷ []) cs))) e
+    ∙ as_taken-behind layout start (record { clusters = line; kind = Cut } ∷ []) (cut layout (c ∷ []) cs)))
 
 cut-same : (layout : Layout) (start : ℕ) (line cs : List Cluster)
     → cut_on layout (standing layout start line) cs ≡ as_taken layout start (cut layout line cs)
@@ -109,13 +108,18 @@ fits-by : (layout : Layout) (start : ℕ) (line : List Cluster) (part : Part) (d
 fits-by layout start line part [] h = fits-none layout start line part h
 fits-by layout start line part (d ∷ ds) h = fits-some layout start line part d ds h
 
-alone-by : (layout : Layout) (at : ℕ) (cs : List Cluster) (b : Bool) → layout.whole ≡ b
-    → take_alone layout at cs ≡ as_taken layout at (alone layout cs)
-alone-by layout at cs true h =
+alone-if : (layout : Layout) (at : ℕ) (cs : List Cluster) (b : Bool)
+    → (let t : Taken = if b then record { lines = []; line = grown_all (tab_of layout) (open_at at) cs } else cut_on layout (open_at at) cs in t)
+    ≡ as_taken layout at (if b then record { lines = []; line = cs } else cut layout [] cs)
+alone-if layout at cs true =
     let e : at ≡ at + 0 = omega arith in
-    rw h (rw (open_at-standing layout at, grown_all-standing layout at [] cs)
-      (ap (λ n. let t : Taken = record { lines = []; line = standing layout n cs } in t) e))
-alone-by layout at cs false h = rw h (rw (open_at-standing layout at) (cut-same layout at [] cs))
+    rw (open_at-standing layout at, grown_all-standing layout at [] cs)
+    (ap (λ n. let t : Taken = record { lines = []; line = standing layout n cs } in t) e)
+alone-if layout at cs false = rw (open_at-standing layout at) (cut-same layout at [] cs)
+
+alone-same : (layout : Layout) (at : ℕ) (cs : List Cluster)
+    → take_alone layout at cs ≡ as_taken layout at (alone layout cs)
+alone-same layout at cs = alone-if layout at cs layout.whole
 
 before-by : (layout : Layout) (start : ℕ) (line : List Cluster) (b : Bool) → (size line == 0) ≡ b
     → (ended_before (standing layout start line) ≡ placed layout start (before_next line))
@@ -135,9 +139,9 @@ lay-by layout start line part true h =
 lay-by layout start line part false h =
     let before = before-by layout start line (size line == 0) refl in
     rw (grown_all-standing layout start line part.clusters, fits-by layout start line part _ refl, h)
-    (rw (before.0, alone-by layout (start + size line) part.clusters layout.whole refl)
-      (ap (λ n. after_lines (placed layout start (before_next line)) (as_taken layout n (alone layout part.clusters))) before.1
-      ∙ as_taken-behind layout start (before_next line) (alone layout part.clusters)))
+    (rw (before.0, alone-same layout (start + size line) part.clusters)
+    (ap (λ n. after_lines (placed layout start (before_next line)) (as_taken layout n (alone layout part.clusters))) before.1
+    ∙ as_taken-behind layout start (before_next line) (alone layout part.clusters)))
 
 ended-by : (layout : Layout) (start : ℕ) (laid : Laid) (b : Bool)
     → end_if b (as_taken layout start laid) ≡ as_taken layout start (ended_if b laid)
@@ -156,4 +160,4 @@ lines-same layout start line (p ∷ ps) =
     let laid = ended_if p.must (lay layout line p) in
     rw (lay-by layout start line p (fits layout line p) refl, ended-by layout start (lay layout line p) p.must)
     (ap (λ ls. placed layout start laid.lines ++ ls) (lines-same layout (start + sizes laid.lines) laid.line ps)
-      ∙ sym (placed-append layout start laid.lines (lines_on layout laid.line ps)))
+    ∙ sym (placed-append layout start laid.lines (lines_on layout laid.line ps)))

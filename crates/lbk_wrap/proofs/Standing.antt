@@ -1,6 +1,5 @@
 -- A line as its clusters, and as its offsets and columns.
-use Rattle.std.proofs.Common.{◌≡◌, ℕ, ◌+◌, ◌≤◌, Bool, true, false, not, ◌&&◌, ◌||◌, ◌==◌, nat_le, List, [], ◌∷◌, ◌++◌, length, refl, ap, sym, ◌∙◌, arith, append_assoc, add_assoc, add-zero, append-nil, length-append, if◌then◌else◌}
-use Rattle.std.proofs.lemmas.Bool.Decides.{nat_tests}
+use Rattle.std.proofs.Common.{◌≡◌, ℕ, ◌+◌, ◌≤◌, Bool, true, false, List, [], ◌∷◌, ◌++◌, length, refl, ap, sym, ◌∙◌, arith, append_assoc, append-nil, length-append}
 use Rattle.std.proofs.lemmas.List.Folds.{concat-append}
 use Rattle.std.specs.List.{concat}
 use Rattle.lbk_wrap.specs.declared.layout.Layout.{Layout}
@@ -14,8 +13,12 @@ use Rattle.lbk_wrap.specs.Steps.{grown, grown_all, open_at}
 abbrev pub standing : Layout → ℕ → List Cluster → Open
 standing layout start line =
     record {
-      start = start; end = start + size (shown line); next = start + size line;
-      columns = columns layout (shown line); column = columns layout line; soft = ends_soft (shown line);
+      start = start;
+      end = start + size (shown line);
+      next = start + size line;
+      columns = columns layout (shown line);
+      column = columns layout line;
+      soft = ends_soft (shown line);
     }
 
 -- lines whose numbers are the same are one
@@ -60,13 +63,13 @@ grown-by : (layout : Layout) (start : ℕ) (line : List Cluster) (c : Cluster) (
 unfolding grown
 grown-by layout start line c true h =
     rw h (same_open _ _ _ _ _ _ _ _ _ _ _ _ refl (ap (λ xs. start + size xs) (sym (shown-blank line c h))) (next-push start line c)
-      (ap (columns layout) (sym (shown-blank line c h))) (sym (after_all-push (tab_of layout) 0 line c))
-      (ap ends_soft (sym (shown-blank line c h))))
+    (ap (columns layout) (sym (shown-blank line c h))) (sym (after_all-push (tab_of layout) 0 line c))
+    (ap ends_soft (sym (shown-blank line c h))))
 grown-by layout start line c false h =
     rw h (same_open _ _ _ _ _ _ _ _ _ _ _ _ refl (next-push start line c ∙ ap (λ xs. start + size xs) (sym (shown-some line c h))) (next-push start line c)
-      (sym (after_all-push (tab_of layout) 0 line c) ∙ ap (columns layout) (sym (shown-some line c h)))
-      (sym (after_all-push (tab_of layout) 0 line c))
-      (sym (ends_soft-push line c) ∙ ap ends_soft (sym (shown-some line c h))))
+    (sym (after_all-push (tab_of layout) 0 line c) ∙ ap (columns layout) (sym (shown-some line c h)))
+    (sym (after_all-push (tab_of layout) 0 line c))
+    (sym (ends_soft-push line c) ∙ ap ends_soft (sym (shown-some line c h))))
 
 pub grown-standing : (layout : Layout) (start : ℕ) (line : List Cluster) (c : Cluster)
     → grown (tab_of layout) (standing layout start line) c ≡ standing layout start (line ++ c ∷ [])

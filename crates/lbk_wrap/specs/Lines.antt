@@ -1,6 +1,6 @@
 -- The lines of a text. A text comes as its segments, the parts between the breaks of UAX #14, each as its grapheme
 -- clusters.
-use Rattle.std.specs.Prelude.{ℕ, ◌+◌, Bool, true, false, not, ◌&&◌, ◌||◌, ◌==◌, nat_le, List, [], ◌∷◌, ◌++◌, map, slice_range, if◌then◌else◌}
+use Rattle.std.specs.Prelude.{ℕ, ◌+◌, Bool, true, not, ◌&&◌, ◌||◌, ◌==◌, nat_le, List, [], ◌∷◌, ◌++◌, map, slice_range, if◌then◌else◌}
 use Rattle.lbk_passage.specs.Passages.{is_must}
 use Rattle.lbk_passage.specs.declared.passage.Segment.{Segment}
 use Rattle.unicode_segmentation.specs.Grapheme.{graphemes}
@@ -86,8 +86,11 @@ lines_on layout line (p ∷ ps) =
 abbrev pub line_at : Layout → ℕ → Whole → Line
 line_at layout start l =
     record {
-      start = start; end = start + size (shown l.clusters); next = start + size l.clusters;
-      columns = columns layout (shown l.clusters); kind = l.kind;
+      start = start;
+      end = start + size (shown l.clusters);
+      next = start + size l.clusters;
+      columns = columns layout (shown l.clusters);
+      kind = l.kind;
     }
 
 -- lines one after another, the first from this byte on

@@ -1,5 +1,5 @@
 -- The same over the offsets and columns of the line so far.
-use Rattle.std.specs.Prelude.{◌≡◌, ℕ, ◌+◌, ◌*◌, ◌≤◌, Bool, true, false, not, ◌&&◌, ◌||◌, ◌==◌, nat_le, nat_lt, List, [], ◌∷◌, ◌++◌, length, if◌then◌else◌}
+use Rattle.std.specs.Prelude.{◌≡◌, ℕ, ◌+◌, ◌*◌, ◌≤◌, Bool, false, not, ◌&&◌, ◌||◌, nat_le, List, [], ◌∷◌, ◌++◌, length, if◌then◌else◌}
 use Rattle.lbk_wrap.specs.declared.layout.Layout.{Layout}
 use Rattle.lbk_wrap.specs.declared.open.Line.{Line}
 use Rattle.lbk_wrap.specs.declared.open.LineKind.{LineKind}

@@ -99,12 +99,7 @@ fn take_alone(
 }
 
 /// Takes the clusters of a segment one by one. The line ends before each that it has no room for.
-fn cut(
-    layout: &Layout,
-    line: Open,
-    part: &str,
-    lines: &mut Vec<Line>,
-) -> Result<Open, AllocError>
+fn cut(layout: &Layout, line: Open, part: &str, lines: &mut Vec<Line>) -> Result<Open, AllocError>
     requires small { IsSmall line }
     requires room { line.next + length part.now < 2 ^ 32 }
     ensures taken { IfOk result (λ next. Gives lines.old.items lines.new.items next

@@ -1,8 +1,7 @@
-use Rattle.std.proofs.Common.{◌≡◌, ◌+◌, ◌++◌, true, length}
+use Rattle.std.proofs.Common.{◌≡◌, ◌+◌, true, length}
 use Rattle.unicode_segmentation.specs.Grapheme.{graphemes}
 use Rattle.unicode_segmentation.specs.Iter.{graphemes_left}
 use Rattle.lbk_wrap.specs.Columns.{size}
-use Rattle.lbk_wrap.specs.Layouts.{tab_of}
 use Rattle.lbk_wrap.specs.Steps.{IsSmall, after_lines, cut_on}
 use Rattle.lbk_wrap.proofs.taking.cut.Given as goal
 

@@ -1,7 +1,8 @@
-use Rattle.std.proofs.Common.{◌≡◌, ◌++◌, [], map, drop, refl, sym, ap, ◌∙◌, append-nil}
+use Rattle.std.proofs.Common.{[], map, refl, sym, ap, ◌∙◌, append-nil}
+use Rattle.std.proofs.Math.ListN.{drop_of_length-le}
 use Rattle.std.proofs.lemmas.Str.{IsCharBoundary-start}
 use Rattle.lbk_wrap.specs.Lines.{lines, part_of}
-use Rattle.lbk_wrap.specs.Steps.{lines_from, open_at}
+use Rattle.lbk_wrap.specs.Steps.{lines_from}
 use Rattle.lbk_wrap.proofs.Laying.{lines-same}
 use Rattle.lbk_wrap.proofs.Standing.{open_at-standing}
 use Rattle.lbk_wrap.proofs.wrapping.lines.Goals as goal
@@ -17,7 +18,7 @@ returns c =
     let text = c.args.text.now in
     let segments = c.args.segments.now in
     let layout = c.args.layout.now in
-    let none = drop_all c.loop-segment.segment-index segments c.loop-segment-test.false in
+    let none = drop_of_length-le segments c.loop-segment-test.false in
     let all = rw none at c.loop-segment.invariant.all in
     sym (append-nil c.loop-segment.found.items) ∙ all
     ∙ ap (λ line. lines_from layout line (map (part_of text) segments)) (open_at-standing layout 0)
