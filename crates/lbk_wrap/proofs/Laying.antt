@@ -21,7 +21,7 @@ abbrev pub as_taken : Layout → ℕ → Laid → Taken
 as_taken layout start laid =
     record { lines = placed layout start laid.lines; line = standing layout (start + sizes laid.lines) laid.line }
 
-sizes-append : (xs ys : List Whole) → sizes (xs ++ ys) ≡ sizes xs + sizes ys
+pub sizes-append : (xs ys : List Whole) → sizes (xs ++ ys) ≡ sizes xs + sizes ys
 sizes-append [] ys = omega arith
 sizes-append (x ∷ xs) ys = omega (arith, sizes-append xs ys)
 

@@ -1,3 +1,4 @@
 pub mod Clusters
 pub mod Standing
 pub mod Laying
+pub mod Orders

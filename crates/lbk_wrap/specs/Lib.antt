@@ -3,6 +3,7 @@ pub mod Layouts
 pub mod Columns
 pub mod Cuttings
 pub mod Lines
+pub mod Orders
 pub mod Filled
 -- What only carries proofs.
 pub mod Steps

@@ -4,12 +4,14 @@
 //! no line has room for is cut between its grapheme clusters, unless it is to stay whole.
 #![tactic(auto)]
 
+mod filling;
 mod layout;
 mod measures;
 mod open;
 mod taking;
 mod wrapping;
 
+pub use filling::push_filled;
 pub use layout::Layout;
 pub use open::{Line, LineKind};
 pub use wrapping::lines;

@@ -1,8 +1,9 @@
 //! The lines of a text, and the text with its lines broken.
 
-ghost use Rattle.std.specs.Prelude.{◌≡◌, ◌<◌, ◌^◌, ◌++◌, length, IfOk};
+ghost use Rattle.std.specs.Prelude.{◌≡◌, ◌<◌, ◌^◌, ◌++◌, ◌≤◌, ℕ, length, IfOk};
 ghost use Rattle.lbk_passage.specs.Passages.{is_must};
 ghost use Rattle.lbk_wrap.specs.Cuttings.{AreCutting};
+ghost use Rattle.lbk_wrap.specs.Orders.{AreInARow};
 ghost use Rattle.lbk_wrap.specs.Lines.{lines};
 
 use crate::layout::Layout;
@@ -21,7 +22,8 @@ pub fn lines(
 ) -> Result<Vec<Line>, AllocError>
     requires few { length text.now < 2 ^ 32 }
     requires cutting { AreCutting text.now segments.now }
-    ensures { IfOk result (λ found. found.items ≡ lines layout.now text.now segments.now) }
+    ensures lines { IfOk result (λ found. found.items ≡ lines layout.now text.now segments.now) }
+    ensures in_a_row { IfOk result (λ found. (end : ℕ) × (end ≤ length text.now) × AreInARow 0 end found.items) }
 {
     let mut found = Vec::new(alloc);
     let mut line = Open::at(0);

@@ -1,9 +1,11 @@
-use Rattle.std.proofs.Common.{[], map, refl, sym, ap, ◌∙◌, append-nil}
+use Rattle.std.proofs.Common.{◌≡◌, [], map, refl, sym, ap, ◌∙◌, append-nil, subst, ℕ, ◌≤◌, List, length}
 use Rattle.std.proofs.Math.ListN.{drop_of_length-le}
 use Rattle.std.proofs.lemmas.Str.{IsCharBoundary-start}
 use Rattle.lbk_wrap.specs.Lines.{lines, part_of}
 use Rattle.lbk_wrap.specs.Steps.{lines_from}
 use Rattle.lbk_wrap.proofs.Laying.{lines-same}
+use Rattle.lbk_wrap.proofs.Orders.{lines-in_a_row}
+use Rattle.lbk_wrap.specs.Orders.{AreInARow}
 use Rattle.lbk_wrap.proofs.Standing.{open_at-standing}
 use Rattle.lbk_wrap.proofs.wrapping.lines.Goals as goal
 
@@ -20,6 +22,8 @@ returns c =
     let layout = c.args.layout.now in
     let none = drop_of_length-le segments c.loop-segment-test.false in
     let all = rw none at c.loop-segment.invariant.all in
+    let same : c.loop-segment.found.items ≡ lines layout text segments =
     sym (append-nil c.loop-segment.found.items) ∙ all
     ∙ ap (λ line. lines_from layout line (map (part_of text) segments)) (open_at-standing layout 0)
-    ∙ lines-same layout 0 [] (map (part_of text) segments)
+    ∙ lines-same layout 0 [] (map (part_of text) segments) in
+    record { lines = same; in_a_row = subst (λ ls. (end : ℕ) × (end ≤ length text) × AreInARow 0 end ls) (sym same) (lines-in_a_row layout text segments c.utf8.text c.requires.cutting) }
