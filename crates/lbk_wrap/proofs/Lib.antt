@@ -2,3 +2,5 @@ pub mod Clusters
 pub mod Standing
 pub mod Laying
 pub mod Orders
+pub mod Ends
+pub mod Widths

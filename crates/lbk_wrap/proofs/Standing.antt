@@ -42,11 +42,11 @@ with_shown-some : (x : Cluster) (xs : List Cluster) (c : Cluster) → with_shown
 with_shown-some x [] c = refl
 with_shown-some x (y ∷ ys) c = refl
 
-shown-blank : (xs : List Cluster) (c : Cluster) → is_blank c ≡ true → shown (xs ++ c ∷ []) ≡ shown xs
+pub shown-blank : (xs : List Cluster) (c : Cluster) → is_blank c ≡ true → shown (xs ++ c ∷ []) ≡ shown xs
 shown-blank [] c h = rw h refl
 shown-blank (x ∷ xs) c h = ap (with_shown x) (shown-blank xs c h)
 
-shown-some : (xs : List Cluster) (c : Cluster) → is_blank c ≡ false → shown (xs ++ c ∷ []) ≡ xs ++ c ∷ []
+pub shown-some : (xs : List Cluster) (c : Cluster) → is_blank c ≡ false → shown (xs ++ c ∷ []) ≡ xs ++ c ∷ []
 shown-some [] c h = rw h refl
 shown-some (x ∷ xs) c h = ap (with_shown x) (shown-some xs c h) ∙ with_shown-some x xs c
 

@@ -5,5 +5,6 @@ pub mod Cuttings
 pub mod Lines
 pub mod Orders
 pub mod Filled
+pub mod Laws
 -- What only carries proofs.
 pub mod Steps

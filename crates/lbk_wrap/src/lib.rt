@@ -5,6 +5,7 @@
 #![tactic(auto)]
 
 mod filling;
+pub mod laws;
 mod layout;
 mod measures;
 mod open;
