@@ -3,4 +3,5 @@ pub mod Standing
 pub mod Laying
 pub mod Orders
 pub mod Ends
-pub mod Widths
+pub mod Lengths
+pub mod Narrow

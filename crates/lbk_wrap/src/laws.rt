@@ -28,9 +28,16 @@ pub fn only_blanks_hang()
 {}
 
 /// A line is never empty, if no segment is.
-#[tactic(auto, using(crate::proofs::Widths::lines_some))]
+#[tactic(auto, using(crate::proofs::Lengths::lines_some))]
 pub fn no_line_is_empty()
     ensures { (layout : Layout) (text : List ℕ) (segments : List Segment) → IsUtf8 text → AreCutting text segments
         → AllByRecursion (λ s. s.start < s.end) segments
         → AllByRecursion (λ (line : Line). line.start < line.next) (lines layout text segments) }
+{}
+
+/// A line is within the columns, or shows one cluster, unless what no line has room for is left whole.
+#[tactic(auto, using(crate::proofs::Narrow::lines_narrow))]
+pub fn lines_are_narrow()
+    ensures { (layout : Layout) (text : List ℕ) (segments : List Segment) → layout.whole ≡ false
+        → AllByRecursion (IsNarrow layout) (lines_on layout [] (map (part_of text) segments)) }
 {}

@@ -1,4 +1,4 @@
--- How long and how wide lines are.
+-- No line is empty.
 use Rattle.std.proofs.Common.{◌≡◌, ◌⊎◌, inl, inr, ℕ, ◌+◌, ◌-◌, ◌<◌, ◌≤◌, Bool, true, false, ◌==◌, ◌||◌, nat_le, if◌then◌else◌, List, [], ◌∷◌, ◌++◌, length, map, slice_range, refl, ap, sym, ◌∙◌, arith, subst, append_assoc, append-nil, ⊎_elim}
 use Rattle.std.proofs.lemmas.Bool.{or_cases}
 use Rattle.std.proofs.lemmas.Bool.Decides.{nat_tests}
@@ -24,7 +24,7 @@ pub record Holds (P : Whole → Type 0) (laid : Laid) : Type 0 where
   pub lines : AllByRecursion P laid.lines
   pub line : P (record { clusters = laid.line; kind = Must })
 
-all-append : (P : Whole → Type 0) (xs ys : List Whole) → AllByRecursion P xs → AllByRecursion P ys → AllByRecursion P (xs ++ ys)
+pub all-append : (P : Whole → Type 0) (xs ys : List Whole) → AllByRecursion P xs → AllByRecursion P ys → AllByRecursion P (xs ++ ys)
 all-append P [] ys h k = k
 all-append P (x ∷ xs) ys h k = (h.0, all-append P xs ys h.1 k)
 
@@ -36,10 +36,10 @@ from_pieces : (ps : List (List ℕ)) → AllPieces (λ p. 0 < length p) ps → A
 from_pieces [] h = tt
 from_pieces (p ∷ ps) h = (h.0, from_pieces ps h.1)
 
-some-graphemes : (text : List ℕ) → AreSome (graphemes true text)
+pub some-graphemes : (text : List ℕ) → AreSome (graphemes true text)
 some-graphemes text = from_pieces _ (segments_nonempty (is_grapheme_break true) text)
 
-some-append : (xs ys : List Cluster) → AreSome xs → AreSome ys → AreSome (xs ++ ys)
+pub some-append : (xs ys : List Cluster) → AreSome xs → AreSome ys → AreSome (xs ++ ys)
 some-append [] ys h k = k
 some-append (x ∷ xs) ys h k = (h.0, some-append xs ys h.1 k)
 
