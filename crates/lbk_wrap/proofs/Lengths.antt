@@ -1,23 +1,21 @@
 -- No line is empty.
-use Rattle.std.proofs.Common.{◌≡◌, ◌⊎◌, inl, inr, ℕ, ◌+◌, ◌-◌, ◌<◌, ◌≤◌, Bool, true, false, ◌==◌, ◌||◌, nat_le, if◌then◌else◌, List, [], ◌∷◌, ◌++◌, length, map, slice_range, refl, ap, sym, ◌∙◌, arith, subst, append_assoc, append-nil, ⊎_elim}
-use Rattle.std.proofs.lemmas.Bool.{or_cases}
+use Rattle.std.proofs.Common.{◌≡◌, ℕ, ◌+◌, ◌<◌, Bool, true, false, ◌==◌, ◌||◌, if◌then◌else◌, List, [], ◌∷◌, ◌++◌, length, refl, sym, arith, subst}
 use Rattle.std.proofs.lemmas.Bool.Decides.{nat_tests}
-use Rattle.std.proofs.lemmas.Str.{IsCharBoundary-start, IsUtf8-between}
+use Rattle.std.proofs.lemmas.Str.{IsCharBoundary-start}
 use Rattle.std.specs.List.{AllByRecursion}
 use Rattle.std.specs.Str.{IsCharBoundary, IsUtf8}
 use Rattle.lbk_passage.specs.declared.passage.Segment.{Segment}
 use Rattle.unicode_segmentation.specs.Grapheme.{graphemes, is_grapheme_break}
 use Rattle.unicode_segmentation.proofs.SegmentsLemmas.{AllPieces, segments_nonempty}
-use Rattle.unicode_segmentation.proofs.TextLemmas.{length-slice_range}
 use Rattle.lbk_wrap.specs.declared.layout.Layout.{Layout}
 use Rattle.lbk_wrap.specs.declared.open.Line.{Line}
-use Rattle.lbk_wrap.specs.declared.open.LineKind.TheVariants.{Must, Cut}
-use Rattle.lbk_wrap.specs.Columns.{Cluster, is_blank, shown, size, with_shown}
+use Rattle.lbk_wrap.specs.declared.open.LineKind.TheVariants.{Must}
+use Rattle.lbk_wrap.specs.Columns.{Cluster, is_blank, size}
 use Rattle.lbk_wrap.specs.Cuttings.{AreCutting, AreCuttingFrom}
-use Rattle.lbk_wrap.specs.Laws.{IsNarrow}
-use Rattle.lbk_wrap.specs.Lines.{Laid, Part, Whole, alone, before_next, behind, columns, cut, ended_if, fits, has_room, hyphen, lay, lines, lines_on, part_of, placed}
+use Rattle.lbk_wrap.specs.Lines.{Laid, Part, Whole, before_next, cut, ended_if, fits, has_room, lay, lines, lines_on, parts_from, placed, text_to}
 use Rattle.lbk_wrap.proofs.Clusters.{size-graphemes}
-use Rattle.lbk_wrap.proofs.Standing.{shown-append_none, shown-append_some, shown-blank, shown-some, size-append, size-one}
+use Rattle.lbk_wrap.proofs.Parts.{is_part, part-whole}
+use Rattle.lbk_wrap.proofs.Standing.{size-append, size-one}
 
 -- what holds of the lines that have ended, and of the line that has not
 pub record Holds (P : Whole → Type 0) (laid : Laid) : Type 0 where
@@ -124,19 +122,20 @@ placed-some layout start (l ∷ ls) h = (omega (arith, h.0), placed-some layout 
 
 parts-some : (at : ℕ) (text : List ℕ) (segments : List Segment) → IsUtf8 text → IsCharBoundary text at
     → AreCuttingFrom at text segments → AllByRecursion (λ s. s.start < s.end) segments
-    → AllByRecursion IsSomePart (map (part_of text) segments)
+    → AllByRecursion IsSomePart (parts_from at text segments)
 parts-some at text [] utf8 here h some = tt
 parts-some at text (s ∷ ss) utf8 here h some =
-    let start : IsCharBoundary text s.start = subst (IsCharBoundary text) (sym h.0) here in
-    let part = IsUtf8-between text s.start s.end utf8 (omega arith) start h.2 in
-    let size = size-graphemes (slice_range text s.start s.end) part in
-    ((some-graphemes (slice_range text s.start s.end), omega (arith, size, length-slice_range text s.start s.end h.2.0, some.0)),
-      parts-some s.end text ss utf8 h.2 h.3 some.1)
+    let part = text_to text at s.end in
+    let is = is_part text at s.end utf8 here in
+    let e : s.end ≡ at + length part = sym (part-whole text at s.end h.1 h.2) in (
+      (some-graphemes part, omega (arith, size-graphemes part is.utf8, some.0)),
+      parts-some (at + length part) text ss utf8 is.next (subst (λ n. AreCuttingFrom n text ss) e h.3) some.1,
+    )
 
 pub lines_some : (layout : Layout) (text : List ℕ) (segments : List Segment) → IsUtf8 text → AreCutting text segments
     → AllByRecursion (λ s. s.start < s.end) segments
     → AllByRecursion (λ (line : Line). line.start < line.next) (lines layout text segments)
 unfolding lines
 lines_some layout text segments utf8 h some =
-    placed-some layout 0 _ (lines_on-some layout [] (map (part_of text) segments)
-      (parts-some 0 text segments utf8 (IsCharBoundary-start text utf8) h some))
+    placed-some layout 0 _ (lines_on-some layout [] (parts_from 0 text segments)
+    (parts-some 0 text segments utf8 (IsCharBoundary-start text utf8) h some))

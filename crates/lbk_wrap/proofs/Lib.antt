@@ -1,3 +1,4 @@
+pub mod Parts
 pub mod Clusters
 pub mod Standing
 pub mod Laying
@@ -5,3 +6,4 @@ pub mod Orders
 pub mod Ends
 pub mod Lengths
 pub mod Narrow
+pub mod Adding

@@ -1,14 +1,13 @@
 -- How wide lines are.
-use Rattle.std.proofs.Common.{◌≡◌, ◌⊎◌, inl, inr, ℕ, ◌+◌, ◌<◌, ◌≤◌, Bool, true, false, ◌==◌, ◌||◌, nat_le, if◌then◌else◌, List, [], ◌∷◌, ◌++◌, length, length-append, map, refl, ap, sym, ◌∙◌, arith, subst, ⊎_elim}
+use Rattle.std.proofs.Common.{◌≡◌, ◌⊎◌, inl, inr, ℕ, ◌+◌, ◌<◌, ◌≤◌, Bool, true, false, ◌==◌, ◌||◌, nat_le, if◌then◌else◌, List, [], ◌∷◌, ◌++◌, length, length-append, refl, sym, arith, subst, ⊎_elim}
 use Rattle.std.proofs.lemmas.Bool.{or_cases}
 use Rattle.std.proofs.lemmas.Bool.Decides.{nat_tests}
 use Rattle.std.specs.List.{AllByRecursion, concat}
 use Rattle.lbk_passage.specs.declared.passage.Segment.{Segment}
 use Rattle.lbk_wrap.specs.declared.layout.Layout.{Layout}
-use Rattle.lbk_wrap.specs.declared.open.LineKind.TheVariants.{May, Must, Cut}
 use Rattle.lbk_wrap.specs.Columns.{Cluster, is_blank, shown, size, with_shown}
 use Rattle.lbk_wrap.specs.Laws.{IsNarrow}
-use Rattle.lbk_wrap.specs.Lines.{Laid, Part, Whole, alone, before_next, behind, columns, cut, ended_if, fits, has_room, hyphen, lay, lines_on, part_of}
+use Rattle.lbk_wrap.specs.Lines.{Laid, Part, before_next, columns, cut, ended_if, fits, has_room, hyphen, lay, lines_on, parts_from, text_to}
 use Rattle.lbk_wrap.proofs.Lengths.{AreSome, all-append, some-append, some-graphemes}
 use Rattle.lbk_wrap.proofs.Standing.{shown-append_none, shown-append_some, shown-blank, shown-some}
 
@@ -58,11 +57,11 @@ unfolding has_room
 push-narrow layout line c some narrow h =
     ⊎_elim
     (λ either.
-      ⊎_elim (λ blank. same-shown layout line (line ++ c ∷ []) (shown-blank line c blank) narrow)
-      (λ none.
-        let e : line ≡ [] = no_bytes line some (is_zero (size line) none) in
-        subst (λ xs. AreNarrow layout (xs ++ c ∷ [])) (sym e) (one-narrow layout c))
-      (or_cases (is_blank c) (size line == 0) either))
+    ⊎_elim (λ blank. same-shown layout line (line ++ c ∷ []) (shown-blank line c blank) narrow)
+    (λ none.
+    let e : line ≡ [] = no_bytes line some (is_zero (size line) none) in
+    subst (λ xs. AreNarrow layout (xs ++ c ∷ [])) (sym e) (one-narrow layout c))
+    (or_cases (is_blank c) (size line == 0) either))
     (λ le. within-by layout line c (is_blank c) refl narrow (is_within _ layout.columns le))
     (or_cases (is_blank c || (size line == 0)) (nat_le (columns layout (line ++ c ∷ [])) layout.columns) h)
 
@@ -118,24 +117,26 @@ takes-narrow-by layout line part (d ∷ ds) e all narrow h =
     let bytes = subst AreSome e (shown-bytes part.clusters all) in
     ⊎_elim
     (λ none.
-      let nothing : (d ∷ ds) ≡ [] = no_bytes (d ∷ ds) bytes (is_zero (size (d ∷ ds)) none) in cc)
+    let nothing : (d ∷ ds) ≡ [] = no_bytes (d ∷ ds) bytes (is_zero (size (d ∷ ds)) none) in cc)
     (λ le.
-      let few = is_within (columns layout shows + hyphen shows part.must) layout.columns le in
-      inl (subst (λ cs. columns layout cs ≤ layout.columns) (sym (shown-append_some line part.clusters d ds e)) (omega (arith, few))))
+    let few = is_within (columns layout shows + hyphen shows part.must) layout.columns le in
+    inl (subst (λ cs. columns layout cs ≤ layout.columns) (sym (shown-append_some line part.clusters d ds e)) (omega (arith, few))))
     (or_cases (size (d ∷ ds) == 0) (nat_le (columns layout shows + hyphen shows part.must) layout.columns) (rw e at h))
 
 lay-narrow-by : (layout : Layout) (line : List Cluster) (part : Part) (b : Bool) → fits layout line part ≡ b
     → layout.whole ≡ false → AreSome part.clusters → AreSome line → AreNarrow layout line → LaidNarrow layout (lay layout line part)
 lay-narrow-by layout line part true h cuts all some narrow =
     rw h (record {
-      lines = tt; line = takes-narrow-by layout line part _ refl all narrow h;
+      lines = tt;
+      line = takes-narrow-by layout line part _ refl all narrow h;
       some = some-append line part.clusters some all;
     })
 lay-narrow-by layout line part false h cuts all some narrow =
     let rest = alone-narrow-if layout part.clusters layout.whole cuts all in
     rw h (record {
       lines = all-append (IsNarrow layout) (before_next line) _ (before-narrow-by layout line (size line == 0) refl narrow) rest.lines;
-      line = rest.line; some = rest.some;
+      line = rest.line;
+      some = rest.some;
     })
 
 ended-narrow : (layout : Layout) (laid : Laid) (b : Bool) → LaidNarrow layout laid → LaidNarrow layout (ended_if b laid)
@@ -152,11 +153,13 @@ lines_on-narrow layout line (p ∷ ps) cuts all some narrow =
     all-append (IsNarrow layout) (ended_if p.must (lay layout line p)).lines _ laid.lines
     (lines_on-narrow layout (ended_if p.must (lay layout line p)).line ps cuts all.1 laid.some laid.line)
 
-parts-bytes : (text : List ℕ) (segments : List Segment) → AllByRecursion (λ p. AreSome p.clusters) (map (part_of text) segments)
-parts-bytes text [] = tt
-parts-bytes text (s ∷ ss) = (some-graphemes _, parts-bytes text ss)
+parts-bytes : (at : ℕ) (text : List ℕ) (segments : List Segment)
+    → AllByRecursion (λ p. AreSome p.clusters) (parts_from at text segments)
+parts-bytes at text [] = tt
+parts-bytes at text (s ∷ ss) =
+    (some-graphemes (text_to text at s.end), parts-bytes (at + length (text_to text at s.end)) text ss)
 
 pub lines_narrow : (layout : Layout) (text : List ℕ) (segments : List Segment) → layout.whole ≡ false
-    → AllByRecursion (IsNarrow layout) (lines_on layout [] (map (part_of text) segments))
+    → AllByRecursion (IsNarrow layout) (lines_on layout [] (parts_from 0 text segments))
 lines_narrow layout text segments cuts =
-    lines_on-narrow layout [] (map (part_of text) segments) cuts (parts-bytes text segments) tt (nothing-narrow layout)
+    lines_on-narrow layout [] (parts_from 0 text segments) cuts (parts-bytes 0 text segments) tt (nothing-narrow layout)

@@ -1,20 +1,19 @@
 -- The lines of a text follow one another within it.
-use Rattle.std.proofs.Common.{◌≡◌, ℕ, ◌+◌, ◌-◌, ◌≤◌, Bool, true, false, ◌==◌, if◌then◌else◌, List, [], ◌∷◌, ◌++◌, length, map, slice_range, refl, ap, sym, ◌∙◌, arith, subst}
+use Rattle.std.proofs.Common.{◌≡◌, ℕ, ◌+◌, ◌≤◌, Bool, true, false, ◌==◌, if◌then◌else◌, List, [], ◌∷◌, ◌++◌, length, refl, sym, ◌∙◌, arith, subst}
 use Rattle.std.proofs.lemmas.Bool.Decides.{nat_tests}
-use Rattle.std.proofs.lemmas.Str.{IsCharBoundary-start, IsUtf8-between}
+use Rattle.std.proofs.lemmas.Str.{IsCharBoundary-start}
 use Rattle.std.specs.Str.{IsCharBoundary, IsUtf8}
 use Rattle.lbk_passage.specs.declared.passage.Segment.{Segment}
-use Rattle.unicode_segmentation.specs.Grapheme.{graphemes}
-use Rattle.unicode_segmentation.proofs.TextLemmas.{length-slice_range}
 use Rattle.lbk_wrap.specs.declared.layout.Layout.{Layout}
 use Rattle.lbk_wrap.specs.declared.open.LineKind.TheVariants.{Must, Cut}
-use Rattle.lbk_wrap.specs.Columns.{Cluster, shown, size}
-use Rattle.lbk_wrap.specs.Cuttings.{AreCutting, AreCuttingFrom}
-use Rattle.lbk_wrap.specs.Lines.{Laid, Part, Whole, alone, before_next, behind, cut, ended_if, fits, has_room, lay, lines, lines_on, part_of, placed}
+use Rattle.lbk_wrap.specs.Columns.{Cluster, size}
+use Rattle.lbk_wrap.specs.Cuttings.{AreCuttingFrom}
+use Rattle.lbk_wrap.specs.Lines.{Laid, Part, Whole, alone, before_next, behind, cut, ended_if, fits, has_room, lay, lines, lines_on, parts_from, placed, text_to}
 use Rattle.lbk_wrap.specs.Orders.{AreInARow}
 use Rattle.lbk_wrap.proofs.Clusters.{size-graphemes}
 use Rattle.lbk_wrap.proofs.Laying.{sizes, sizes-append}
-use Rattle.lbk_wrap.proofs.Standing.{size-append, size-one, size-shown}
+use Rattle.lbk_wrap.proofs.Parts.{is_part, part-whole}
+use Rattle.lbk_wrap.proofs.Standing.{size-append, size-shown}
 
 -- how many bytes were laid
 abbrev pub size_laid : Laid → ℕ
@@ -90,23 +89,36 @@ placed-in_a_row layout start (l ∷ ls) =
           (placed-in_a_row layout (start + size l.clusters) ls),
     )
 
--- the segments of a text are as long as it is
+-- the segments of a text are within it
+sizes-parts : (at : ℕ) (text : List ℕ) (segments : List Segment) → IsUtf8 text → IsCharBoundary text at
+    → at + sizes_of (parts_from at text segments) ≤ length text
+sizes-parts at text [] utf8 here = omega (arith, here.0)
+sizes-parts at text (s ∷ ss) utf8 here =
+    let part = text_to text at s.end in
+    let is = is_part text at s.end utf8 here in
+    omega (arith, size-graphemes part is.utf8, sizes-parts (at + length part) text ss utf8 is.next)
+
+-- and as long as it is, if it is cut into them
 pub sizes-cutting : (at : ℕ) (text : List ℕ) (segments : List Segment) → IsUtf8 text → IsCharBoundary text at
-    → AreCuttingFrom at text segments → at + sizes_of (map (part_of text) segments) ≡ length text
+    → AreCuttingFrom at text segments → at + sizes_of (parts_from at text segments) ≡ length text
 sizes-cutting at text [] utf8 here h = omega arith
 sizes-cutting at text (s ∷ ss) utf8 here h =
-    let start : IsCharBoundary text s.start = subst (IsCharBoundary text) (sym h.0) here in
-    let part = IsUtf8-between text s.start s.end utf8 (omega arith) start h.2 in
-    let size = size-graphemes (slice_range text s.start s.end) part in
-    omega (arith, size, length-slice_range text s.start s.end h.2.0, sizes-cutting s.end text ss utf8 h.2 h.3)
+    let part = text_to text at s.end in
+    let is = is_part text at s.end utf8 here in
+    let e : s.end ≡ at + length part = sym (part-whole text at s.end h.1 h.2) in
+    omega (
+      arith,
+      size-graphemes part is.utf8,
+      sizes-cutting (at + length part) text ss utf8 is.next (subst (λ n. AreCuttingFrom n text ss) e h.3),
+    )
 
-pub lines-in_a_row : (layout : Layout) (text : List ℕ) (segments : List Segment) → IsUtf8 text → AreCutting text segments
+pub lines-in_a_row : (layout : Layout) (text : List ℕ) (segments : List Segment) → IsUtf8 text
     → (end : ℕ) × (end ≤ length text) × AreInARow 0 end (lines layout text segments)
 unfolding lines
-lines-in_a_row layout text segments utf8 h =
-    let parts = map (part_of text) segments in
+lines-in_a_row layout text segments utf8 =
+    let parts = parts_from 0 text segments in
     let all = lines_on layout [] parts in (
       0 + sizes all,
-      omega (arith, sizes-lines_on layout [] parts, sizes-cutting 0 text segments utf8 (IsCharBoundary-start text utf8) h),
+      omega (arith, sizes-lines_on layout [] parts, sizes-parts 0 text segments utf8 (IsCharBoundary-start text utf8)),
       placed-in_a_row layout 0 all,
     )

@@ -1,6 +1,6 @@
 -- The lines of a text. A text comes as its segments, the parts between the breaks of UAX #14, each as its grapheme
 -- clusters.
-use Rattle.std.specs.Prelude.{ℕ, ◌+◌, Bool, true, not, ◌&&◌, ◌||◌, ◌==◌, nat_le, List, [], ◌∷◌, ◌++◌, map, slice_range, if◌then◌else◌}
+use Rattle.std.specs.Prelude.{ℕ, ◌+◌, Bool, true, not, ◌&&◌, ◌||◌, ◌==◌, nat_le, nat_lt, List, [], ◌∷◌, ◌++◌, length, slice_index, slice_range, if◌then◌else◌}
 use Rattle.lbk_passage.specs.Passages.{is_must}
 use Rattle.lbk_passage.specs.declared.passage.Segment.{Segment}
 use Rattle.unicode_segmentation.specs.Grapheme.{graphemes}
@@ -98,10 +98,23 @@ abbrev pub placed : Layout → ℕ → List Whole → List Line
 placed layout start [] = []
 placed layout start (l ∷ ls) = line_at layout start l ∷ placed layout (start + size l.clusters) ls
 
--- a segment of a text
-abbrev pub part_of : List ℕ → Segment → Part
-part_of text s = record { clusters = graphemes true (slice_range text s.start s.end); must = is_must s.kind }
+-- a character of a text begins at this byte, or the text ends there
+abbrev pub is_boundary : List ℕ → ℕ → Bool
+is_boundary text at =
+    nat_le at (length text)
+    && (nat_le (length text) at || nat_lt (slice_index text at) 128 || nat_le 192 (slice_index text at))
+
+-- a text from one byte to another, and nothing of it where these are no two places of it in their order
+unfoldable pub text_to : List ℕ → ℕ → ℕ → List ℕ
+text_to text at end = if nat_le at end && is_boundary text end then slice_range text at end else []
+
+-- the segments of a text, each up to its end, the first from this byte on
+abbrev pub parts_from : ℕ → List ℕ → List Segment → List Part
+parts_from at text [] = []
+parts_from at text (s ∷ ss) =
+    let part = text_to text at s.end in
+    record { clusters = graphemes true part; must = is_must s.kind } ∷ parts_from (at + length part) text ss
 
 -- the lines of a text with these segments
 unfoldable pub lines : Layout → List ℕ → List Segment → List Line
-lines layout text segments = placed layout 0 (lines_on layout [] (map (part_of text) segments))
+lines layout text segments = placed layout 0 (lines_on layout [] (parts_from 0 text segments))

@@ -2,7 +2,7 @@
 
 ghost use Rattle.std.specs.Prelude.{◌≡◌, ℕ, ◌<◌, ◌≤◌, ◌^◌, ◌++◌, [], ◌∷◌, length, OnErr, OnOk};
 ghost use Rattle.lbk_feed.specs.Appended.{HasPut};
-ghost use Rattle.lbk_wrap.specs.Cuttings.{AreCutting};
+ghost use Rattle.lbk_passage.specs.Adding.{Adds};
 ghost use Rattle.lbk_wrap.specs.Filled.{broken, filled, written};
 ghost use Rattle.lbk_wrap.specs.Lines.{lines};
 ghost use Rattle.lbk_wrap.specs.Orders.{AreInARow};
@@ -25,9 +25,8 @@ pub fn push_filled(
     keep: bool,
 ) -> Result<(), AllocError>
     requires few { length text.now < 2 ^ 32 }
-    requires cutting { AreCutting text.now segments.now }
-    ensures all { OnOk result (out.new.items
-        ≡ out.old.items ++ filled text.now keep (lines layout.now text.now segments.now)) }
+    ensures adds { Adds out.old.items out.new.items
+        (filled text.now keep (lines layout.now text.now segments.now)) result }
     ensures refused { OnErr result (HasPut out.old.items out.new.items
         (filled text.now keep (lines layout.now text.now segments.now))) }
 {

@@ -1,14 +1,14 @@
 //! What the lines of a text have in common, over definitions only. Each law is the contract of a function that does
 //! nothing.
 
-ghost use Rattle.std.specs.Prelude.{◌≡◌, ℕ, ◌<◌, List, false, [], length, map};
+ghost use Rattle.std.specs.Prelude.{◌≡◌, ℕ, ◌<◌, List, false, [], length};
 ghost use Rattle.std.specs.List.{AllByRecursion};
 ghost use Rattle.std.specs.Str.{IsUtf8};
 ghost use Rattle.lbk_passage.specs.declared.passage.Segment.{Segment};
 ghost use Rattle.lbk_wrap.specs.Columns.{Cluster};
 ghost use Rattle.lbk_wrap.specs.Cuttings.{AreCutting};
 ghost use Rattle.lbk_wrap.specs.Laws.{EndWithMust, IsNarrow, OnlyBlanksHang};
-ghost use Rattle.lbk_wrap.specs.Lines.{lines, lines_on, part_of};
+ghost use Rattle.lbk_wrap.specs.Lines.{lines, lines_on, parts_from};
 ghost use Rattle.lbk_wrap.specs.Orders.{AreInARow};
 ghost use Rattle.lbk_wrap.specs.declared.layout.Layout.{Layout};
 ghost use Rattle.lbk_wrap.specs.declared.open.Line.{Line};
@@ -39,5 +39,5 @@ pub fn no_line_is_empty()
 #[tactic(auto, using(crate::proofs::Narrow::lines_narrow))]
 pub fn lines_are_narrow()
     ensures { (layout : Layout) (text : List ℕ) (segments : List Segment) → layout.whole ≡ false
-        → AllByRecursion (IsNarrow layout) (lines_on layout [] (map (part_of text) segments)) }
+        → AllByRecursion (IsNarrow layout) (lines_on layout [] (parts_from 0 text segments)) }
 {}

@@ -1,4 +1,4 @@
-use Rattle.std.proofs.Common.{◌≡◌, ℕ, ◌+◌, ◌<◌, ◌≤◌, Bool, List, [], ◌∷◌, ◌++◌, length, drop, ap, sym, ◌∙◌, arith, subst, add-one, drop-cons, slice_index_or}
+use Rattle.std.proofs.Common.{◌≡◌, ℕ, ◌+◌, ◌<◌, ◌≤◌, List, [], ◌∷◌, ◌++◌, length, drop, ap, sym, ◌∙◌, arith, subst, add-one, drop-cons, slice_index_or}
 use Rattle.lbk_feed.proofs.Appended.{HasPut-within, on_err}
 use Rattle.lbk_wrap.specs.declared.open.Line.{Line}
 use Rattle.lbk_wrap.specs.declared.open.LineKind.TheVariants.{May}
