@@ -44,10 +44,6 @@ pub record Taken : Type 0 where
 abbrev pub after_lines : List Line → Taken → Taken
 after_lines lines taken = record { lines = lines ++ taken.lines; line = taken.line }
 
--- so much is within the columns
-abbrev pub is_within : Layout → ℕ → Bool → Bool
-is_within layout columns soft = nat_le (columns + (if soft then 1 else 0)) layout.columns
-
 -- the line `line` grew by a segment that it has room for
 unfoldable pub fits_as : Layout → Open → Open → Bool → Bool
 fits_as layout line grown must =

@@ -13,9 +13,9 @@ use crate::wrapping::lines;
 use lbk_passage::Segment;
 use std::alloc::{AllocError, Global};
 
-/// Appends a text that is cut into these segments to `out`, with a line feed at the end of each line that was broken, in
-/// place of its blanks unless these are kept. A line that must end is appended as it is. Of a line that was broken and
-/// shows nothing only kept blanks are appended. After an error a prefix of it all may be appended.
+/// Appends a text that is cut into these segments to `out`, with a line feed at the end of each line that was broken,
+/// in place of its blanks unless these are kept. A line that must end is appended as it is. Of a line that was broken
+/// and shows nothing only kept blanks are appended. After an error a prefix of it all may be appended.
 pub fn push_filled(
     out: &mut Vec<u8>,
     alloc: Global,

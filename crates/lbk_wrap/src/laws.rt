@@ -13,8 +13,8 @@ ghost use Rattle.lbk_wrap.specs.Orders.{AreInARow};
 ghost use Rattle.lbk_wrap.specs.declared.layout.Layout.{Layout};
 ghost use Rattle.lbk_wrap.specs.declared.open.Line.{Line};
 
-/// The lines of a text that ends where a line must, as a passage does, are the whole text: the first begins with it, each
-/// of the others where the one before it ends, and the last ends with it.
+/// The lines of a text that ends where a line must, as a passage does, are the whole text: the first begins with it,
+/// each of the others where the one before it ends, and the last ends with it.
 #[tactic(auto, using(crate::proofs::Ends::lines_whole))]
 pub fn lines_are_the_text()
     ensures { (layout : Layout) (text : List ℕ) (segments : List Segment) → IsUtf8 text → AreCutting text segments

@@ -1,7 +1,7 @@
 //! Lines of at most so many terminal columns, broken only where UAX #14 allows.
 //!
-//! A line takes segments of a text as long as all of them but the blanks at the end are within the columns. A segment that
-//! no line has room for is cut between its grapheme clusters, unless it is to stay whole.
+//! A line takes segments of a text as long as all of them but the blanks at the end are within the columns. A segment
+//! that no line has room for is cut between its grapheme clusters, unless it is to stay whole.
 #![tactic(auto)]
 
 mod filling;

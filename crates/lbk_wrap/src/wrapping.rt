@@ -13,8 +13,9 @@ use lbk_passage::Segment;
 use lbk_rules::Kind;
 use std::alloc::{AllocError, Global};
 
-/// The lines of a text that is cut into these segments, as the text of a passage is. Each goes on from the end of the one
-/// before it; what has its end before that, or inside a character, is no segment of the text, and nothing of it is taken.
+/// The lines of a text that is cut into these segments, as the text of a passage is. Each goes on from the end of the
+/// one before it; what has its end before that, or inside a character, is no segment of the text, and nothing of it is
+/// taken.
 pub fn lines(
     alloc: Global,
     layout: &Layout,
