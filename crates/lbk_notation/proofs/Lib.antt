@@ -18,3 +18,5 @@ pub mod ReplayStateLemmas
 pub mod RunLemmas
 pub mod StreamLemmas
 pub mod Worked
+pub mod HexPairs
+pub mod ScalarWriting

@@ -2,6 +2,7 @@
 use Rattle.std.specs.Prelude.{ℕ, List, ◌∷◌, ◌++◌, map}
 use Rattle.std.specs.List.{flat_map}
 use Rattle.lbk_notation.specs.declared.marks.Form.TheVariants.{Kinds}
+use Rattle.lbk_notation.specs.declared.marks.Mark.{Mark}
 use Rattle.lbk_notation.specs.TestLine.{Line}
 use Rattle.lbk_notation.specs.Marked.{mark_of}
 use Rattle.lbk_notation.specs.Written.{written_line}
@@ -12,9 +13,13 @@ use Rattle.lbk_rules.specs.Labels.{label_of}
 abbrev pub written_labels : List Verdict → List ℕ
 written_labels verdicts = flat_map (λ verdict. 32 ∷ label_of verdict.rule) verdicts
 
+-- the marks of verdicts
+abbrev pub marks_of : List Verdict → List Mark
+marks_of verdicts = map (λ verdict. mark_of verdict.kind) verdicts
+
 -- the scalars of a passage, and the kinds of its verdicts
 abbrev pub passage_marks : List ℕ → List Verdict → Line
-passage_marks scalars verdicts = record { scalars = scalars; marks = map (λ verdict. mark_of verdict.kind) verdicts }
+passage_marks scalars verdicts = record { scalars = scalars; marks = marks_of verdicts }
 
 -- the written line in form Kinds, a tab, # and the labels
 abbrev pub passage_line : List ℕ → List Verdict → List ℕ

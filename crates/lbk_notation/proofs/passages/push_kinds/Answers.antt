@@ -1,58 +1,54 @@
-use Rattle.std.proofs.Common.{◌≡◌, ◌++◌, ◌∷◌, get_or, length, length-append, refl, ap, ◌∙◌, arith}
+use Rattle.std.proofs.Common.{◌≡◌, ◌+◌, ◌≤◌, ◌++◌, append_assoc, chars, length, sym, ap, ◌∙◌, arith, length-append, rules, take}
+use Rattle.std.specs.Slice.Iter.{chunks_rest}
 use Rattle.std.specs.Str.Iter.{chars_rest}
-use Rattle.lbk_notation.specs.Grammar.{mark_bytes}
-use Rattle.lbk_notation.specs.Marked.{mark_of}
-use Rattle.lbk_notation.specs.Written.{shown, token}
+use Rattle.std.proofs.lemmas.List.{length-drop, take_at}
+use Rattle.lbk_feed.proofs.Appended.{HasPut-before, on_err}
+use Rattle.lbk_notation.specs.Shown.{marks_of, passage_marks}
+use Rattle.lbk_notation.specs.Written.{written_after, written_line}
 use Rattle.lbk_notation.specs.declared.marks.Form.TheVariants.{Kinds}
-use Rattle.lbk_rules.specs.declared.Verdict.{Verdict}
-use Rattle.lbk_rules.specs.declared.Kind.TheVariants.{No}
-use Rattle.lbk_rules.specs.declared.Rule.TheVariants.{Lb2}
-use Rattle.lbk_feed.proofs.Appended.{on_err}
-use Rattle.lbk_notation.proofs.LineWriting.{Writes-start, Writes-step, Writes-refused, Writes-end}
+use Rattle.lbk_notation.proofs.LineWriting.{written-verdicts}
 use Rattle.lbk_notation.proofs.passages.push_kinds.Goals as goal
 
-abbrev none : Verdict
-none = record { kind = No; rule = Lb2 }
-
-pub loop-c-init : goal.loop-c-init
-loop-c-init c =
-    let verdicts = c.args.verdicts.now in
-    let old = c.args.out.now.items in
-    let items = c.into_iter-c-iterator.result in
-    let pushed : c.push_mark.new.text.items ≡ old ++ mark_bytes (shown Kinds (mark_of (get_or verdicts 0 none).kind)) =
-    c.in_ok-push_mark.ensures.text ∙ ap (λ m. old ++ mark_bytes (shown Kinds m)) c.mark_of.ensures in
+pub loop-some-preserved : goal.loop-some-preserved
+loop-some-preserved c =
+    let l = c.loop-some in
+    let out = l.out.items in
+    let cs = chars (chars_rest l.scalars) in
+    let some = c.in-Some.some.now in
+    let left = chunks_rest c.next.new.self in
+    let steps = c.in-Some.ensures.steps in
+    let further = chars (chars_rest c.place_scalars-behind.new.scalars) in
+    let parts : length (chunks_rest l.some-iterator) ≡ length some + length left = ap length steps.1.0 ∙ length-append some left in
+    let few : length some ≤ length cs = omega (arith, parts, l.invariant.many) in
+    let here : length out ≡ c.len-at.result = search rules in
+    let back : length c.place_scalars-behind.new.buf ≡ c.extend_from_slice.new.self.len =
+    c.place_scalars-behind.ensures.placed.len ∙ c.as_mut_slice.ensures.len in
+    let appended : c.truncate.new.self.items ≡ out ++ written_after Kinds cs (marks_of some) =
+    c.truncate.ensures.items ∙ ap (take c.place_scalars-behind.result) (take_at c.place_scalars-behind.new.buf _ c.extend_from_slice.new.self.len back)
+    ∙ c.place_scalars-behind.ensures.placed.bytes
+    ∙ ap (λ b. take c.len-at.result b ++ written_after Kinds cs (marks_of some)) (c.as_mut_slice.ensures.value ∙ c.in_ok-extend_from_slice.ensures.items)
+    ∙ ap (λ b. b ++ written_after Kinds cs (marks_of some)) (take_at out _ c.len-at.result here) in
     record {
-      writes = Writes-start c.args.text.now verdicts (get_or verdicts 0 none) none (chars_rest items) old c.push_mark.new.text.items c.utf8.text
-          (ap chars_rest c.into_iter-c-iterator.ensures.into_iter_gives ∙ c.chars-c-items.ensures.rest) c.requires refl pushed;
-      longer = omega (arith, ap length pushed, length-append old (mark_bytes (shown Kinds (mark_of (get_or verdicts 0 none).kind))));
+      utf8 = c.place_scalars-behind.ensures.utf8;
+      many = omega (arith, ap length c.place_scalars-behind.ensures.rest, length-drop (length some) cs, parts, l.invariant.many);
+      joined = ap (λ t. t ++ written_after Kinds further (marks_of left)) appended
+          ∙ append_assoc out (written_after Kinds cs (marks_of some)) (written_after Kinds further (marks_of left))
+          ∙ ap (λ t. out ++ t) (ap (λ r. written_after Kinds cs (marks_of some) ++ written_after Kinds r (marks_of left)) c.place_scalars-behind.ensures.rest
+          ∙ sym (written-verdicts cs some left few)
+          ∙ ap (λ v. written_after Kinds cs (marks_of v)) (sym steps.1.0))
+          ∙ l.invariant.joined;
+      longer = omega (arith, l.invariant.longer, ap length appended, length-append out (written_after Kinds cs (marks_of some)));
+      size = steps.0 ∙ l.invariant.size;
     }
 
-pub loop-c-preserved : goal.loop-c-preserved
-loop-c-preserved c =
-    let l = c.loop-c in
-    let pushed =
-    c.in_ok-push_scalar.ensures.text
-    ∙ ap (λ m. l.out.items ++ (32 ∷ (token c.in-Some.c ++ (32 ∷ mark_bytes (shown Kinds m))))) c.mark_of-in-loop-c.ensures in
-    record {
-      writes = Writes-step c.args.verdicts.now l.k c.in-Some.c (get_or c.args.verdicts.now l.k none) none (chars_rest l.c-iterator) (chars_rest c.next.new.self)
-          l.out.items c.push_scalar.new.text.items _ c.in-Some.ensures.steps.0 refl pushed l.invariant.writes;
-      longer = omega (
-        arith,
-        l.invariant.longer,
-        ap length pushed,
-        length-append l.out.items
-            (32 ∷ (token c.in-Some.c ++ (32 ∷ mark_bytes (shown Kinds (mark_of (get_or c.args.verdicts.now l.k none).kind))))),
-      );
-    }
-
-pub returns-in_err-push_scalar-clause-refused : goal.returns-in_err-push_scalar-clause-refused
-returns-in_err-push_scalar-clause-refused c =
-    let l = c.loop-c in
+-- the list is as it was before these scalars, which belong behind it with those after them
+pub returns-in_err-extend_from_slice-clause-refused : goal.returns-in_err-extend_from_slice-clause-refused
+returns-in_err-extend_from_slice-clause-refused c =
+    let l = c.loop-some in
     let old = c.args.out.now.items in
-    on_err _ (Writes-refused c.args.verdicts.now l.k c.in-Some.c (get_or c.args.verdicts.now l.k none) none (chars_rest l.c-iterator) (chars_rest c.next.new.self)
-    l.out.items c.push_scalar.new.text.items old _ c.in-Some.ensures.steps.0 refl
-    (rw c.mark_of-in-loop-c.ensures at c.in_err-push_scalar.ensures.refused) l.invariant.writes l.invariant.longer)
-
-pub returns-clause-text : goal.returns-clause-text
-returns-clause-text c =
-    Writes-end c.args.verdicts.now c.loop-c.k (chars_rest c.loop-c.c-iterator) c.loop-c.out.items _ c.in-None.ensures.steps.0.0 c.loop-c.invariant.writes
+    let later = written_after Kinds (chars (chars_rest l.scalars)) (marks_of (chunks_rest l.some-iterator)) in
+    let new = c.extend_from_slice.new.self.items in
+    let longer : length old ≤ length new = omega (arith, l.invariant.longer, ap length c.in_err-extend_from_slice.ensures.items) in
+    on_err c.from_residual-in_err-extend_from_slice.result
+    (HasPut-before old new (written_line Kinds (passage_marks (chars c.args.text.now) c.args.verdicts.now)) later
+    (ap (λ is. is ++ later) c.in_err-extend_from_slice.ensures.items ∙ l.invariant.joined) longer)

@@ -1,13 +1,17 @@
-use Rattle.lbk_feed.proofs.Appended.{on_err}
-use Rattle.lbk_notation.proofs.Fronts.{HasPut-label}
-use Rattle.lbk_rules.specs.declared.Verdict.{Verdict}
-use Rattle.lbk_rules.specs.declared.Kind.TheVariants.{No}
-use Rattle.lbk_rules.specs.declared.Rule.TheVariants.{Lb2}
+use Rattle.std.proofs.Common.{◌≤◌, ◌++◌, length, ap, ◌∙◌, arith}
+use Rattle.std.specs.Slice.Iter.{chunks_rest}
+use Rattle.lbk_feed.proofs.Appended.{HasPut-before, on_err}
+use Rattle.lbk_notation.specs.Shown.{written_labels}
 use Rattle.lbk_notation.proofs.passages.push_labels.Goals as goal
 
-pub returns-in_err-push_label-clause-refused : goal.returns-in_err-push_label-clause-refused
-returns-in_err-push_label-clause-refused c =
-    let l = c.loop-verdict in
-    let none : Verdict = record { kind = No; rule = Lb2 } in
-    on_err _ (HasPut-label c.args.out.now.items l.out.items c.push_label.new.out.items c.args.verdicts.now l.verdict-index none c.loop-verdict-test.true
-    l.invariant (rw c.label.ensures at c.in_err-push_label.ensures.refused))
+-- the list is as it was before these verdicts, whose labels belong behind it with those after them
+pub returns-in_err-extend_from_slice-clause-refused : goal.returns-in_err-extend_from_slice-clause-refused
+returns-in_err-extend_from_slice-clause-refused c =
+    let l = c.loop-some in
+    let old = c.args.out.now.items in
+    let later = written_labels (chunks_rest l.some-iterator) in
+    let new = c.extend_from_slice.new.self.items in
+    let longer : length old ≤ length new = omega (arith, l.invariant.longer, ap length c.in_err-extend_from_slice.ensures.items) in
+    on_err c.from_residual.result
+    (HasPut-before old new (written_labels c.args.verdicts.now) later
+    (ap (λ is. is ++ later) c.in_err-extend_from_slice.ensures.items ∙ l.invariant.labels) longer)
