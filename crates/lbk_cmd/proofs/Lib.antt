@@ -1,4 +1,5 @@
 pub mod Deciding
+pub mod FirstSteps
 pub mod PassageLines
 pub mod Breaking
 pub mod InMemory

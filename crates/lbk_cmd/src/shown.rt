@@ -7,11 +7,12 @@ ghost use Rattle.lbk_notation.specs.Shown.{passage_line};
 ghost use Rattle.lbk_passage.specs.Marks.{marks, ended};
 ghost use Rattle.lbk_passage.specs.Adding.{Adds};
 ghost use Rattle.lbk_rules.specs.Answers.{written};
+ghost use Rattle.lbk_values.specs.declared.profile.Profile.TheVariants.{First, Second};
 ghost use Rattle.lbk_cmd.specs.Show.{verdicts_of};
 ghost use Rattle.lbk_cmd.specs.Deciding.{IsPassageText, placed};
 
 use lbk_notation::push_passage_line;
-use lbk_rules::{CellSource, Kind, Profile, Rule, Stepper, Verdict};
+use lbk_rules::{CellSource, Kind, Profile, Rule, Stepper, Verdict, rows_of, step_at, verdict_of};
 use std::alloc::AllocError;
 
 /// Replaces the list by the verdicts of all positions of a passage: those of its text as a separate text, the last
@@ -28,8 +29,50 @@ pub fn decide<C: CellSource>(
         ≡ verdicts_of (ended end (marks profile (C.cell_of cells.now) (chars text.now)))) }
     ensures many { OnOk result (length verdicts.new.items ≡ length (chars text.now) + 1) }
 {
+    match profile {
+        Profile::First => decide_at_once(cells, text, end, verdicts),
+        Profile::Second => decide_late(cells, text, end, verdicts),
+    }
+}
+
+/// Does so in the first profile, where each step decides the position before its scalar. It stands apart, so that all it
+/// has stays in registers.
+#[inline(never)]
+fn decide_at_once<C: CellSource>(
+    cells: &C,
+    text: &str,
+    end: Verdict,
+    verdicts: &mut Vec<Verdict>,
+) -> Result<(), AllocError>
+    requires { IsPassageText text.now }
+    ensures { OnOk result (verdicts.new.items
+        ≡ verdicts_of (ended end (marks First (C.cell_of cells.now) (chars text.now)))) }
+{
     verdicts.clear();
-    let mut stepper = Stepper::start(cells, profile);
+    let steps = rows_of(Profile::First);
+    let mut row = 0;
+    for c in text.chars() {
+        let step = step_at(steps, row, cells.kind(c));
+        verdicts.push(verdict_of(step.shown))?;
+        row = step.next as usize;
+    }
+    verdicts.push(end)?;
+    Ok(())
+}
+
+/// Does so in the second profile, where a position may be held.
+fn decide_late<C: CellSource>(
+    cells: &C,
+    text: &str,
+    end: Verdict,
+    verdicts: &mut Vec<Verdict>,
+) -> Result<(), AllocError>
+    requires { IsPassageText text.now }
+    ensures { OnOk result (verdicts.new.items
+        ≡ verdicts_of (ended end (marks Second (C.cell_of cells.now) (chars text.now)))) }
+{
+    verdicts.clear();
+    let mut stepper = Stepper::start(cells, Profile::Second);
     for c in text.chars() {
         let out = stepper.step(c);
         place(verdicts, out.late);
