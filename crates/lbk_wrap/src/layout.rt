@@ -6,7 +6,7 @@ ghost use Rattle.lbk_wrap.specs.Layouts.{tab_of};
 /// The columns of a line, the distance of its tab stops, and what becomes of a segment that no line has room for.
 ///
 /// ```rust
-/// let narrow = Layout::new(40).tab(4).whole(true);
+/// let narrow = Layout::new(8).tab(4).whole(true);
 /// ```
 #[derive(Clone, Copy, Debug)]
 pub struct Layout {

@@ -10,6 +10,8 @@ mod layout;
 mod measures;
 mod open;
 mod taking;
+#[cfg(test)]
+mod tests;
 mod wrapping;
 
 pub use filling::push_filled;
